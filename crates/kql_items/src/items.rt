@@ -118,6 +118,14 @@ impl<T: Drop> Items<T> {
         self.items.append(&mut items)
     }
 
+    /// Moves all items to the end of a `Vec`.
+    pub fn drain_into(&mut self, out: &mut Vec<T>) -> Result<(), AllocError>
+        ensures moved { OnOk result ((self.new ≡ []) × (out.new.items ≡ out.old.items ++ self.old)) }
+        ensures kept { OnErr result ((self.new ≡ self.old) × (out.new.items ≡ out.old.items)) }
+    {
+        out.append(&mut self.items)
+    }
+
     /// Puts an item in the place of another, which is dropped.
     pub fn set(&mut self, at: usize, item: T)
         requires { at < length self.old }
@@ -181,7 +189,12 @@ mod tests {
         list.truncate(2);
         assert_eq!(rt; list.pop(), Some(8));
         assert_eq!(rt; list.get(0).copied(), Some(1));
-        let list = Items::from_vec(list.into_vec());
+        let mut list = Items::from_vec(list.into_vec());
+        let mut out = Vec::new(alloc);
+        list.drain_into(&mut out)?;
+        assert!(rt; list.is_empty());
+        assert_eq!(rt; out.as_slice(), [1u64].as_slice());
+        let list = Items::from_vec(out);
         let mut lists = Items::new(alloc);
         lists.push(list)?;
         lists.push_at(0, 6)?;
