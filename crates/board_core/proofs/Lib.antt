@@ -1,0 +1,4 @@
+pub mod Lawful
+pub mod ListLemmas
+pub mod Stored
+pub mod AnswerLemmas

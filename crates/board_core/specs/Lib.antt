@@ -1,0 +1,5 @@
+pub mod State
+pub mod Laws
+pub mod Replay
+pub mod Lists
+pub mod Storage
