@@ -26,7 +26,7 @@ pub record Keeps (pieces workers : ℕ) (s : State) : Type 0 where
   pub last : (worker : ℕ) → is_told s worker ≡ true → s.next ≡ pieces
 
 -- an entry of a list of n times the same, or what stands for one past its end
-get_or-replicate_all : {X : Type 0} (n i : ℕ) (x : X) → get_or (replicate n x) i x ≡ x
+pub get_or-replicate_all : {X : Type 0} (n i : ℕ) (x : X) → get_or (replicate n x) i x ≡ x
 get_or-replicate_all n i x =
     ⊎_elim (λ h. get_or-replicate n i x x h) (λ h. get_or_past (replicate n x) i x (omega (arith, length-replicate n x))) (cases_lt i n)
 
@@ -299,7 +299,7 @@ module _ (pieces workers : ℕ) (s : State) (k : Keeps pieces workers s) where
         whole = all_filled;
       }
 
-run-append : (events more : List Event) (s : State) → run (events ++ more) s ≡ run more (run events s)
+pub run-append : (events more : List Event) (s : State) → run (events ++ more) s ≡ run more (run events s)
 run-append [] more s = refl
 run-append (event ∷ events) more s = run-append events more (after s event)
 

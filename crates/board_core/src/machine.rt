@@ -88,6 +88,7 @@ impl Core {
     }
 
     /// One event. It takes no memory, and constant time.
+    #[tactic(auto, using(crate::proofs::Sizes::sizes))]
     pub fn step(&mut self, event: Event) -> Stepped
         ensures state { self.new ≡ after self.old event }
         ensures answer { result ≡ answer self.old event }
@@ -98,6 +99,10 @@ impl Core {
         // Exactly what comes out of turn is ignored, and changes nothing.
         ensures ignored { (result ≡ Stepped.Ignored) ↔ IsOutOfTurn self.old event }
         ensures unchanged { result ≡ Stepped.Ignored → self.new ≡ self.old }
+
+        // There are as many workers and pieces as before.
+        ensures workers { worker_count self.new ≡ worker_count self.old }
+        ensures pieces { piece_count self.new ≡ piece_count self.old }
     {
         match event {
             Event::Claim(worker) => self.claim(worker),
@@ -156,6 +161,8 @@ impl Core {
 /// Takes events one after another. It takes no memory.
 pub fn run_all(core: &mut Core, events: &[Event])
     ensures state { core.new ≡ run events.now core.old }
+    ensures workers { worker_count core.new ≡ worker_count core.old }
+    ensures pieces { piece_count core.new ≡ piece_count core.old }
     ensures reached { IsReached core.new }
     ensures lawful { IsLawful core.new }
 {
