@@ -1,4 +1,4 @@
-use Rattle.std.proofs.Common.{◌≡◌, ◌≢◌, ℕ, ◌+◌, ◌<◌, ◌≤◌, Bool, true, false, cond, eqb, Option, Some, None, List, [], ◌∷◌, ◌++◌, length, replicate, get_or, set, sum_by, count_by, refl, sym, ap, ◌∙◌, subst, inl, inr, ◌⊎◌, arith, ⊎_elim, suc, not, ◌&&◌, ltb, Contains, is_none, IsSome}
+use Rattle.std.proofs.Common.{◌≡◌, ◌≢◌, ℕ, ◌+◌, ◌<◌, ◌≤◌, true, false, cond, eqb, Option, Some, None, List, [], ◌∷◌, ◌++◌, length, replicate, get_or, count_by, refl, sym, ap, ◌∙◌, subst, inl, inr, ◌⊎◌, arith, ⊎_elim, suc, not, ◌&&◌, ltb, Contains, is_none, IsSome}
 use Rattle.std.proofs.lemmas.List.{length-set, length-replicate, get_or-replicate, get_or-set_same, get_or-set_other, get_or_past, length_push}
 use Rattle.std.proofs.lemmas.List.Sums.{sum_by-set, sum_by_push, sum_by-cons}
 use Rattle.std.proofs.lemmas.List.Folds.{sum_by-replicate}
@@ -7,7 +7,7 @@ use Rattle.board_core.specs.declared.events.Event.{Event}
 use Rattle.board_core.specs.declared.events.Event.TheVariants.{Claim, Fill}
 use Rattle.board_core.specs.declared.events.Stepped.{Stepped}
 use Rattle.board_core.specs.declared.events.Stepped.TheVariants.{Claimed, Filled, Done, Ignored}
-use Rattle.board_core.specs.State.{State, first, after, run, effect, answer, worker_count, piece_count, claims_of, open_claim_of, is_told, slot_of, may_claim, answer_to_fill, IsReached}
+use Rattle.board_core.specs.State.{State, first, after, run, effect, worker_count, piece_count, claims_of, open_claim_of, is_told, slot_of, may_claim, answer_to_fill, IsReached}
 use Rattle.board_core.specs.Laws.{times_claimed, claim_count, IsClaimedOnce, IsClaimed, IsOpen, IsOver, IsLawful}
 
 -- what every event keeps
@@ -67,8 +67,8 @@ module _ (pieces workers : ℕ) (s : State) (worker : ℕ) (k : Keeps pieces wor
   times_kept other piece h =
       ⊎_elim
       (λ e. subst (λ o. times_claimed claimed o piece ≡ times_claimed s o piece) (sym e)
-        (ap (count_by (λ p. eqb p piece)) its_claims ∙ times_push (claims_of s worker) s.next piece
-        ∙ (ap (λ b. times_claimed s worker piece + cond b 1 0) (ne_eqb s.next piece (λ q. h (sym q))) ∙ omega arith)))
+      (ap (count_by (λ p. eqb p piece)) its_claims ∙ times_push (claims_of s worker) s.next piece
+      ∙ (ap (λ b. times_claimed s worker piece + cond b 1 0) (ne_eqb s.next piece (λ q. h (sym q))) ∙ omega arith)))
       (λ ne. ap (count_by (λ p. eqb p piece)) (other_claims other ne))
       (cases_eq other worker)
 
@@ -79,8 +79,8 @@ module _ (pieces workers : ℕ) (s : State) (worker : ℕ) (k : Keeps pieces wor
         worker = worker;
         known = omega (arith, length-set s.claims worker (claims_of s worker ++ s.next ∷ []), k.claim_lists);
         once =
-          ap (count_by (λ p. eqb p s.next)) its_claims ∙ times_push (claims_of s worker) s.next s.next
-          ∙ (ap (λ b. times_claimed s worker s.next + cond b 1 0) (eq-eqb s.next s.next refl) ∙ omega (arith, k.later s.next worker (omega arith)));
+            ap (count_by (λ p. eqb p s.next)) its_claims ∙ times_push (claims_of s worker) s.next s.next
+            ∙ (ap (λ b. times_claimed s worker s.next + cond b 1 0) (eq-eqb s.next s.next refl) ∙ omega (arith, k.later s.next worker (omega arith)));
         alone = λ other ne. ap (count_by (λ p. eqb p s.next)) (other_claims other ne) ∙ k.later s.next other (omega arith);
       }
 
@@ -106,17 +106,20 @@ module _ (pieces workers : ℕ) (s : State) (worker : ℕ) (k : Keeps pieces wor
   now_opened other piece h =
       ⊎_elim
       (λ e. let same : Some s.next ≡ Some piece = sym (subst (λ o. open_claim_of claimed o ≡ Some s.next) (sym e) its_open) ∙ h in
-        let q : s.next ≡ piece = cc in (omega arith, omega arith))
+      let q : s.next ≡ piece = cc in (omega arith, omega arith))
       (λ ne. let old = k.opened other piece (sym (other_open other ne) ∙ h) in (old.0, omega (arith, old.1)))
       (cases_eq other worker)
 
   -- a piece that a worker has open is still open, since this one had none
   still_open : (piece : ℕ) → IsOpen s piece → IsOpen claimed piece
-  still_open piece o =
-      (o.0, omega (arith, length-set s.claims worker (claims_of s worker ++ s.next ∷ []), o.1), ⊎_elim
+  still_open piece o = (
+    o.0,
+    omega (arith, length-set s.claims worker (claims_of s worker ++ s.next ∷ []), o.1),
+    ⊎_elim
         (λ e. let q : Some piece ≡ None = sym (subst (λ v. open_claim_of s v ≡ Some piece) e o.2) ∙ closed in cc)
         (λ ne. other_open o.0 ne ∙ o.2)
-        (cases_eq o.0 worker))
+        (cases_eq o.0 worker),
+  )
 
   pub kept_claimed : Keeps pieces workers claimed
   kept_claimed =
@@ -126,22 +129,22 @@ module _ (pieces workers : ℕ) (s : State) (worker : ℕ) (k : Keeps pieces wor
         ended_list = k.ended_list;
         slot_list = k.slot_list;
         once = λ piece h.
-          ⊎_elim
-          (λ e. subst (IsClaimedOnce claimed) (sym e) new_once)
-          (λ ne. old_once piece ne (k.once piece (omega arith)))
-          (cases_eq piece s.next);
+            ⊎_elim
+            (λ e. subst (IsClaimedOnce claimed) (sym e) new_once)
+            (λ ne. old_once piece ne (k.once piece (omega arith)))
+            (cases_eq piece s.next);
         later = λ piece other h.
-          let ne : piece ≢ s.next = omega arith in times_kept other piece ne ∙ k.later piece other (omega arith);
+            let ne : piece ≢ s.next = omega arith in times_kept other piece ne ∙ k.later piece other (omega arith);
         counted =
-          omega (arith, k.counted, sum_by-set length s.claims worker (claims_of s worker ++ s.next ∷ []) [] (omega (arith, k.claim_lists)), length_push (claims_of s worker) s.next);
+            omega (arith, k.counted, sum_by-set length s.claims worker (claims_of s worker ++ s.next ∷ []) [] (omega (arith, k.claim_lists)), length_push (claims_of s worker) s.next);
         within = omega arith;
         own = λ piece held h. let old = k.own piece held h in (old.0, omega (arith, old.1));
         opened = now_opened;
         pending = λ piece h.
-          ⊎_elim
-          (λ e. inr (worker, known_now, its_open ∙ ap Some (sym e)))
-          (λ ne. ⊎_elim (λ f. inl f) (λ o. inr (still_open piece o)) (k.pending piece (omega arith)))
-          (cases_eq piece s.next);
+            ⊎_elim
+            (λ e. inr (worker, known_now, its_open ∙ ap Some (sym e)))
+            (λ ne. ⊎_elim (λ f. inl f) (λ o. inr (still_open piece o)) (k.pending piece (omega arith)))
+            (cases_eq piece s.next);
         last = λ other h. absurd (omega (arith, k.last other h));
       }
 
@@ -195,28 +198,32 @@ module _ (pieces workers : ℕ) (s : State) (worker piece : ℕ) (k : Keeps piec
         counted = k.counted;
         within = k.within;
         own = λ p held h.
-          ⊎_elim
-          (λ e. let same : Some piece ≡ Some held = sym (subst (λ q. slot_of filled q ≡ Some piece) (sym e) its_slot) ∙ h in
+            ⊎_elim
+            (λ e. let same : Some piece ≡ Some held = sym (subst (λ q. slot_of filled q ≡ Some piece) (sym e) its_slot) ∙ h in
             let q : piece ≡ held = cc in (omega arith, omega (arith, (k.opened worker piece its_own).1)))
-          (λ ne. k.own p held (sym (other_slot p ne) ∙ h))
-          (cases_eq p piece);
+            (λ ne. k.own p held (sym (other_slot p ne) ∙ h))
+            (cases_eq p piece);
         opened = λ other p h.
-          ⊎_elim
-          (λ e. let q : Some p ≡ None = sym h ∙ subst (λ v. open_claim_of filled v ≡ None) (sym e) now_closed in cc)
-          (λ ne. k.opened other p (sym (others_open other ne) ∙ h))
-          (cases_eq other worker);
+            ⊎_elim
+            (λ e. let q : Some p ≡ None = sym h ∙ subst (λ v. open_claim_of filled v ≡ None) (sym e) now_closed in cc)
+            (λ ne. k.opened other p (sym (others_open other ne) ∙ h))
+            (cases_eq other worker);
         pending = λ p h.
-          ⊎_elim
-          (λ e. inl (subst (λ q. slot_of filled q ≡ Some q) (sym e) its_slot))
-          (λ ne. ⊎_elim
+            ⊎_elim
+            (λ e. inl (subst (λ q. slot_of filled q ≡ Some q) (sym e) its_slot))
+            (λ ne. ⊎_elim
             (λ f. inl (other_slot p ne ∙ f))
-            (λ o. inr (o.0, o.1, ⊎_elim
-              (λ e. let q : Some p ≡ Some piece = sym (subst (λ v. open_claim_of s v ≡ Some p) e o.2) ∙ its_own in
-                let r : p ≡ piece = cc in absurd (ne r))
-              (λ other. others_open o.0 other ∙ o.2)
-              (cases_eq o.0 worker)))
+            (λ o. inr (
+              o.0,
+              o.1,
+              ⊎_elim
+                  (λ e. let q : Some p ≡ Some piece = sym (subst (λ v. open_claim_of s v ≡ Some p) e o.2) ∙ its_own in
+                  let r : p ≡ piece = cc in absurd (ne r))
+                  (λ other. others_open o.0 other ∙ o.2)
+                  (cases_eq o.0 worker),
+            ))
             (k.pending p h))
-          (cases_eq p piece);
+            (cases_eq p piece);
         last = k.last;
       }
 
@@ -248,11 +255,11 @@ pub kept_after : (pieces workers : ℕ) (s : State) (event : Event) → Keeps pi
 kept_after pieces workers s (Claim worker) k =
     let P : Stepped → Type 0 = λ a. Keeps pieces workers (effect s worker a) in
     cond_both (may_claim s worker) (cond (ltb s.next (piece_count s)) (Claimed s.next) Done) Ignored P
-      (λ may. let t = in_turn s worker may in
-        cond_both (ltb s.next (piece_count s)) (Claimed s.next) Done P
-          (λ left. kept_claimed pieces workers s worker k (omega (arith, t.known, k.claim_lists)) (omega (arith, ltb-true s.next (piece_count s) left, k.slot_list)) t.closed)
-          (λ none_left. kept_done pieces workers s worker k (omega (arith, ltb-false s.next (piece_count s) none_left, k.slot_list))))
-      (λ _. k)
+    (λ may. let t = in_turn s worker may in
+    cond_both (ltb s.next (piece_count s)) (Claimed s.next) Done P
+    (λ left. kept_claimed pieces workers s worker k (omega (arith, t.known, k.claim_lists)) (omega (arith, ltb-true s.next (piece_count s) left, k.slot_list)) t.closed)
+    (λ none_left. kept_done pieces workers s worker k (omega (arith, ltb-false s.next (piece_count s) none_left, k.slot_list))))
+    (λ _. k)
 kept_after pieces workers s (Fill worker) k = kept_fill pieces workers s worker (open_claim_of s worker) refl k
 
 pub kept_run : (pieces workers : ℕ) (events : List Event) (s : State) → Keeps pieces workers s → Keeps pieces workers (run events s)
@@ -315,12 +322,13 @@ reached_first pieces workers = ([], ap (λ n. first n (length (replicate {A = Li
 
 pub reached_after : (s : State) (event : Event) → IsReached s → IsReached (after s event)
 reached_after s event r =
-    let k = kept_after _ _ s event (kept_reached s r) in
-    (r.0 ++ event ∷ [],
+    let k = kept_after _ _ s event (kept_reached s r) in (
+      r.0 ++ event ∷ [],
       ap (λ n. run (r.0 ++ event ∷ []) (first n (worker_count (after s event)))) k.slot_list
-      ∙ ap (λ n. run (r.0 ++ event ∷ []) (first (piece_count s) n)) k.claim_lists
-      ∙ run-append r.0 (event ∷ []) _
-      ∙ ap (λ t. after t event) r.1)
+          ∙ ap (λ n. run (r.0 ++ event ∷ []) (first (piece_count s) n)) k.claim_lists
+          ∙ run-append r.0 (event ∷ []) _
+          ∙ ap (λ t. after t event) r.1,
+    )
 
 pub reached_run : (events : List Event) (s : State) → IsReached s → IsReached (run events s)
 reached_run [] s r = r

@@ -8,4 +8,4 @@ pub contents_push : (lists : List (Vec ℕ Global)) (at : ℕ) (old new : Vec �
 contents_push lists at old new x h is added =
     map-set (λ (v : Vec ℕ Global). v.items) lists at new
     ∙ ap (λ ys. set (contents lists) at ys)
-      (added ∙ ap (λ ys. ys ++ x ∷ []) (ap (λ (v : Vec ℕ Global). v.items) is ∙ sym (get_or-map (λ (v : Vec ℕ Global). v.items) lists at old [] h)))
+    (added ∙ ap (λ ys. ys ++ x ∷ []) (ap (λ (v : Vec ℕ Global). v.items) is ∙ sym (get_or-map (λ (v : Vec ℕ Global). v.items) lists at old [] h)))

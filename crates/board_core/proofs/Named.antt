@@ -1,11 +1,9 @@
-use Rattle.std.proofs.Common.{◌≡◌, ◌≢◌, ℕ, ◌+◌, ◌<◌, ◌≤◌, ◌↔◌, Bool, true, false, cond, eqb, List, [], ◌∷◌, ◌++◌, length, get_or, count_by, refl, sym, ap, ◌∙◌, subst, arith, ⊎_elim, suc, zero, Contains}
+use Rattle.std.proofs.Common.{◌≡◌, ◌≢◌, ℕ, ◌+◌, ◌<◌, Bool, true, cond, eqb, List, [], ◌∷◌, count_by, sym, ap, ◌∙◌, subst, arith, ⊎_elim, suc, zero, Contains}
 use Rattle.std.specs.List.{filter, range_with_len, All}
 use Rattle.std.specs.List.Sorted.{IsStrictlyIncreasing}
 use Rattle.std.proofs.lemmas.List.FromFn.{length-range_with_len, get_or-range_with_len}
-use Rattle.std.proofs.lemmas.List.Elements.{filter_passes, All-filter, All-contains}
-use Rattle.std.proofs.lemmas.List.Kept.{IsStrictlyIncreasing-filter}
 use Rattle.std.proofs.lemmas.List.Sums.{sum_by-cons}
-use Rattle.std.proofs.lemmas.Bool.{cases_eq, cases_Bool, eq-eqb, ne_eqb, eqb-true}
+use Rattle.std.proofs.lemmas.Bool.{cases_eq, cases_Bool, eq-eqb, ne_eqb}
 use Rattle.board_core.specs.declared.events.Claim.{Claim}
 use Rattle.board_core.specs.Replay.{named_worker}
 
@@ -36,10 +34,13 @@ pub named : (claims : List Claim) (piece : ℕ) → 0 < times_named claims piece
 named [] piece h = absurd (omega (arith, h))
 named (c ∷ claims) piece h =
     ⊎_elim
-    (λ e. (0, omega arith,
-      ap {B = Claim} (λ p. record { piece = p; worker = c.worker }) e ∙ ap {B = Claim} (λ w. record { piece = piece; worker = w }) (sym (named_worker_same c claims piece e))))
+    (λ e. (
+      0,
+      omega arith,
+      ap {B = Claim} (λ p. record { piece = p; worker = c.worker }) e ∙ ap {B = Claim} (λ w. record { piece = piece; worker = w }) (sym (named_worker_same c claims piece e)),
+    ))
     (λ ne. subst (λ w. Contains (c ∷ claims) (record { piece = piece; worker = w })) (sym (named_worker_other c claims piece ne))
-      (Contains-tail c _ claims (named claims piece (omega (arith, h, times_named_other c claims piece ne)))))
+    (Contains-tail c _ claims (named claims piece (omega (arith, h, times_named_other c claims piece ne)))))
     (cases_eq c.piece piece)
 
 -- what is among the claims is counted

@@ -1,19 +1,17 @@
-use Rattle.std.proofs.Common.{◌≡◌, ◌≢◌, ℕ, ◌+◌, ◌<◌, ◌≤◌, ◌↔◌, Bool, true, false, cond, eqb, Option, Some, None, List, [], ◌∷◌, ◌++◌, length, map, get_or, set, count_by, refl, sym, ap, ◌∙◌, subst, arith, ⊎_elim, suc, zero, add-one, Contains}
-use Rattle.std.specs.List.{filter, flat_map, range_with_len, find, All}
+use Rattle.std.proofs.Common.{◌≡◌, ◌≢◌, ℕ, ◌+◌, ◌<◌, ◌≤◌, Bool, true, false, cond, eqb, Option, Some, None, List, [], ◌∷◌, ◌++◌, map, refl, sym, ap, ◌∙◌, subst, arith, ⊎_elim, suc, zero, Contains}
+use Rattle.std.specs.List.{filter, flat_map, range_with_len}
 use Rattle.std.specs.List.Sorted.{IsStrictlyIncreasing}
 use Rattle.std.proofs.lemmas.List.{get_or-set_same, get_or-set_other, length-set, append-nil, map-append}
-use Rattle.std.proofs.lemmas.List.FromFn.{length-range_with_len, get_or-range_with_len, map-range_with_len_more}
 use Rattle.std.proofs.lemmas.List.Elements.{filter-append, filter_passes, All-filter, All-contains}
 use Rattle.std.proofs.lemmas.List.Kept.{IsStrictlyIncreasing-filter}
-use Rattle.std.proofs.lemmas.List.Sums.{sum_by-cons}
 use Rattle.std.proofs.lemmas.Grind.{flat_map-append}
 use Rattle.std.proofs.lemmas.Bool.{cases_eq, eq-eqb, ne_eqb, eqb-true}
 use Rattle.board_core.specs.declared.events.Claim.{Claim}
 use Rattle.board_core.specs.declared.events.Event.{Event}
 use Rattle.board_core.specs.declared.events.Event.TheVariants.{Claim as Asks, Fill}
 use Rattle.board_core.specs.declared.events.Stepped.{Stepped}
-use Rattle.board_core.specs.declared.events.Stepped.TheVariants.{Claimed, Filled, Done, Ignored}
-use Rattle.board_core.specs.State.{State, first, after, run, effect, worker_count, piece_count, claims_of, open_claim_of, is_told, slot_of, may_claim, answer_to_claim, answer_to_fill}
+use Rattle.board_core.specs.declared.events.Stepped.TheVariants.{Claimed, Filled, Done}
+use Rattle.board_core.specs.State.{State, first, after, run, effect, claims_of, open_claim_of, is_told, slot_of, answer_to_fill}
 use Rattle.board_core.specs.Replay.{NamesEachOnce, IsFinishedWith, named_worker, turn_of, events_of}
 use Rattle.board_core.proofs.Lawful.{Keeps, kept_first, kept_after, run-append, get_or-replicate_all}
 use Rattle.board_core.proofs.Stored.{answer_claimed, answer_done}
@@ -79,14 +77,14 @@ module _ (owner : ℕ → ℕ) (pieces workers k : ℕ) (s : State) (stage : Sta
   claims_it : after s (Asks (owner k)) ≡ claimed
   claims_it =
       ap (λ (a : Stepped). effect s (owner k) a)
-        (answer_claimed s (owner k)
-          (may_from s (owner k) (omega (arith, stage.keeps.claim_lists)) (stage.closed (owner k)) (stage.going (owner k) (omega arith)))
-          (omega (arith, stage.next_is, stage.keeps.slot_list)))
+      (answer_claimed s (owner k)
+      (may_from s (owner k) (omega (arith, stage.keeps.claim_lists)) (stage.closed (owner k)) (stage.going (owner k) (omega arith)))
+      (omega (arith, stage.next_is, stage.keeps.slot_list)))
 
   fills_it : after claimed (Fill (owner k)) ≡ done
   fills_it =
       ap (λ (held : Option ℕ). effect claimed (owner k) (answer_to_fill held))
-        (get_or-set_same s.open_claims (owner k) (Some s.next) None (omega (arith, stage.keeps.open_list)))
+      (get_or-set_same s.open_claims (owner k) (Some s.next) None (omega (arith, stage.keeps.open_list)))
 
   takes_turn : run (Asks (owner k) ∷ Fill (owner k) ∷ []) s ≡ done
   takes_turn = ap (λ t. after t (Fill (owner k))) claims_it ∙ fills_it
@@ -98,21 +96,21 @@ module _ (owner : ℕ → ℕ) (pieces workers k : ℕ) (s : State) (stage : Sta
   claims_done worker =
       ⊎_elim
       (λ e. subst (λ w. claims_of done w ≡ owned owner (suc k) w) (sym e)
-        (get_or-set_same s.claims (owner k) _ [] (omega (arith, stage.keeps.claim_lists))
-        ∙ (ap {B = List ℕ} (λ xs. xs ++ s.next ∷ []) (stage.claims_are (owner k))
-        ∙ (ap {B = List ℕ} (λ n. owned owner k (owner k) ++ n ∷ []) stage.next_is
-        ∙ sym (owned_mine owner k (owner k) refl)))))
+      (get_or-set_same s.claims (owner k) _ [] (omega (arith, stage.keeps.claim_lists))
+      ∙ (ap {B = List ℕ} (λ xs. xs ++ s.next ∷ []) (stage.claims_are (owner k))
+      ∙ (ap {B = List ℕ} (λ n. owned owner k (owner k) ++ n ∷ []) stage.next_is
+      ∙ sym (owned_mine owner k (owner k) refl)))))
       (λ ne. get_or-set_other s.claims (owner k) worker _ [] ne
-        ∙ (stage.claims_are worker ∙ sym (owned_other owner k worker (λ e. ne (sym e)))))
+      ∙ (stage.claims_are worker ∙ sym (owned_other owner k worker (λ e. ne (sym e)))))
       (cases_eq worker (owner k))
 
   closed_done : (worker : ℕ) → open_claim_of done worker ≡ None
   closed_done worker =
       ⊎_elim
       (λ e. subst (λ w. open_claim_of done w ≡ None) (sym e)
-        (get_or-set_same claimed.open_claims (owner k) None None (omega (arith, stage.keeps.open_list, length-set s.open_claims (owner k) (Some s.next)))))
+      (get_or-set_same claimed.open_claims (owner k) None None (omega (arith, stage.keeps.open_list, length-set s.open_claims (owner k) (Some s.next)))))
       (λ ne. get_or-set_other claimed.open_claims (owner k) worker None None ne
-        ∙ (get_or-set_other s.open_claims (owner k) worker (Some s.next) None ne ∙ stage.closed worker))
+      ∙ (get_or-set_other s.open_claims (owner k) worker (Some s.next) None ne ∙ stage.closed worker))
       (cases_eq worker (owner k))
 
   filled_done : (piece : ℕ) → piece < suc k → slot_of done piece ≡ Some piece
@@ -143,9 +141,9 @@ module _ (owner : ℕ → ℕ) (pieces workers j : ℕ) (s : State) (stage : Sta
   tells_it : after s (Asks j) ≡ told_one
   tells_it =
       ap (λ (a : Stepped). effect s j a)
-        (answer_done s j
-          (may_from s j (omega (arith, stage.keeps.claim_lists)) (stage.closed j) (stage.going j (omega arith)))
-          (omega (arith, stage.next_is, stage.keeps.slot_list)))
+      (answer_done s j
+      (may_from s j (omega (arith, stage.keeps.claim_lists)) (stage.closed j) (stage.going j (omega arith)))
+      (omega (arith, stage.next_is, stage.keeps.slot_list)))
 
   told_now : (worker : ℕ) → worker < suc j → is_told told_one worker ≡ true
   told_now worker h =
@@ -174,10 +172,10 @@ turns_taken claims pieces workers known (suc k) h =
     let before = turns_taken claims pieces workers known k (omega arith) in
     let s = run (flat_map (turn_of claims) (range_with_len 0 k)) (first pieces workers) in
     subst (Stage (named_worker claims) pieces workers (suc k) 0)
-      (sym (ap (λ (ns : List ℕ). run (flat_map (turn_of claims) ns) (first pieces workers)) (range_next k)
-        ∙ (ap (λ (es : List Event). run es (first pieces workers)) (flat_map-append (turn_of claims) (range_with_len 0 k) (k ∷ []))
-        ∙ run-append (flat_map (turn_of claims) (range_with_len 0 k)) (turn_of claims k) (first pieces workers))))
-      (turn_taken (named_worker claims) pieces workers k s before (omega arith) (known k (omega arith)))
+    (sym (ap (λ (ns : List ℕ). run (flat_map (turn_of claims) ns) (first pieces workers)) (range_next k)
+    ∙ (ap (λ (es : List Event). run es (first pieces workers)) (flat_map-append (turn_of claims) (range_with_len 0 k) (k ∷ []))
+    ∙ run-append (flat_map (turn_of claims) (range_with_len 0 k)) (turn_of claims k) (first pieces workers))))
+    (turn_taken (named_worker claims) pieces workers k s before (omega arith) (known k (omega arith)))
 
 -- all workers below j, in turn
 all_told : (owner : ℕ → ℕ) (pieces workers : ℕ) (s : State) → Stage owner pieces workers pieces 0 s → (j : ℕ) → j ≤ workers → Stage owner pieces workers pieces j (run (map Asks (range_with_len 0 j)) s)
@@ -185,18 +183,19 @@ all_told owner pieces workers s stage zero h = stage
 all_told owner pieces workers s stage (suc j) h =
     let before = all_told owner pieces workers s stage j (omega arith) in
     subst (Stage owner pieces workers pieces (suc j))
-      (sym (ap (λ (ns : List ℕ). run (map Asks ns) s) (range_next j)
-        ∙ (ap (λ (es : List Event). run es s) (map-append Asks (range_with_len 0 j) (j ∷ []))
-        ∙ run-append (map Asks (range_with_len 0 j)) (Asks j ∷ []) s)))
-      (one_told owner pieces workers j (run (map Asks (range_with_len 0 j)) s) before (omega arith))
+    (sym (ap (λ (ns : List ℕ). run (map Asks ns) s) (range_next j)
+    ∙ (ap (λ (es : List Event). run es s) (map-append Asks (range_with_len 0 j) (j ∷ []))
+    ∙ run-append (map Asks (range_with_len 0 j)) (Asks j ∷ []) s)))
+    (one_told owner pieces workers j (run (map Asks (range_with_len 0 j)) s) before (omega arith))
 
 -- of the pieces below n, those that belong to a worker
 owned_contains : (owner : ℕ → ℕ) (n worker piece : ℕ) → Contains (owned owner n worker) piece → (piece < n) × (owner piece ≡ worker)
 unfolding owned
 owned_contains owner n worker piece h =
-    let p : ℕ → Bool = λ x. eqb (owner x) worker in
-    (All-contains (λ x. x < n) (filter p (range_with_len 0 n)) piece (All-filter p (λ x. x < n) (range_with_len 0 n) (range_below n)) h,
-      eqb-true (owner piece) worker (All-contains (λ x. p x ≡ true) (filter p (range_with_len 0 n)) piece (filter_passes p (range_with_len 0 n)) h))
+    let p : ℕ → Bool = λ x. eqb (owner x) worker in (
+      All-contains (λ x. x < n) (filter p (range_with_len 0 n)) piece (All-filter p (λ x. x < n) (range_with_len 0 n) (range_below n)) h,
+      eqb-true (owner piece) worker (All-contains (λ x. p x ≡ true) (filter p (range_with_len 0 n)) piece (filter_passes p (range_with_len 0 n)) h),
+    )
 
 contains_owned : (owner : ℕ → ℕ) (n worker piece : ℕ) → piece < n → owner piece ≡ worker → Contains (owned owner n worker) piece
 unfolding owned
@@ -217,8 +216,8 @@ module _ (claims : List Claim) (pieces workers : ℕ) (each : NamesEachOnce clai
   last_stage : Stage (named_worker claims) pieces workers pieces workers (run (events_of claims pieces workers) (first pieces workers))
   last_stage =
       subst (Stage (named_worker claims) pieces workers pieces workers)
-        (sym (run-append (flat_map (turn_of claims) (range_with_len 0 pieces)) (map Asks (range_with_len 0 workers)) (first pieces workers)))
-        (all_told (named_worker claims) pieces workers _ (turns_taken claims pieces workers owner_known pieces (omega arith)) workers (omega arith))
+      (sym (run-append (flat_map (turn_of claims) (range_with_len 0 pieces)) (map Asks (range_with_len 0 workers)) (first pieces workers)))
+      (all_told (named_worker claims) pieces workers _ (turns_taken claims pieces workers owner_known pieces (omega arith)) workers (omega arith))
 
   pub replayed : IsFinishedWith claims pieces workers (run (events_of claims pieces workers) (first pieces workers))
   replayed =
@@ -226,14 +225,15 @@ module _ (claims : List Claim) (pieces workers : ℕ) (each : NamesEachOnce clai
         pieces_kept = last_stage.keeps.slot_list;
         workers_kept = last_stage.keeps.claim_lists;
         all_claimed = last_stage.next_is;
-        same = λ piece worker.
-          (λ h.
-            let o = owned_contains (named_worker claims) pieces worker piece (subst (λ xs. Contains xs piece) (last_stage.claims_are worker) h) in
-            subst (λ w. Contains claims (record { piece = piece; worker = w })) o.1 (is_named piece o.0),
+        same = λ piece worker. (
           λ h.
-            let small = (All-contains (λ (c : Claim). (c.piece < pieces) × (c.worker < workers)) claims _ each.known h).0 in
-            subst (λ xs. Contains xs piece) (sym (last_stage.claims_are worker))
-              (contains_owned (named_worker claims) pieces worker piece small (named_alone claims (record { piece = piece; worker = worker }) h (each.once piece small))));
+              let o = owned_contains (named_worker claims) pieces worker piece (subst (λ xs. Contains xs piece) (last_stage.claims_are worker) h) in
+              subst (λ w. Contains claims (record { piece = piece; worker = w })) o.1 (is_named piece o.0),
+          λ h.
+              let small = (All-contains (λ (c : Claim). (c.piece < pieces) × (c.worker < workers)) claims _ each.known h).0 in
+              subst (λ xs. Contains xs piece) (sym (last_stage.claims_are worker))
+              (contains_owned (named_worker claims) pieces worker piece small (named_alone claims (record { piece = piece; worker = worker }) h (each.once piece small))),
+        );
         rising = λ worker. subst IsStrictlyIncreasing (sym (last_stage.claims_are worker)) (owned_rises (named_worker claims) pieces worker);
         filled = last_stage.filled;
         told = last_stage.told;

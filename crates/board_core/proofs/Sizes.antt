@@ -1,4 +1,4 @@
-use Rattle.std.proofs.Common.{◌≡◌, ℕ, ◌++◌, ◌∷◌, List, [], refl, ap, ◌∙◌, Some, None, Option}
+use Rattle.std.proofs.Common.{◌≡◌, ℕ, ◌++◌, ◌∷◌, List, [], refl, ap, ◌∙◌, Some}
 use Rattle.std.proofs.lemmas.List.{length-set}
 use Rattle.board_core.specs.declared.events.Event.{Event}
 use Rattle.board_core.specs.declared.events.Stepped.{Stepped}

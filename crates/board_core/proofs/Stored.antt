@@ -1,4 +1,4 @@
-use Rattle.std.proofs.Common.{◌≡◌, ℕ, ◌+◌, ◌^◌, ◌<◌, ◌≤◌, Bool, true, false, cond, Option, Some, None, List, [], length, get_or, set, refl, sym, ap, ◌∙◌, subst, arith, Vec, vec_len, vec_capacity}
+use Rattle.std.proofs.Common.{◌≡◌, ℕ, ◌^◌, ◌<◌, ◌≤◌, true, Option, Some, None, [], length, get_or, sym, ap, ◌∙◌, subst, arith, Vec, vec_len, vec_capacity}
 use Rattle.std.specs.declared.alloc.Global.{Global}
 use Rattle.std.specs.List.{HoldsAt}
 use Rattle.std.proofs.lemmas.List.{get_or-map, length-map, length-replicate}
@@ -9,7 +9,7 @@ use Rattle.board_core.specs.declared.events.Stepped.{Stepped}
 use Rattle.board_core.specs.declared.events.Stepped.TheVariants.{Claimed, Filled, Done, Ignored}
 use Rattle.board_core.specs.declared.machine.Core.TheInside.{Inside}
 use Rattle.board_core.specs.Lists.{contents, HaveRoom}
-use Rattle.board_core.specs.State.{State, first, effect, worker_count, piece_count, claims_of, open_claim_of, may_claim, answer_to_claim, answer_to_fill, IsReached}
+use Rattle.board_core.specs.State.{State, first, effect, piece_count, open_claim_of, may_claim, answer_to_claim, answer_to_fill, IsReached}
 use Rattle.board_core.specs.Storage.{state_of, IsStored}
 use Rattle.board_core.proofs.Lawful.{kept_reached, reached_first, reached_after, in_turn}
 

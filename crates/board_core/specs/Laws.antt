@@ -1,4 +1,4 @@
-use Rattle.std.specs.Prelude.{◌≡◌, ◌≢◌, ℕ, ◌<◌, ◌≤◌, true, false, ◌==◌, Some, None, IsSome, List, length, sum_by, count_by, Contains, ◌⊎◌}
+use Rattle.std.specs.Prelude.{◌≡◌, ◌≢◌, ℕ, ◌<◌, ◌≤◌, true, false, ◌==◌, Some, None, IsSome, length, sum_by, count_by, Contains, ◌⊎◌}
 use Rattle.board_core.specs.declared.events.Event.{Event}
 use Rattle.board_core.specs.declared.events.Event.TheVariants.{Claim, Fill}
 use Rattle.board_core.specs.State.{State, worker_count, piece_count, claims_of, open_claim_of, is_told, slot_of}
@@ -37,19 +37,15 @@ pub record IsLawful (s : State) : Type 0 where
   -- each number below `next` stands in exactly one claim list, once, and no other number in any
   pub once : (piece : ℕ) → piece < s.next → IsClaimedOnce s piece
   pub later : (piece worker : ℕ) → s.next ≤ piece → times_claimed s worker piece ≡ 0
-
   -- `next` is the number of claims, and at most the number of pieces
   pub counted : s.next ≡ claim_count s
   pub within : s.next ≤ piece_count s
-
   -- a slot is empty or holds its own piece, and that piece was claimed
   pub own : (piece held : ℕ) → slot_of s piece ≡ Some held → held ≡ piece
   pub filled : (piece : ℕ) → IsSome (slot_of s piece) → IsClaimed s piece
-
   -- a piece that is claimed and not filled is open, and what is open was claimed
   pub pending : (piece : ℕ) → piece < s.next → IsSome (slot_of s piece) ⊎ IsOpen s piece
   pub opened : (piece : ℕ) → IsOpen s piece → IsClaimed s piece
-
   -- who was told the end was told so when all pieces were claimed, and in the end all slots are filled
   pub last : (worker : ℕ) → is_told s worker ≡ true → s.next ≡ piece_count s
   pub whole : IsOver s → (piece : ℕ) → piece < piece_count s → slot_of s piece ≡ Some piece

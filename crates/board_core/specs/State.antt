@@ -1,15 +1,15 @@
-use Rattle.std.specs.Prelude.{◌≡◌, ℕ, ◌+◌, ◌<◌, Bool, true, false, not, ◌&&◌, if◌then◌else◌, nat_lt, Option, Some, None, is_none, List, [], ◌∷◌, ◌++◌, length, replicate, slice_index_or, slice_set}
+use Rattle.std.specs.Prelude.{◌≡◌, ℕ, ◌+◌, Bool, true, false, not, ◌&&◌, if◌then◌else◌, nat_lt, Option, Some, None, is_none, List, [], ◌∷◌, ◌++◌, length, replicate, slice_index_or, slice_set}
 use Rattle.board_core.specs.declared.events.Event.{Event}
 use Rattle.board_core.specs.declared.events.Event.TheVariants.{Claim, Fill}
 use Rattle.board_core.specs.declared.events.Stepped.{Stepped}
 use Rattle.board_core.specs.declared.events.Stepped.TheVariants.{Claimed, Filled, Done, Ignored}
 
 pub record State : Type 0 where
-  pub next : ℕ                       -- the piece that is claimed next
-  pub claims : List (List ℕ)         -- of each worker the pieces that it claimed, in that order
+  pub next : ℕ  -- the piece that is claimed next
+  pub claims : List (List ℕ)  -- of each worker the pieces that it claimed, in that order
   pub open_claims : List (Option ℕ)  -- of each worker the piece that it has claimed and not filled yet
-  pub ended : List Bool              -- of each worker whether it was told the end
-  pub slots : List (Option ℕ)        -- of each piece what its slot holds
+  pub ended : List Bool  -- of each worker whether it was told the end
+  pub slots : List (Option ℕ)  -- of each piece what its slot holds
 
 abbrev pub worker_count : State → ℕ
 worker_count s = length s.claims

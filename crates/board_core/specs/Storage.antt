@@ -1,4 +1,4 @@
-use Rattle.std.specs.Prelude.{◌≡◌, ℕ, ◌^◌, ◌<◌, length}
+use Rattle.std.specs.Prelude.{◌≡◌, ◌^◌, ◌<◌, length}
 use Rattle.board_core.specs.declared.machine.Core.TheInside.{Inside}
 use Rattle.board_core.specs.State.{State, IsReached}
 use Rattle.board_core.specs.Lists.{contents, HaveRoom}

@@ -9,14 +9,12 @@ ghost use Rattle.board_core.specs.Replay.{NamesEachOnce, IsFinishedWith, events_
 pub fn every_order_is_lawful()
     ensures { (pieces workers : ℕ) (events : List Event)
         → IsLawful (run events (first pieces workers)) }
-{
-}
+{}
 
 /// Claims that name each piece once are the claims of some order of events, which fills every slot and tells
 /// every worker the end.
 pub fn claims_are_replayed()
     ensures { (claims : List Claim) (pieces workers : ℕ) → NamesEachOnce claims pieces workers
         → IsFinishedWith claims pieces workers
-            (run (events_of claims pieces workers) (first pieces workers)) }
-{
-}
+        (run (events_of claims pieces workers) (first pieces workers)) }
+{}

@@ -22,7 +22,7 @@ pub fn add_to_list(lists: &mut Vec<Vec<u32>>, at: usize, number: u32)
     requires room { HoldsAt (λ v. vec_len v < vec_capacity v) lists.old.items at }
     ensures added { contents lists.new.items
         ≡ slice_set (contents lists.old.items) at
-            (slice_index_or (contents lists.old.items) at [] ++ number ∷ []) }
+        (slice_index_or (contents lists.old.items) at [] ++ number ∷ []) }
     ensures roomy { (room : ℕ) → HaveRoom room lists.old.items → HaveRoom room lists.new.items }
 {
     let _ = lists[at].push(number);

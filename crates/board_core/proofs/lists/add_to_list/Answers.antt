@@ -1,5 +1,4 @@
-use Rattle.std.proofs.Common.{rules, ◌≡◌, ℕ, ◌<◌, [], ◌∷◌, ◌++◌, slice_index_or, slice_set, vec_len, vec_capacity, length}
-use Rattle.board_core.specs.Lists.{contents, HaveRoom}
+use Rattle.std.proofs.Common.{rules}
 use Rattle.board_core.proofs.ListLemmas.{contents_push}
 use Rattle.board_core.proofs.lists.add_to_list.Goals as goal
 

@@ -1,4 +1,4 @@
-use Rattle.std.proofs.Common.{◌≡◌, List, ℕ, [], replicate}
+use Rattle.std.proofs.Common.{◌≡◌, [], replicate}
 use Rattle.board_core.specs.Lists.{contents, HaveRoom}
 use Rattle.board_core.proofs.lists.empty_lists.Given as goal
 

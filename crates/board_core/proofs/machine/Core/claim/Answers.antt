@@ -1,5 +1,5 @@
-use Rattle.std.proofs.Common.{◌≡◌, ap, sym, ◌∙◌, rules, true, subst}
-use Rattle.board_core.specs.State.{State, may_claim, IsReached}
+use Rattle.std.proofs.Common.{◌≡◌, ap, sym, ◌∙◌, rules, true}
+use Rattle.board_core.specs.State.{may_claim}
 use Rattle.board_core.specs.Storage.{state_of}
 use Rattle.board_core.proofs.Stored.{reached_claimed, reached_done, room_for_one, stored_from}
 use Rattle.board_core.proofs.machine.Core.claim.Goals as goal

@@ -10,5 +10,5 @@ use Rattle.board_core.proofs.machine.Core.step.Goals as goal
 pub returns-in-Claim-clause-done : goal.returns-in-Claim-clause-done
 returns-in-Claim-clause-done c =
     subst (λ (e : Event). (c.claim.result ≡ Done) ↔ IsClaimAtTheEnd c.args.self.now e) (sym c.in-Claim.is)
-      (subst (λ (a : Stepped). (a ≡ Done) ↔ IsClaimAtTheEnd c.args.self.now (Claim c.in-Claim.worker)) (sym c.claim.ensures.answer)
-        (done_at_the_end c.args.self.now c.in-Claim.worker c.claim.ensures.within))
+    (subst (λ (a : Stepped). (a ≡ Done) ↔ IsClaimAtTheEnd c.args.self.now (Claim c.in-Claim.worker)) (sym c.claim.ensures.answer)
+    (done_at_the_end c.args.self.now c.in-Claim.worker c.claim.ensures.within))
