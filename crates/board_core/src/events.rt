@@ -22,7 +22,7 @@ pub enum Stepped {
     Ignored,
 }
 
-/// Which worker has claimed a piece.
+/// Which worker has claimed a piece. Pieces and workers are numbered from 0.
 #[derive(Clone, Copy, Debug, PartialEq, Eq)]
 pub struct Claim {
     pub piece: u32,

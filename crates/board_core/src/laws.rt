@@ -7,14 +7,14 @@ ghost use Rattle.board_core.specs.Replay.{NamesEachOnce, IsFinishedWith, events_
 
 /// The laws of the board hold after every list of events, whatever the numbers of pieces and workers.
 pub fn every_order_is_lawful()
-    ensures { (pieces workers : ℕ) (events : List Event)
+    ensures lawful { (pieces workers : ℕ) (events : List Event)
         → IsLawful (run events (first pieces workers)) }
 {}
 
 /// Claims that name each piece once are the claims of some order of events, which fills every slot and tells
 /// every worker the end.
 pub fn claims_are_replayed()
-    ensures { (claims : List Claim) (pieces workers : ℕ) → NamesEachOnce claims pieces workers
+    ensures replayed { (claims : List Claim) (pieces workers : ℕ) → NamesEachOnce claims pieces workers
         → IsFinishedWith claims pieces workers
         (run (events_of claims pieces workers) (first pieces workers)) }
 {}

@@ -112,7 +112,7 @@ impl Core {
 
     /// Whether this is one of the workers, has nothing open and was not told the end.
     fn may_claim(&self, worker: u32) -> bool
-        ensures { result ≡ may_claim self.now worker }
+        ensures test { result ≡ may_claim self.now worker }
     {
         let at = worker as usize;
         if at >= self.claims.len() {
@@ -121,6 +121,7 @@ impl Core {
         self.open_claims[at].is_none() && !self.ended[at]
     }
 
+    /// The worker asks for a piece.
     fn claim(&mut self, worker: u32) -> Stepped
         ensures state { self.new ≡ after self.old (Event.Claim worker) }
         ensures answer { result ≡ answer self.old (Event.Claim worker) }
@@ -141,6 +142,7 @@ impl Core {
         Stepped::Claimed(piece)
     }
 
+    /// The worker fills the slot of the piece that it has open.
     fn fill(&mut self, worker: u32) -> Stepped
         ensures state { self.new ≡ after self.old (Event.Fill worker) }
         ensures answer { result ≡ answer self.old (Event.Fill worker) }
