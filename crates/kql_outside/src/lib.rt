@@ -1,0 +1,12 @@
+//! Where the engine meets the world: files that are read, streams that are written, and the gate of its workers.
+//!
+//! The engine is generic over `Shelf`, `Sink` and `Gate`. What a call of theirs means is said in their clauses,
+//! over the files and bytes that an implementation tells, and over a count of faults: a call that fails has
+//! raised the count of its own object.
+#![tactic(auto)]
+
+mod outside;
+mod transfers;
+
+pub use outside::{Failed, Gate, Shelf, Sink};
+pub use transfers::{ReadError, write_all};
