@@ -9,4 +9,4 @@ mod outside;
 mod transfers;
 
 pub use outside::{Failed, Gate, Shelf, Sink};
-pub use transfers::{ReadError, write_all};
+pub use transfers::{ReadError, read_up_to, write_all};
