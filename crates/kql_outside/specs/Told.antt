@@ -1,12 +1,12 @@
 -- Files, bytes and room that are told or not.
-use Rattle.std.specs.Prelude.{◌≡◌, ℕ, ◌-◌, ◌<◌, ◌≤◌, List, [], ◌∷◌, ◌++◌, length, take, drop, Option, Some, None, if◌then◌else◌}
+use Rattle.std.specs.Prelude.{◌≡◌, ℕ, ◌-◌, ◌<◌, ◌≤◌, List, ◌++◌, length, take, drop, find, Option}
 use Rattle.std.specs.Option.{option_map}
 use Rattle.std.specs.Str.{bytes_eq}
 
 -- the bytes of the first file of a path
 abbrev pub file_of : List (List ℕ × List ℕ) → List ℕ → Option (List ℕ)
-file_of [] path = None
-file_of (file ∷ files) path = if bytes_eq file.0 path then Some file.1 else file_of files path
+file_of files path =
+    option_map (λ (file : List ℕ × List ℕ). file.1) (find (λ (file : List ℕ × List ℕ). bytes_eq file.0 path) files)
 
 -- with more bytes at the end, where the bytes are told
 abbrev pub appended : Option (List ℕ) → List ℕ → Option (List ℕ)

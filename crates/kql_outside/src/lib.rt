@@ -5,8 +5,10 @@
 //! raised the count of its own object.
 #![tactic(auto)]
 
+mod clean;
 mod outside;
 mod transfers;
 
+pub use clean::CleanShelf;
 pub use outside::{Failed, Gate, Shelf, Sink};
 pub use transfers::{ReadError, read_up_to, write_all};
