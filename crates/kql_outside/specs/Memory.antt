@@ -1,6 +1,7 @@
 -- Shelves and sinks in memory.
-use Rattle.std.specs.Prelude.{◌≡◌, ℕ, ◌+◌, ◌-◌, ◌<◌, ◌≤◌, List, [], ◌++◌, length, take, drop, min, Option, Some, None, slice_index_or, string_bytes, String, Vec}
+use Rattle.std.specs.Prelude.{◌≡◌, ℕ, ◌+◌, ◌-◌, ◌<◌, ◌≤◌, List, [], ◌++◌, length, drop, Contains, Option, Some, None, slice_index_or, string_bytes, String, Vec}
 use Rattle.std.specs.Global.{Global}
+use Rattle.kql_outside.specs.Causes.{raised}
 use Rattle.kql_outside.specs.declared.clean.Reading.{Reading}
 
 -- a file: its path and its bytes
@@ -25,3 +26,38 @@ left_of files (Some reading) = drop reading.at (bytes_at files reading.file)
 abbrev pub IsWithin : List (List ℕ × List ℕ) → Option Reading → Type 0
 IsWithin files None = Unit {0}
 IsWithin files (Some reading) = (reading.file < length files) × (reading.at ≤ length (bytes_at files reading.file))
+
+-- a sink: the bytes that it holds, at most how many it takes at once and in all, and its count of faults
+pub record SinkState : Type 0 where
+  pub bytes : List ℕ
+  pub chunk : ℕ
+  pub room : ℕ
+  pub count : ℕ
+
+-- how many bytes there is room for
+abbrev pub room_left : SinkState → ℕ
+room_left sink = sink.room - length sink.bytes
+
+-- the numbers of the calls that fail, from 0, and how many calls there were
+pub record CallState : Type 0 where
+  pub failing : List ℕ
+  pub made : ℕ
+
+-- the next call is one of those that fail
+abbrev pub NextFails : CallState → Type 0
+NextFails calls = Contains calls.failing calls.made
+
+-- one more call was made
+abbrev pub after_call : CallState → CallState
+after_call calls = record calls { made = raised calls.made }
+
+-- a shelf of which some calls fail
+pub record MemShelfState : Type 0 where
+  pub shelf : ShelfState
+  pub calls : CallState
+  pub count : ℕ
+
+-- a sink of which some calls fail
+pub record MemSinkState : Type 0 where
+  pub sink : SinkState
+  pub calls : CallState

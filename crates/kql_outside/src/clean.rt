@@ -1,12 +1,13 @@
-ghost use Rattle.std.specs.Prelude.{◌≡◌, ◌<◌, ◌≤◌, ◌↔◌, ◌++◌, [], length, take, drop, map, min, position, IsTrue, IsSome, IsOk, IsErr, IfOk, IfSome, OnErr, string_bytes};
+ghost use Rattle.std.specs.Prelude.{◌≡◌, ◌<◌, ◌≤◌, ◌-◌, ◌↔◌, ◌++◌, [], length, take, drop, map, min, position, IsTrue, IsSome, IsOk, IsErr, IfOk, IfSome, OnErr, string_bytes};
 ghost use Rattle.std.specs.Bool.{OnTrue, OnFalse};
 ghost use Rattle.kql_outside.specs.Causes.{HasCause, raised};
 ghost use Rattle.kql_outside.specs.Told.{file_of, appended, prepended, reduced};
 ghost use Rattle.std.specs.Option.{option_map};
 ghost use Rattle.std.specs.Str.{bytes_eq};
-ghost use Rattle.kql_outside.specs.Memory.{shown, bytes_at};
+ghost use Rattle.kql_outside.specs.Memory.{shown, bytes_at, room_left};
 
-use crate::outside::{Failed, Shelf};
+use crate::outside::{Failed, Shelf, Sink};
+use std::alloc::{AllocError, Global};
 use std::marker::Model;
 
 /// Files in memory. No call of it fails.
@@ -112,6 +113,88 @@ impl Shelf for CleanShelf {
             file: reading.file,
             at: reading.at + count,
         });
+        Ok(count)
+    }
+}
+
+/// A sink in memory: it takes at most `chunk` bytes at a time, and fails where no room is left.
+#[derive(Debug, Drop)]
+pub struct CleanSink {
+    bytes: Vec<u8>,
+    chunk: usize,
+    room: usize,
+    faults: u64,
+}
+
+impl Model for CleanSink {
+    ghost use Rattle.std.specs.Prelude.{◌<◌, ◌≤◌, vec_len, vec_capacity};
+    ghost use Rattle.kql_outside.specs.Memory.{SinkState};
+
+    ghost Value = { SinkState };
+
+    ghost view = { λ s. record { bytes = s.bytes.items; chunk = s.chunk; room = s.room; count = s.faults } };
+
+    ghost invariant = { λ s. (0 < s.chunk) × (vec_len s.bytes ≤ s.room) × (s.room ≤ vec_capacity s.bytes) };
+}
+
+impl CleanSink {
+    /// An empty sink. Its memory, for `room` bytes, is taken here, and none by a write.
+    pub fn new(alloc: Global, chunk: usize, room: usize) -> Result<CleanSink, AllocError>
+        requires { 0 < chunk }
+        ensures { IfOk result (λ s. s ≡ record { bytes = []; chunk = chunk; room = room; count = 0 }) }
+    {
+        Ok(CleanSink {
+            bytes: Vec::with_capacity(alloc, room)?,
+            chunk,
+            room,
+            faults: 0,
+        })
+    }
+
+    /// The bytes that were written.
+    pub fn bytes(&self) -> &[u8]
+        ensures { result.now ≡ self.now.bytes }
+    {
+        &self.bytes
+    }
+
+    // Counts a fault.
+    pub(crate) fn fail(&mut self) -> Failed
+        ensures count { self.new ≡ record self.old { count = raised self.old.count } }
+        ensures later { self.old.count ≤ self.new.count }
+    {
+        self.faults = self.faults.saturating_add(1);
+        Failed
+    }
+}
+
+impl Sink for CleanSink {
+    ghost use Rattle.std.specs.Prelude.{Some};
+
+    ghost written = { λ s. Some s.bytes };
+
+    ghost room = { λ s. Some (room_left s) };
+
+    ghost faults = { λ s. s.count };
+
+    fn write(&mut self, bytes: &[u8]) -> Result<usize, Failed>
+        requires { 0 < length bytes.now }
+        ensures full { IsErr result ↔ (room_left self.old ≡ 0) }
+        ensures count { IfOk result (λ count.
+            count ≡ min (length bytes.now) (min self.old.chunk (room_left self.old))) }
+        ensures ok { IfOk result (λ count.
+            self.new ≡ record self.old { bytes = self.old.bytes ++ take count bytes.now }) }
+        ensures err { OnErr result (self.new ≡ record self.old { count = raised self.old.count }) }
+
+        ensures some { IfOk result (λ count. 0 < count) }
+        ensures cause { HasCause self.old.count self.new.count result }
+    {
+        let left = self.room - self.bytes.len();
+        if left == 0 {
+            return Err(self.fail());
+        }
+        let count = bytes.len().min(self.chunk).min(left);
+        self.bytes.extend_from_slice(&bytes[..count]).unwrap();
         Ok(count)
     }
 }

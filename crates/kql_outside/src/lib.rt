@@ -6,9 +6,11 @@
 #![tactic(auto)]
 
 mod clean;
+mod failing;
 mod outside;
 mod transfers;
 
-pub use clean::CleanShelf;
+pub use clean::{CleanShelf, CleanSink};
+pub use failing::{MemShelf, MemSink};
 pub use outside::{Failed, Gate, Shelf, Sink};
 pub use transfers::{ReadError, read_up_to, write_all};
