@@ -6,6 +6,7 @@ ghost use Rattle.std.specs.Option.{option_map};
 ghost use Rattle.std.specs.Str.{bytes_eq};
 ghost use Rattle.kql_outside.specs.Memory.{shown, bytes_at, room_left};
 
+use crate::counts::Faults;
 use crate::outside::{Failed, Shelf, Sink};
 use std::alloc::{AllocError, Global};
 use std::marker::Model;
@@ -123,7 +124,7 @@ pub struct CleanSink {
     bytes: Vec<u8>,
     chunk: usize,
     room: usize,
-    faults: u64,
+    faults: Faults,
 }
 
 impl Model for CleanSink {
@@ -147,7 +148,7 @@ impl CleanSink {
             bytes: Vec::with_capacity(alloc, room)?,
             chunk,
             room,
-            faults: 0,
+            faults: Faults::none(),
         })
     }
 
@@ -158,13 +159,12 @@ impl CleanSink {
         &self.bytes
     }
 
-    // Counts a fault.
+    // Fails a write.
     pub(crate) fn fail(&mut self) -> Failed
         ensures count { self.new ≡ record self.old { count = raised self.old.count } }
         ensures later { self.old.count ≤ self.new.count }
     {
-        self.faults = self.faults.saturating_add(1);
-        Failed
+        self.faults.fail()
     }
 }
 
@@ -191,7 +191,7 @@ impl Sink for CleanSink {
     {
         let left = self.room - self.bytes.len();
         if left == 0 {
-            return Err(self.fail());
+            return Err(self.faults.fail());
         }
         let count = bytes.len().min(self.chunk).min(left);
         self.bytes.extend_from_slice(&bytes[..count]).unwrap();

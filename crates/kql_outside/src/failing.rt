@@ -6,6 +6,7 @@ ghost use Rattle.kql_outside.specs.Told.{file_of};
 ghost use Rattle.kql_outside.specs.Memory.{shown, room_left, NextFails, after_call};
 
 use crate::clean::{CleanShelf, CleanSink};
+use crate::counts::Faults;
 use crate::outside::{Failed, Shelf, Sink};
 use std::alloc::{AllocError, Global};
 use std::marker::Model;
@@ -49,7 +50,7 @@ impl Calls {
 pub struct MemShelf {
     shelf: CleanShelf,
     calls: Calls,
-    faults: u64,
+    faults: Faults,
 }
 
 impl Model for MemShelf {
@@ -71,17 +72,8 @@ impl MemShelf {
         MemShelf {
             shelf: CleanShelf::new(files),
             calls: Calls::new(failing),
-            faults: 0,
+            faults: Faults::none(),
         }
-    }
-
-    // Counts a fault.
-    fn fail(&mut self) -> Failed
-        ensures count { self.new ≡ record self.old { count = raised self.old.count } }
-        ensures later { self.old.count ≤ self.new.count }
-    {
-        self.faults = self.faults.saturating_add(1);
-        Failed
     }
 }
 
@@ -109,7 +101,7 @@ impl Shelf for MemShelf {
         ensures cause { HasCause self.old.count self.new.count result }
     {
         if self.calls.next_fails() {
-            return Err(self.fail());
+            return Err(self.faults.fail());
         }
         self.shelf.start(path)
     }
@@ -130,7 +122,7 @@ impl Shelf for MemShelf {
         ensures cause { HasCause self.old.count self.new.count result }
     {
         if self.calls.next_fails() {
-            return Err(self.fail());
+            return Err(self.faults.fail());
         }
         self.shelf.read(buf)
     }

@@ -6,11 +6,16 @@
 #![tactic(auto)]
 
 mod clean;
+mod counts;
 mod failing;
+mod gates;
+mod host;
 mod outside;
 mod transfers;
 
 pub use clean::{CleanShelf, CleanSink};
 pub use failing::{MemShelf, MemSink};
+pub use gates::OpenGate;
+pub use host::{DirShelf, StreamSink};
 pub use outside::{Failed, Gate, Shelf, Sink};
 pub use transfers::{ReadError, read_up_to, write_all};
