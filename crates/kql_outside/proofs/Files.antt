@@ -1,7 +1,7 @@
 -- The first file of a path, by its number.
-use Rattle.std.proofs.Common.{◌≡◌, ℕ, ◌+◌, ◌-◌, ◌<◌, ◌≤◌, Bool, true, false, cond, ltb, List, [], ◌∷◌, ◌++◌, length, take, drop, get_or, map, refl, ap, sym, ◌∙◌, arith, drop-drop, take_all, inl, inr, ⊎_elim}
+use Rattle.std.proofs.Common.{◌≡◌, ℕ, ◌+◌, ◌-◌, ◌<◌, Bool, true, false, cond, ltb, List, [], ◌∷◌, ◌++◌, length, take, drop, get_or, map, refl, ap, sym, ◌∙◌, arith, drop-drop, take_all, ⊎_elim}
 use Rattle.std.proofs.lemmas.List.{length-map, length-drop, get_or-map, take-append-drop}
-use Rattle.std.specs.Prelude.{Option, Some, None, find, position}
+use Rattle.std.specs.Prelude.{Some, None, position}
 use Rattle.std.specs.List.{prefix_len, position_or_len, slice_get}
 use Rattle.std.specs.Option.{option_map}
 use Rattle.std.specs.Str.{bytes_eq}
@@ -21,14 +21,14 @@ file_of-place told path k n e f =
     let found = find_at (λ (file : List ℕ × List ℕ). bytes_eq file.0 path) told in
     ⊎_elim
     (λ at.
-      let here : ltb k n ≡ true = grind (arith, nat_tests, at.1) in
-      ap (option_map (λ (file : List ℕ × List ℕ). file.1)) (found ∙ (ap (slice_get told) (sym f) ∙ at.2))
-      ∙ (ap (λ (file : List ℕ × List ℕ). Some file.1) (sym (get_or_from_slice_get told k at.0 ([], []) at.2))
-      ∙ sym (ap (λ b. option_map (bytes_at told) (cond b (Some k) None)) here)))
+    let here : ltb k n ≡ true = grind (arith, nat_tests, at.1) in
+    ap (option_map (λ (file : List ℕ × List ℕ). file.1)) (found ∙ (ap (slice_get told) (sym f) ∙ at.2))
+    ∙ (ap (λ (file : List ℕ × List ℕ). Some file.1) (sym (get_or_from_slice_get told k at.0 ([], []) at.2))
+    ∙ sym (ap (λ b. option_map (bytes_at told) (cond b (Some k) None)) here)))
     (λ past.
-      let gone : ltb k n ≡ false = grind (arith, nat_tests, past.0) in
-      ap (option_map (λ (file : List ℕ × List ℕ). file.1)) (found ∙ (ap (slice_get told) (sym f) ∙ past.1))
-      ∙ sym (ap (λ b. option_map (bytes_at told) (cond b (Some k) None)) gone))
+    let gone : ltb k n ≡ false = grind (arith, nat_tests, past.0) in
+    ap (option_map (λ (file : List ℕ × List ℕ). file.1)) (found ∙ (ap (slice_get told) (sym f) ∙ past.1))
+    ∙ sym (ap (λ b. option_map (bytes_at told) (cond b (Some k) None)) gone))
     (slice_get_cases told k).1
 
 pub file_of-position : {X : Type 0} (f : X → List ℕ × List ℕ) (xs : List X) (path : List ℕ) → file_of (map f xs) path ≡ option_map (bytes_at (map f xs)) (position (λ x. bytes_eq (f x).0 path) xs)

@@ -1,5 +1,5 @@
 -- Shelves and sinks in memory.
-use Rattle.std.specs.Prelude.{◌≡◌, ℕ, ◌+◌, ◌-◌, ◌<◌, ◌≤◌, List, [], ◌++◌, length, drop, Contains, Option, Some, None, slice_index_or, string_bytes, String, Vec}
+use Rattle.std.specs.Prelude.{ℕ, ◌-◌, ◌<◌, ◌≤◌, List, [], length, drop, Contains, Option, Some, None, slice_index_or, string_bytes, String, Vec}
 use Rattle.std.specs.Global.{Global}
 use Rattle.kql_outside.specs.Causes.{raised}
 use Rattle.kql_outside.specs.declared.clean.Reading.{Reading}

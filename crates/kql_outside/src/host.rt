@@ -1,8 +1,9 @@
 //! The files and the streams of the system. What they hold is not told.
-ghost use Rattle.std.specs.Prelude.{◌≡◌, ◌<◌, ◌≤◌, length, take, IfOk, OnErr};
+ghost use Rattle.std.specs.Prelude.{◌≡◌, ◌<◌, ◌≤◌, length, take, None, IsSome, IfOk, OnErr};
+ghost use Rattle.std.specs.Bool.{OnTrue, OnFalse};
 ghost use Rattle.std.specs.Io.KnownBytes.{Appends, Keeps};
 ghost use Rattle.kql_outside.specs.Causes.{HasCause};
-ghost use Rattle.kql_outside.specs.Stream.{stream_of};
+ghost use Rattle.kql_outside.specs.Stream.{stream_of, opened, Reads};
 
 use crate::counts::Faults;
 use crate::outside::{Failed, Shelf, Sink};
@@ -24,7 +25,8 @@ pub struct DirShelf<R: Files> {
 impl<R: Files> DirShelf<R> {
     /// A shelf of which no file is started.
     pub fn new(rt: R) -> DirShelf<R>
-        ensures { ⟦<DirShelf<R> as Shelf>⟧.faults result ≡ 0 }
+        ensures started { opened result ≡ None }
+        ensures count { ⟦<DirShelf<R> as Shelf>⟧.faults result ≡ 0 }
     {
         DirShelf {
             rt,
@@ -43,7 +45,12 @@ impl<R: Files> Shelf for DirShelf<R> {
 
     ghost faults = { λ s. s.faults };
 
-    fn start(&mut self, path: &str) -> Result<bool, Failed> {
+    fn start(&mut self, path: &str) -> Result<bool, Failed>
+        ensures started { IfOk result (λ there. OnTrue there (IsSome (opened self.new))) }
+        ensures missing { IfOk result (λ there. OnFalse there (opened self.new ≡ opened self.old)) }
+        ensures kept { OnErr result (opened self.new ≡ opened self.old) }
+        ensures cause { HasCause (⟦<DirShelf<R> as Shelf>⟧.faults self.old) (⟦<DirShelf<R> as Shelf>⟧.faults self.new) result }
+    {
         match fs::open(&self.rt, path) {
             Ok(file) => {
                 self.file = Some(file);
@@ -56,7 +63,12 @@ impl<R: Files> Shelf for DirShelf<R> {
         }
     }
 
-    fn read(&mut self, buf: &mut [u8]) -> Result<usize, Failed> {
+    fn read(&mut self, buf: &mut [u8]) -> Result<usize, Failed>
+        requires { 0 < length buf.old }
+        ensures passed { Reads R.File.remaining (opened self.old) (opened self.new) result buf.new }
+        ensures within { IfOk result (λ count. count ≤ length buf.new) }
+        ensures cause { HasCause (⟦<DirShelf<R> as Shelf>⟧.faults self.old) (⟦<DirShelf<R> as Shelf>⟧.faults self.new) result }
+    {
         let Some(file) = &mut self.file else {
             return Ok(0);
         };
@@ -80,7 +92,10 @@ impl<W: Write> StreamSink<W> {
         ensures stream { stream_of result ≡ inner }
         ensures count { ⟦<StreamSink<W> as Sink>⟧.faults result ≡ 0 }
     {
-        StreamSink { inner, faults: Faults::none() }
+        StreamSink {
+            inner,
+            faults: Faults::none(),
+        }
     }
 }
 
@@ -100,7 +115,7 @@ impl<W: Write> Sink for StreamSink<W> {
 
         ensures some { IfOk result (λ count. 0 < count) }
         ensures within { IfOk result (λ count. count ≤ length bytes.now) }
-        ensures cause { HasCause self.old.faults self.new.faults result }
+        ensures cause { HasCause (⟦<StreamSink<W> as Sink>⟧.faults self.old) (⟦<StreamSink<W> as Sink>⟧.faults self.new) result }
     {
         match self.inner.write(bytes) {
             Ok(count) if count > 0 => Ok(count),

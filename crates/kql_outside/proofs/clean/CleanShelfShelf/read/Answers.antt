@@ -1,6 +1,6 @@
-use Rattle.std.proofs.Common.{◌≡◌, ◌<◌, ℕ, List, length, take, drop, map, string_bytes, String, Vec, Global, arith, ap, subst, ◌∙◌, sym}
+use Rattle.std.proofs.Common.{arith, ap, subst, ◌∙◌, sym}
 use Rattle.std.proofs.lemmas.List.{length-map}
-use Rattle.kql_outside.specs.Memory.{ShelfState, shown, IsWithin, bytes_at, left_of}
+use Rattle.kql_outside.specs.Memory.{ShelfState, shown, IsWithin, left_of}
 use Rattle.kql_outside.proofs.Files.{bytes_at-map, left_after}
 use Rattle.kql_outside.proofs.clean.CleanShelfShelf.read.Goals as goal
 
