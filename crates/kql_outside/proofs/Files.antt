@@ -35,7 +35,7 @@ pub file_of-position : {X : Type 0} (f : X → List ℕ × List ℕ) (xs : List 
 file_of-position f xs path =
     file_of-place (map f xs) path _ _ (sym (length-map xs f)) (sym (prefix_len-map _ f xs))
 
--- the bytes of a file that is shown by `f`
+-- the bytes of a file that is seen through `f`
 pub bytes_at-map : {X : Type 0} (f : X → List ℕ × List ℕ) (xs : List X) (k : ℕ) (x : X) → k < length xs → x ≡ get_or xs k x → bytes_at (map f xs) k ≡ (f x).1
 bytes_at-map f xs k x within e =
     ap (λ (file : List ℕ × List ℕ). file.1) (get_or-map f xs k x ([], []) within ∙ ap f (sym e))

@@ -1,4 +1,4 @@
 pub mod Causes
 pub mod Memory
-pub mod Stream
+pub mod System
 pub mod Told

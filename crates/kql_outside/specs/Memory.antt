@@ -1,12 +1,12 @@
 -- Shelves and sinks in memory.
 use Rattle.std.specs.Prelude.{ℕ, ◌-◌, ◌<◌, ◌≤◌, List, [], length, drop, Contains, Option, Some, None, slice_index_or, string_bytes, String, Vec}
 use Rattle.std.specs.Global.{Global}
-use Rattle.kql_outside.specs.Causes.{raised}
+use Rattle.kql_outside.specs.Causes.{next_count}
 use Rattle.kql_outside.specs.declared.clean.Reading.{Reading}
 
 -- a file: its path and its bytes
-abbrev pub shown : String Global × Vec ℕ Global → List ℕ × List ℕ
-shown file = (string_bytes file.0, file.1.items)
+abbrev pub path_and_bytes : String Global × Vec ℕ Global → List ℕ × List ℕ
+path_and_bytes file = (string_bytes file.0, file.1.items)
 
 -- a shelf: its files by path, and what is left of the started one
 pub record ShelfState : Type 0 where
@@ -49,7 +49,7 @@ NextFails calls = Contains calls.failing calls.made
 
 -- one more call was made
 abbrev pub after_call : CallState → CallState
-after_call calls = record calls { made = raised calls.made }
+after_call calls = record calls { made = next_count calls.made }
 
 -- a shelf of which some calls fail
 pub record MemShelfState : Type 0 where

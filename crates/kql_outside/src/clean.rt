@@ -1,10 +1,10 @@
 ghost use Rattle.std.specs.Prelude.{◌≡◌, ◌<◌, ◌≤◌, ◌-◌, ◌↔◌, ◌++◌, [], length, take, drop, map, min, position, IsTrue, IsSome, IsOk, IsErr, IfOk, IfSome, OnErr, string_bytes};
 ghost use Rattle.std.specs.Bool.{OnTrue, OnFalse};
-ghost use Rattle.kql_outside.specs.Causes.{HasCause, raised};
+ghost use Rattle.kql_outside.specs.Causes.{HasCause, next_count};
 ghost use Rattle.kql_outside.specs.Told.{file_of, appended, prepended, reduced};
 ghost use Rattle.std.specs.Option.{option_map};
 ghost use Rattle.std.specs.Str.{bytes_eq};
-ghost use Rattle.kql_outside.specs.Memory.{shown, bytes_at, room_left};
+ghost use Rattle.kql_outside.specs.Memory.{path_and_bytes, bytes_at, room_left};
 
 use crate::counts::Faults;
 use crate::outside::{Failed, Shelf, Sink};
@@ -27,19 +27,22 @@ struct Reading {
 
 impl Model for CleanShelf {
     ghost use Rattle.std.specs.Prelude.{map};
-    ghost use Rattle.kql_outside.specs.Memory.{ShelfState, shown, left_of, IsWithin};
+    ghost use Rattle.kql_outside.specs.Memory.{ShelfState, path_and_bytes, left_of, IsWithin};
 
     ghost Value = { ShelfState };
 
-    ghost view = { λ s. record { files = map shown s.files.items; rest = left_of (map shown s.files.items) s.reading } };
+    ghost view = { λ s. record {
+      files = map path_and_bytes s.files.items;
+      rest = left_of (map path_and_bytes s.files.items) s.reading;
+    } };
 
-    ghost invariant = { λ s. IsWithin (map shown s.files.items) s.reading };
+    ghost invariant = { λ s. IsWithin (map path_and_bytes s.files.items) s.reading };
 }
 
 impl CleanShelf {
     /// A shelf of these files, of which none is started. The first file of a path counts.
     pub fn new(files: Vec<(String, Vec<u8>)>) -> CleanShelf
-        ensures files { result.files ≡ map shown files.items }
+        ensures files { result.files ≡ map path_and_bytes files.items }
         ensures rest { result.rest ≡ [] }
     {
         CleanShelf {
@@ -87,7 +90,8 @@ impl Shelf for CleanShelf {
         ensures files { self.new.files ≡ self.old.files }
         ensures succeeds { IsOk result }
         ensures found { IfOk result (λ there. IsTrue there ↔ IsSome (file_of self.old.files path.now)) }
-        ensures started { IfOk result (λ there. OnTrue there (Some self.new.rest ≡ file_of self.old.files path.now)) }
+        ensures started { IfOk result (λ there.
+            OnTrue there (Some self.new.rest ≡ file_of self.old.files path.now)) }
         ensures missing { IfOk result (λ there. OnFalse there (self.new.rest ≡ self.old.rest)) }
     {
         match self.number_of(path) {
@@ -133,7 +137,12 @@ impl Model for CleanSink {
 
     ghost Value = { SinkState };
 
-    ghost view = { λ s. record { bytes = s.bytes.items; chunk = s.chunk; room = s.room; count = s.faults } };
+    ghost view = { λ s. record {
+      bytes = s.bytes.items;
+      chunk = s.chunk;
+      room = s.room;
+      count = s.faults;
+    } };
 
     ghost invariant = { λ s. (0 < s.chunk) × (vec_len s.bytes ≤ s.room) × (s.room ≤ vec_capacity s.bytes) };
 }
@@ -142,7 +151,8 @@ impl CleanSink {
     /// An empty sink. Its memory, for `room` bytes, is taken here, and none by a write.
     pub fn new(alloc: Global, chunk: usize, room: usize) -> Result<CleanSink, AllocError>
         requires { 0 < chunk }
-        ensures { IfOk result (λ s. s ≡ record { bytes = []; chunk = chunk; room = room; count = 0 }) }
+        ensures { IfOk result (λ s.
+            s ≡ record { bytes = []; chunk = chunk; room = room; count = 0 }) }
     {
         Ok(CleanSink {
             bytes: Vec::with_capacity(alloc, room)?,
@@ -161,7 +171,7 @@ impl CleanSink {
 
     // Fails a write.
     pub(crate) fn fail(&mut self) -> Failed
-        ensures count { self.new ≡ record self.old { count = raised self.old.count } }
+        ensures count { self.new ≡ record self.old { count = next_count self.old.count } }
         ensures later { self.old.count ≤ self.new.count }
     {
         self.faults.fail()
@@ -184,7 +194,8 @@ impl Sink for CleanSink {
             count ≡ min (length bytes.now) (min self.old.chunk (room_left self.old))) }
         ensures ok { IfOk result (λ count.
             self.new ≡ record self.old { bytes = self.old.bytes ++ take count bytes.now }) }
-        ensures err { OnErr result (self.new ≡ record self.old { count = raised self.old.count }) }
+        ensures err { OnErr result
+            (self.new ≡ record self.old { count = next_count self.old.count }) }
 
         ensures some { IfOk result (λ count. 0 < count) }
         ensures cause { HasCause self.old.count self.new.count result }

@@ -1,5 +1,5 @@
 ghost use Rattle.std.specs.Prelude.{◌≡◌, ◌≤◌};
-ghost use Rattle.kql_outside.specs.Causes.{raised};
+ghost use Rattle.kql_outside.specs.Causes.{next_count};
 
 use crate::outside::Failed;
 use std::marker::Model;
@@ -27,7 +27,7 @@ impl Faults {
 
     // Counts a fault, which its call then answers.
     pub(crate) fn fail(&mut self) -> Failed
-        ensures count { self.new ≡ raised self.old }
+        ensures count { self.new ≡ next_count self.old }
         ensures later { self.old ≤ self.new }
     {
         self.count = self.count.saturating_add(1);

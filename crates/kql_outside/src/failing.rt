@@ -1,9 +1,9 @@
 //! Shelves and sinks in memory, of which the calls of given numbers fail.
 ghost use Rattle.std.specs.Prelude.{◌≡◌, ◌<◌, ◌≤◌, ◌↔◌, ◌⊎◌, ◌++◌, [], length, take, map, min, Contains, IsTrue, IsSome, IsErr, IfOk, OnErr, is_err, if◌then◌else◌};
 ghost use Rattle.std.specs.Bool.{OnTrue, OnFalse};
-ghost use Rattle.kql_outside.specs.Causes.{HasCause, raised};
+ghost use Rattle.kql_outside.specs.Causes.{HasCause, next_count};
 ghost use Rattle.kql_outside.specs.Told.{file_of};
-ghost use Rattle.kql_outside.specs.Memory.{shown, room_left, NextFails, after_call};
+ghost use Rattle.kql_outside.specs.Memory.{path_and_bytes, room_left, NextFails, after_call};
 
 use crate::clean::{CleanShelf, CleanSink};
 use crate::counts::Faults;
@@ -44,8 +44,8 @@ impl Calls {
     }
 }
 
-/// Files in memory, as a `CleanShelf` has them. The calls of the given numbers fail: `start` and `read` are counted
-/// together, from 0.
+/// Files in memory, as a `CleanShelf` has them. The calls of the given numbers fail: `start` and `read` are
+/// counted together, from 0.
 #[derive(Debug, Drop)]
 pub struct MemShelf {
     shelf: CleanShelf,
@@ -64,7 +64,7 @@ impl Model for MemShelf {
 impl MemShelf {
     /// A shelf of these files, of which none is started. The first file of a path counts.
     pub fn new(files: Vec<(String, Vec<u8>)>, failing: Vec<u64>) -> MemShelf
-        ensures files { result.shelf.files ≡ map shown files.items }
+        ensures files { result.shelf.files ≡ map path_and_bytes files.items }
         ensures rest { result.shelf.rest ≡ [] }
         ensures calls { result.calls ≡ record { failing = failing.items; made = 0 } }
         ensures count { result.count ≡ 0 }
@@ -89,13 +89,16 @@ impl Shelf for MemShelf {
     fn start(&mut self, path: &str) -> Result<bool, Failed>
         ensures fails { IsErr result ↔ NextFails self.old.calls }
         ensures calls { self.new.calls ≡ after_call self.old.calls }
-        ensures count { self.new.count ≡ (if is_err result then raised self.old.count else self.old.count) }
+        ensures count { self.new.count
+            ≡ (if is_err result then next_count self.old.count else self.old.count) }
         ensures files { self.new.shelf.files ≡ self.old.shelf.files }
 
-        ensures found { IfOk result (λ there. IsTrue there ↔ IsSome (file_of self.old.shelf.files path.now)) }
+        ensures found { IfOk result (λ there.
+            IsTrue there ↔ IsSome (file_of self.old.shelf.files path.now)) }
         ensures started { IfOk result (λ there.
             OnTrue there (Some self.new.shelf.rest ≡ file_of self.old.shelf.files path.now)) }
-        ensures missing { IfOk result (λ there. OnFalse there (self.new.shelf.rest ≡ self.old.shelf.rest)) }
+        ensures missing { IfOk result (λ there.
+            OnFalse there (self.new.shelf.rest ≡ self.old.shelf.rest)) }
 
         ensures kept { OnErr result (self.new.shelf ≡ self.old.shelf) }
         ensures cause { HasCause self.old.count self.new.count result }
@@ -110,11 +113,13 @@ impl Shelf for MemShelf {
         requires { 0 < length buf.old }
         ensures fails { IsErr result ↔ NextFails self.old.calls }
         ensures calls { self.new.calls ≡ after_call self.old.calls }
-        ensures count { self.new.count ≡ (if is_err result then raised self.old.count else self.old.count) }
+        ensures count { self.new.count
+            ≡ (if is_err result then next_count self.old.count else self.old.count) }
         ensures files { self.new.shelf.files ≡ self.old.shelf.files }
 
         ensures within { IfOk result (λ count. count ≤ length buf.new) }
-        ensures gives { IfOk result (λ count. count ≡ min (length self.old.shelf.rest) (length buf.old)) }
+        ensures gives { IfOk result (λ count.
+            count ≡ min (length self.old.shelf.rest) (length buf.old)) }
         ensures bytes { IfOk result (λ count.
             self.old.shelf.rest ≡ take count buf.new ++ self.new.shelf.rest) }
 
@@ -152,8 +157,10 @@ impl MemSink {
         failing: Vec<u64>,
     ) -> Result<MemSink, AllocError>
         requires { 0 < chunk }
-        ensures sink { IfOk result (λ s. s.sink ≡ record { bytes = []; chunk = chunk; room = room; count = 0 }) }
-        ensures calls { IfOk result (λ s. s.calls ≡ record { failing = failing.items; made = 0 }) }
+        ensures sink { IfOk result (λ s.
+            s.sink ≡ record { bytes = []; chunk = chunk; room = room; count = 0 }) }
+        ensures calls { IfOk result (λ s.
+            s.calls ≡ record { failing = failing.items; made = 0 }) }
     {
         Ok(MemSink {
             sink: CleanSink::new(alloc, chunk, room)?,
@@ -178,13 +185,14 @@ impl Sink for MemSink {
 
     fn write(&mut self, bytes: &[u8]) -> Result<usize, Failed>
         requires { 0 < length bytes.now }
-        ensures fails { IsErr result ↔ NextFails self.old.calls ⊎ room_left self.old.sink ≡ 0 }
+        ensures fails { IsErr result ↔ (NextFails self.old.calls ⊎ (room_left self.old.sink ≡ 0)) }
         ensures calls { self.new.calls ≡ after_call self.old.calls }
         ensures takes { IfOk result (λ count.
             count ≡ min (length bytes.now) (min self.old.sink.chunk (room_left self.old.sink))) }
         ensures ok { IfOk result (λ count.
             self.new.sink ≡ record self.old.sink { bytes = self.old.sink.bytes ++ take count bytes.now }) }
-        ensures err { OnErr result (self.new.sink ≡ record self.old.sink { count = raised self.old.sink.count }) }
+        ensures err { OnErr result
+            (self.new.sink ≡ record self.old.sink { count = next_count self.old.sink.count }) }
 
         ensures some { IfOk result (λ count. 0 < count) }
         ensures cause { HasCause self.old.sink.count self.new.sink.count result }

@@ -3,7 +3,7 @@ ghost use Rattle.std.specs.Prelude.{◌≡◌, ◌<◌, ◌≤◌, length, take,
 ghost use Rattle.std.specs.Bool.{OnTrue, OnFalse};
 ghost use Rattle.std.specs.Io.KnownBytes.{Appends, Keeps};
 ghost use Rattle.kql_outside.specs.Causes.{HasCause};
-ghost use Rattle.kql_outside.specs.Stream.{stream_of, opened, Reads};
+ghost use Rattle.kql_outside.specs.System.{stream_of, started_file, Reads};
 
 use crate::counts::Faults;
 use crate::outside::{Failed, Shelf, Sink};
@@ -25,7 +25,7 @@ pub struct DirShelf<R: Files> {
 impl<R: Files> DirShelf<R> {
     /// A shelf of which no file is started.
     pub fn new(rt: R) -> DirShelf<R>
-        ensures started { opened result ≡ None }
+        ensures started { started_file result ≡ None }
         ensures count { ⟦<DirShelf<R> as Shelf>⟧.faults result ≡ 0 }
     {
         DirShelf {
@@ -46,10 +46,11 @@ impl<R: Files> Shelf for DirShelf<R> {
     ghost faults = { λ s. s.faults };
 
     fn start(&mut self, path: &str) -> Result<bool, Failed>
-        ensures started { IfOk result (λ there. OnTrue there (IsSome (opened self.new))) }
-        ensures missing { IfOk result (λ there. OnFalse there (opened self.new ≡ opened self.old)) }
-        ensures kept { OnErr result (opened self.new ≡ opened self.old) }
-        ensures cause { HasCause (⟦<DirShelf<R> as Shelf>⟧.faults self.old) (⟦<DirShelf<R> as Shelf>⟧.faults self.new) result }
+        ensures started { IfOk result (λ there. OnTrue there (IsSome (started_file self.new))) }
+        ensures missing { IfOk result (λ there. OnFalse there (started_file self.new ≡ started_file self.old)) }
+        ensures kept { OnErr result (started_file self.new ≡ started_file self.old) }
+        ensures cause { HasCause (⟦<DirShelf<R> as Shelf>⟧.faults self.old)
+            (⟦<DirShelf<R> as Shelf>⟧.faults self.new) result }
     {
         match fs::open(&self.rt, path) {
             Ok(file) => {
@@ -65,9 +66,10 @@ impl<R: Files> Shelf for DirShelf<R> {
 
     fn read(&mut self, buf: &mut [u8]) -> Result<usize, Failed>
         requires { 0 < length buf.old }
-        ensures passed { Reads R.File.remaining (opened self.old) (opened self.new) result buf.new }
+        ensures passed { Reads R.File.remaining (started_file self.old) (started_file self.new) result buf.new }
         ensures within { IfOk result (λ count. count ≤ length buf.new) }
-        ensures cause { HasCause (⟦<DirShelf<R> as Shelf>⟧.faults self.old) (⟦<DirShelf<R> as Shelf>⟧.faults self.new) result }
+        ensures cause { HasCause (⟦<DirShelf<R> as Shelf>⟧.faults self.old)
+            (⟦<DirShelf<R> as Shelf>⟧.faults self.new) result }
     {
         let Some(file) = &mut self.file else {
             return Ok(0);
@@ -110,12 +112,15 @@ impl<W: Write> Sink for StreamSink<W> {
         requires { 0 < length bytes.now }
         // What the sink took is what the stream got, and a write that failed left it as it was.
         ensures passed { IfOk result (λ count.
-            Appends (W.contents (stream_of self.old)) (W.contents (stream_of self.new)) (take count bytes.now)) }
-        ensures kept { OnErr result (Keeps (W.contents (stream_of self.old)) (W.contents (stream_of self.new))) }
+            Appends (W.contents (stream_of self.old)) (W.contents (stream_of self.new))
+            (take count bytes.now)) }
+        ensures kept { OnErr result
+            (Keeps (W.contents (stream_of self.old)) (W.contents (stream_of self.new))) }
 
         ensures some { IfOk result (λ count. 0 < count) }
         ensures within { IfOk result (λ count. count ≤ length bytes.now) }
-        ensures cause { HasCause (⟦<StreamSink<W> as Sink>⟧.faults self.old) (⟦<StreamSink<W> as Sink>⟧.faults self.new) result }
+        ensures cause { HasCause (⟦<StreamSink<W> as Sink>⟧.faults self.old)
+            (⟦<StreamSink<W> as Sink>⟧.faults self.new) result }
     {
         match self.inner.write(bytes) {
             Ok(count) if count > 0 => Ok(count),

@@ -52,7 +52,7 @@ impl From<AllocError> for ReadError {
     }
 }
 
-/// How many bytes are asked of a shelf at once.
+// How many bytes are asked of a shelf at once.
 const PIECE: usize = 262_144;
 
 /// Reads what is left of the started file, to its end or until there are `limit` bytes. After an error the bytes
@@ -67,7 +67,8 @@ pub fn read_up_to<F: Shelf>(
     ensures failed { result ≡ Err ReadError.Failed → Rose (F.faults shelf.old) (F.faults shelf.new) }
 
     ensures within { IfOk result (λ bytes. vec_len bytes ≤ limit) }
-    ensures bytes { IfOk result (λ bytes. IfSome (F.rest shelf.old) (λ left. bytes.items ≡ take limit left)) }
+    ensures bytes { IfOk result (λ bytes.
+        IfSome (F.rest shelf.old) (λ left. bytes.items ≡ take limit left)) }
     ensures rest { OnOk result (F.rest shelf.new ≡ dropped limit (F.rest shelf.old)) }
     ensures part { OnErr result (IsPartRead (F.rest shelf.old) (F.rest shelf.new) limit) }
 {
@@ -88,7 +89,8 @@ fn fill<F: Shelf>(shelf: &mut F, bytes: &mut Vec<u8>, limit: usize) -> Result<us
     ensures bounded { IfOk result (λ filled. filled ≤ limit) }
     ensures bytes { IfOk result (λ filled.
         F.rest shelf.old ≡ prepended (take filled bytes.new.items) (F.rest shelf.new)) }
-    ensures end { IfOk result (λ filled. filled ≢ limit → IfSome (F.rest shelf.new) (λ left. left ≡ [])) }
+    ensures end { IfOk result (λ filled.
+        filled ≢ limit → IfSome (F.rest shelf.new) (λ left. left ≡ [])) }
     ensures part { OnErr result (IsPartRead (F.rest shelf.old) (F.rest shelf.new) limit) }
 {
     let mut filled = 0;

@@ -10,8 +10,8 @@ abbrev pub stream_of : {W : Type 0} → StreamSink W → W
 stream_of sink = sink.inner
 
 -- the file that is started
-abbrev pub opened : {R F D : Type 0} → DirShelf R F D → Option F
-opened shelf = shelf.file
+abbrev pub started_file : {R F D : Type 0} → DirShelf R F D → Option F
+started_file shelf = shelf.file
 
 -- a read gave what the file gave, and a file that was not read stays as it was
 abbrev pub Reads : {F : Type 0} → (F → Option (List ℕ)) → Option F → Option F → Result ℕ Failed → List ℕ → Type 0
