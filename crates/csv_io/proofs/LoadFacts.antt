@@ -1,0 +1,159 @@
+-- Faults one after another, and one more cell or row without a fault.
+use Rattle.std.proofs.Common.{◌≡◌, ◌≤◌, ◌<◌, ◌==◌, ◌+◌, ◌++◌, ◌∙◌, ℕ, zero, suc, true, false, List, [], ◌∷◌, length, drop, get_or, refl, sym, ap, arith, append_assoc, length-append, drop-cons, eq-eqb, inl, inr}
+use Rattle.std.proofs.Math.Seq.{drop-length}
+use Rattle.std.proofs.lemmas.List.{append-nil}
+use Rattle.std.proofs.lemmas.Bool.{cases_Bool, ne_eqb}
+use Rattle.std.specs.Prelude.{Option, Some, None, Result, Ok, Err, slice_get, map, IfOk, IfErr, IsUtf8, unwrap_or, option_map, codes, ℤ}
+use Rattle.std.proofs.lemmas.Str.{IsUtf8-from_is_utf8, is_utf8-from_IsUtf8}
+use Rattle.std.specs.Str.Lossy.{utf8_valid_len}
+use Rattle.std.specs.Str.{is_utf8, str_eq_ignore_ascii_case}
+use Rattle.csv_io.specs.Cells.{long_of, read_bool, read_cell, read_long}
+use Rattle.csv_io.specs.Faults.{Fault, bad_length, not_utf8, fault_at, IsFaultOf, IsFirstOf, Reads, unless}
+use Rattle.csv_io.specs.Header.{column_of, header_faults}
+use Rattle.csv_io.specs.Load.{cell_faults, cell_of, cells_faults, cells_of, faults_of, file_records, grid_of, loaded, row_faults, rows_faults}
+use Rattle.csv_io.specs.declared.fault.DataFault.{DataFault}
+use Rattle.csv_io.specs.declared.fault.DataFault.TheVariants as fault
+use Rattle.kql_values.specs.Table.{CellFits, RowFits}
+use Rattle.kql_values.specs.declared.schema.Column.{Column}
+use Rattle.kql_values.specs.declared.value.Kind.{Kind}
+use Rattle.kql_values.specs.declared.value.Kind.TheVariants as kind
+use Rattle.kql_values.specs.declared.value.Value.{Value}
+use Rattle.kql_values.specs.declared.value.Value.TheVariants as value
+
+inside : (f g : Fault) → Some f ≡ Some g → f ≡ g
+inside f g e = cc e
+
+-- the first of some faults is the first with others behind them
+pub first-append : (fs gs : List Fault) (e : DataFault) → IsFirstOf fs e → IsFirstOf (fs ++ gs) e
+first-append [] gs (fault.Refused c r k) h = cc h
+first-append (f ∷ fs) gs (fault.Refused c r k) h = h
+first-append fs gs fault.OutOfMemory h = tt
+
+-- what was read is what is loaded
+pub table-read : {X : Type 0} (fs : List Fault) (x : X) (answer : Result X Fault) (r : Result X DataFault) → answer ≡ unless fs x → Reads fs x r → IfOk r (λ t. answer ≡ Ok t)
+table-read fs x answer (Ok y) e r = e ∙ rw (r.0, r.1) refl
+table-read fs x answer (Err d) e r = tt
+
+refused-at : {X : Type 0} (fs : List Fault) (x : X) (d : DataFault) → IsFirstOf fs d → IsFaultOf (unless fs x) d
+refused-at [] x (fault.Refused c r k) h = cc h
+refused-at (f ∷ fs) x (fault.Refused c r k) h = ap Err (inside f (fault_at c r k) h)
+refused-at fs x fault.OutOfMemory h = tt
+
+pub fault-read : {X : Type 0} (fs : List Fault) (x : X) (answer : Result X Fault) (r : Result X DataFault) → answer ≡ unless fs x → Reads fs x r → IfErr r (IsFaultOf answer)
+fault-read fs x answer (Ok y) e r = tt
+fault-read fs x answer (Err d) e r = rw e (refused-at fs x d r)
+
+-- of a text the faults are those of its records
+pub loaded-text : (bytes : List ℕ) → IsUtf8 bytes → loaded bytes ≡ unless (faults_of (file_records bytes)) (grid_of (file_records bytes))
+unfolding loaded
+loaded-text bytes u = rw (is_utf8-from_IsUtf8 bytes u) refl
+
+-- and other bytes are refused where they stop being a text
+pub loaded-other : (bytes : List ℕ) → (IsUtf8 bytes → ⊥) → loaded bytes ≡ Err (fault_at not_utf8 0 (utf8_valid_len bytes))
+unfolding loaded
+loaded-other bytes n =
+    let other : is_utf8 bytes ≡ false = elim (cases_Bool (is_utf8 bytes)) [ inl t ↦ absurd (n (IsUtf8-from_is_utf8 bytes t)) | inr f ↦ f ] in
+    rw other refl
+
+-- an option of a value or of null
+abbrev AllFit : Kind → List ℕ → Option Value → Type 0
+AllFit k name o = CellFits (record { name = name; kind = k }) (unwrap_or o value.Null)
+
+bool-fits : (name field : List ℕ) → AllFit kind.Bool name (read_bool field)
+bool-fits name [] = (tt, tt)
+bool-fits name (b ∷ bs) = elim (cases_Bool (str_eq_ignore_ascii_case (b ∷ bs) (codes "true"))) [
+  | inl t ↦ rw t (tt, tt)
+  | inr f ↦ elim (cases_Bool (str_eq_ignore_ascii_case (b ∷ bs) (codes "false"))) [
+    | inl t ↦ rw (f, t) (tt, tt)
+    | inr g ↦ rw (f, g) (tt, tt)
+  ]
+]
+
+number-fits : (name : List ℕ) (o : Option ℤ) → AllFit kind.Long name (option_map value.Long o)
+number-fits name None = (tt, tt)
+number-fits name (Some n) = (tt, tt)
+
+long-fits : (name field : List ℕ) → AllFit kind.Long name (read_long field)
+long-fits name [] = (tt, tt)
+long-fits name (b ∷ bs) = number-fits name (long_of (b ∷ bs))
+
+-- a value that was read, or null, fits its column
+cell-fits : (k : Kind) (name field : List ℕ) → CellFits (record { name = name; kind = k }) (cell_of k field)
+unfolding cell_of
+cell-fits kind.Text name field = (tt, tt)
+cell-fits kind.Bool name field = bool-fits name field
+cell-fits kind.Long name field = long-fits name field
+cell-fits kind.Moment name field = (tt, tt)
+cell-fits kind.Span name field = (tt, tt)
+cell-fits kind.Dynamic name field = (tt, tt)
+
+-- so a row of as many fields as there are columns fits them
+pub cells-fit : (columns : List Column) (fields : List (List ℕ)) → length fields ≡ length columns → RowFits columns (cells_of columns fields)
+unfolding RowFits
+cells-fit [] fields e = tt
+cells-fit (c ∷ cs) [] e = absurd (omega arith)
+cells-fit (c ∷ cs) (f ∷ fs) e = (cell-fits c.kind c.name f, cells-fit cs fs (omega arith))
+
+-- the faults of the first field that is left, and of the others
+faults-at : (columns : List Column) (fields : List (List ℕ)) (row at j : ℕ) (d : Column) → j < length columns → j < length fields
+    → cells_faults row at (drop j columns) (drop j fields)
+    ≡ cell_faults (get_or columns j d).kind row at (get_or fields j []) ++ cells_faults row (at + 1) (drop (suc j) columns) (drop (suc j) fields)
+faults-at columns fields row at j d k f = rw (drop-cons columns j d, drop-cons fields j []) refl
+
+-- a field that does not read
+pub cells-fault : (columns : List Column) (fields : List (List ℕ)) (row j : ℕ) (d : Column) (faults : List Fault) (e : DataFault)
+    → j < length columns → j < length fields → cells_faults row (j + 1) (drop j columns) (drop j fields) ≡ faults
+    → IsFirstOf (cell_faults (get_or columns j d).kind row (j + 1) (get_or fields j [])) e → IsFirstOf faults e
+cells-fault columns fields row j d faults e k f g first =
+    rw (← g, faults-at columns fields row (j + 1) j d k f) (first-append _ _ e first)
+
+drop-all : {X : Type 0} (xs : List X) (n : ℕ) → length xs ≤ n → drop n xs ≡ []
+drop-all [] zero e = refl
+drop-all [] (suc n) e = refl
+drop-all (x ∷ xs) zero e = absurd (omega arith)
+drop-all (x ∷ xs) (suc n) e = drop-all xs n (omega arith)
+
+-- the fields that are left behind the last column have none
+pub cells-end : (columns : List Column) (fields : List (List ℕ)) (row j : ℕ) (faults : List Fault) → length columns ≤ j
+    → cells_faults row (j + 1) (drop j columns) (drop j fields) ≡ faults → faults ≡ []
+cells-end columns fields row j faults e g =
+    let none : drop j columns ≡ [] = drop-all columns j e in
+    sym g ∙ rw none refl
+
+-- and no cell
+pub cells-all : (columns : List Column) (fields : List (List ℕ)) (j : ℕ) (cells all : List Value) → length columns ≤ j
+    → cells ++ cells_of (drop j columns) (drop j fields) ≡ all → cells ≡ all
+cells-all columns fields j cells all e h =
+    let none : drop j columns ≡ [] = drop-all columns j e in
+    sym (append-nil cells) ∙ rw none at h
+
+-- a row of as many fields as there are columns
+pub row-even : (columns : List Column) (row : ℕ) (fields : List (List ℕ)) → length fields ≡ length columns → row_faults columns row fields ≡ cells_faults row 1 columns fields
+unfolding row_faults
+row-even columns row fields e = let same : (length fields == length columns) ≡ true = eq-eqb _ _ e in rw same refl
+
+-- and of another number
+pub row-uneven : (columns : List Column) (row : ℕ) (fields : List (List ℕ)) → (length fields ≡ length columns → ⊥) → row_faults columns row fields ≡ fault_at bad_length row (length fields) ∷ []
+unfolding row_faults
+row-uneven columns row fields n = let other : (length fields == length columns) ≡ false = ne_eqb _ _ n in rw other refl
+
+-- a row more
+pub rows-step : (columns : List Column) (left : List (List (List ℕ))) (fields : List (List ℕ)) (rest : List (List (List ℕ))) (lines new : List (List Value)) (row : List Value) (n : ℕ)
+    (all : List (List Value)) (faults : List Fault) → left ≡ fields ∷ rest → n ≡ length lines + 1 → row_faults columns n fields ≡ [] → row ≡ cells_of columns fields
+    → new ≡ lines ++ row ∷ [] → lines ++ map (cells_of columns) left ≡ all → rows_faults columns (length lines + 1) left ≡ faults
+    → (new ++ map (cells_of columns) rest ≡ all) × (rows_faults columns (length new + 1) rest ≡ faults)
+rows-step columns left fields rest lines new row n all faults el en none er ew h g =
+    let size : length new ≡ length lines + 1 = rw ew (length-append lines (row ∷ [])) in
+    let here : row_faults columns (length lines + 1) fields ≡ [] = rw en at none in
+    (rw (ew, er) (append_assoc lines (cells_of columns fields ∷ []) (map (cells_of columns) rest) ∙ rw el at h), rw size (rw (el, here) at g))
+
+-- a row that does not read
+pub rows-fault : (columns : List Column) (left : List (List (List ℕ))) (fields : List (List ℕ)) (rest : List (List (List ℕ))) (n m : ℕ) (faults : List Fault) (e : DataFault)
+    → left ≡ fields ∷ rest → n ≡ m → rows_faults columns m left ≡ faults → IsFirstOf (row_faults columns n fields) e → IsFirstOf faults e
+rows-fault columns left fields rest n m faults e el en g first =
+    rw (← g, el) (first-append (row_faults columns m fields) (rows_faults columns (m + 1) rest) e (rw en at first))
+
+-- a header that does not read
+pub header-first : (records : List (List (List ℕ))) (header : List (List ℕ)) (rows : List (List (List ℕ))) (e : DataFault)
+    → records ≡ header ∷ rows → IsFirstOf (header_faults [] header) e → IsFirstOf (faults_of records) e
+header-first records header rows e el first = rw el (first-append (header_faults [] header) (rows_faults (map column_of header) 1 rows) e first)

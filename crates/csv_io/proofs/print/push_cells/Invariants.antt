@@ -1,0 +1,8 @@
+use Rattle.std.proofs.Common.{◌≡◌, [], take, map}
+use Rattle.csv.specs.Records.{fields_of, partial_of}
+use Rattle.csv_io.specs.Text.{cell_text}
+use Rattle.kql_values.specs.Seen.{row_at}
+use Rattle.csv_io.proofs.print.push_cells.Given as goal
+
+abbrev pub invariant-loop-j : goal.invariant-loop-j
+invariant-loop-j l = (fields_of l.line ≡ map cell_text (take l.j (row_at l.rows l.i))) × (partial_of l.line ≡ [])

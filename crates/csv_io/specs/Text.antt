@@ -1,0 +1,27 @@
+-- The text of a table.
+use Rattle.std.specs.Prelude.{ℕ, true, false, List, [], ◌++◌, map, flat_map, codes}
+use Rattle.std.specs.Fmt.{signed_decimal}
+use Rattle.csv.specs.Writing.{default_writer, row_text}
+use Rattle.kql_values.specs.Table.{Grid}
+use Rattle.kql_values.specs.declared.schema.Column.{Column}
+use Rattle.kql_values.specs.declared.value.Value.{Value}
+use Rattle.kql_values.specs.declared.value.Value.TheVariants as value
+
+-- the text of a cell; a moment, a span and a dynamic value are not written here
+abbrev pub cell_text : Value → List ℕ
+cell_text value.Null = []
+cell_text (value.Bool true) = codes "true"
+cell_text (value.Bool false) = codes "false"
+cell_text (value.Long n) = signed_decimal n
+cell_text (value.Text t) = t
+cell_text _ = []
+
+abbrev pub line_text : List Value → List ℕ
+line_text row = row_text default_writer (map cell_text row)
+
+abbrev pub names_of : List Column → List (List ℕ)
+names_of columns = map (λ c. c.name) columns
+
+-- a line of names, and then a line for each row
+abbrev pub table_text : Grid → List ℕ
+table_text g = row_text default_writer (names_of g.columns) ++ flat_map line_text g.lines

@@ -1,0 +1,15 @@
+//! Tables from CSV and back: RFC 4180 as the crate `csv` reads and writes it, under a header that types its columns.
+#![tactic(auto)]
+
+mod cells;
+mod fault;
+mod feed;
+mod fields;
+mod header;
+mod loading;
+mod print;
+mod printer;
+
+pub use fault::DataFault;
+pub use loading::load;
+pub use print::table_text;
