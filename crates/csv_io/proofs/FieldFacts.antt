@@ -1,12 +1,12 @@
 -- A field at a place, and where its last colon stands.
-use Rattle.std.proofs.Common.{◌≡◌, ◌≤◌, ◌<◌, ◌+◌, ◌-◌, ◌==◌, ℕ, zero, suc, true, false, List, [], ◌∷◌, length, take, drop, get_or, refl, ap, arith}
+use Rattle.std.proofs.Common.{◌≡◌, ◌≤◌, ◌<◌, ◌+◌, ◌-◌, ◌==◌, ℕ, zero, suc, true, false, List, [], ◌∷◌, length, drop, get_or, refl, ap, arith}
 use Rattle.std.specs.Prelude.{Option, Some, None, IsSome, not, option_map, slice_range}
 use Rattle.std.specs.Borrow.{Bor}
 use Rattle.std.specs.List.{after_last, before_last, list_any, suffix_len}
 use Rattle.std.proofs.lemmas.List.Folds.{list_any_none}
 use Rattle.std.proofs.lemmas.List.Sums.{suffix_len_is}
 use Rattle.std.proofs.lemmas.Grind.{get_or_default_zero}
-use Rattle.csv.specs.Records.{AllText, field_at}
+use Rattle.csv.specs.Records.{field_at}
 use Rattle.csv_io.specs.Header.{is_colon}
 
 -- the field at a place within

@@ -1,12 +1,11 @@
 -- One more column of a header.
-use Rattle.std.proofs.Common.{◌≡◌, ◌≤◌, ◌<◌, ◌+◌, ◌++◌, ◌∷◌, ◌∙◌, ℕ, suc, Bool, true, false, List, [], length, drop, take, get_or, refl, sym, ap, arith, add-one, drop-cons, inl, inr, take-suc, append_assoc}
-use Rattle.std.proofs.Math.Seq.{drop-length}
-use Rattle.std.specs.Prelude.{Option, Some, None, is_some, not, map, nat_lt}
+use Rattle.std.proofs.Common.{◌≡◌, ◌≤◌, ◌<◌, ◌+◌, ◌++◌, ◌∷◌, ℕ, suc, Bool, true, false, List, [], length, drop, get_or, refl, arith, drop-cons, inl, inr}
+use Rattle.std.specs.Prelude.{Option, Some, None, is_some, not, nat_lt}
 use Rattle.std.proofs.lemmas.Bool.{cases_Bool}
 use Rattle.std.proofs.lemmas.Bool.Decides.{nat_tests}
 use Rattle.std.proofs.lemmas.List.Sums.{prefix_len_passes}
 use Rattle.std.proofs.lemmas.Slice.Eq.{bytes_eq-Decides}
-use Rattle.std.specs.List.{position, position_or_len}
+use Rattle.std.specs.List.{position_or_len}
 use Rattle.std.specs.Str.{bytes_eq}
 use Rattle.csv_io.specs.Faults.{Fault, IsFirstOf}
 use Rattle.csv_io.specs.Header.{column_faults, column_of, header_faults, is_bad_column, is_built, kind_of, name_of}

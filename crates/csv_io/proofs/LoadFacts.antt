@@ -1,13 +1,12 @@
 -- Faults one after another, and one more cell or row without a fault.
 use Rattle.std.proofs.Common.{◌≡◌, ◌≤◌, ◌<◌, ◌==◌, ◌+◌, ◌++◌, ◌∙◌, ℕ, zero, suc, true, false, List, [], ◌∷◌, length, drop, get_or, refl, sym, ap, arith, append_assoc, length-append, drop-cons, eq-eqb, inl, inr}
-use Rattle.std.proofs.Math.Seq.{drop-length}
 use Rattle.std.proofs.lemmas.List.{append-nil}
 use Rattle.std.proofs.lemmas.Bool.{cases_Bool, ne_eqb}
-use Rattle.std.specs.Prelude.{Option, Some, None, Result, Ok, Err, slice_get, map, IfOk, IfErr, IsUtf8, unwrap_or, option_map, codes, ℤ}
+use Rattle.std.specs.Prelude.{Option, Some, None, Result, Ok, Err, map, IfOk, IfErr, IsUtf8, unwrap_or, option_map, codes, ℤ}
 use Rattle.std.proofs.lemmas.Str.{IsUtf8-from_is_utf8, is_utf8-from_IsUtf8}
 use Rattle.std.specs.Str.Lossy.{utf8_valid_len}
 use Rattle.std.specs.Str.{is_utf8, str_eq_ignore_ascii_case}
-use Rattle.csv_io.specs.Cells.{long_of, read_bool, read_cell, read_long}
+use Rattle.csv_io.specs.Cells.{long_of, read_bool, read_long}
 use Rattle.csv_io.specs.Faults.{Fault, bad_length, not_utf8, fault_at, IsFaultOf, IsFirstOf, Reads, unless}
 use Rattle.csv_io.specs.Header.{column_of, header_faults}
 use Rattle.csv_io.specs.Load.{cell_faults, cell_of, cells_faults, cells_of, faults_of, file_records, grid_of, loaded, row_faults, rows_faults}

@@ -1,6 +1,5 @@
 -- How a field reads as a cell.
-use Rattle.std.specs.Prelude.{ℕ, ◌^◌, ◌==◌, ◌&&◌, Bool, true, false, List, [], ◌∷◌, map, drop, slice_index, codes, ℤ, pos, neg_ℤ, nat_le, nat_lt, Option, Some, None, if◌then◌else◌, option_map}
-use Rattle.std.specs.Char.{to_ascii_lowercase}
+use Rattle.std.specs.Prelude.{ℕ, ◌^◌, ◌==◌, ◌&&◌, Bool, true, false, List, [], ◌∷◌, drop, slice_index, codes, ℤ, pos, neg_ℤ, nat_le, nat_lt, Option, Some, None, if◌then◌else◌, option_map}
 use Rattle.std.specs.Str.{all_ascii_digits, str_eq_ignore_ascii_case}
 use Rattle.std.specs.Str.Parse.{digits_value}
 use Rattle.kql_values.specs.declared.value.Kind.{Kind}

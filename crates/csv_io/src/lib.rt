@@ -8,8 +8,11 @@ mod fields;
 mod header;
 mod loading;
 mod print;
-mod printer;
+mod writing;
 
 pub use fault::DataFault;
 pub use loading::load;
 pub use print::table_text;
+
+#[cfg(test)]
+mod tests;

@@ -4,7 +4,7 @@ ghost use Rattle.csv.specs.Records.{fields_of, partial_of};
 ghost use Rattle.kql_values.specs.Seen.{row_at, seen};
 ghost use Rattle.csv_io.specs.Text.{cell_text, names_of, table_text};
 
-use crate::printer::Printer;
+use crate::writing::{finish, new_writer, write_line};
 use csv::ByteRecord;
 use itoa::Buffer;
 use kql_items::Items;
@@ -19,13 +19,14 @@ pub fn table_text(alloc: Global, t: &Table) -> Result<Bytes, AllocError>
     let rows = t.rows();
     let mut line = ByteRecord::new(alloc);
     push_names(&mut line, t.schema().columns())?;
-    let mut printer = Printer::new(alloc).line(&line)?;
+    let mut wtr = new_writer(alloc);
+    write_line(&mut wtr, &line)?;
     for i in 0..rows.len() {
         line.clear();
         push_cells(&mut line, rows, i)?;
-        printer = printer.line(&line)?;
+        write_line(&mut wtr, &line)?;
     }
-    Ok(Items::from_vec(printer.finish()?))
+    Ok(Items::from_vec(finish(wtr)?))
 }
 
 fn push_names(line: &mut ByteRecord, columns: &[Column]) -> Result<(), AllocError>

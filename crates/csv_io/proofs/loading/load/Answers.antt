@@ -1,6 +1,4 @@
-use Rattle.std.proofs.Common.{◌≡◌, refl}
-use Rattle.csv_io.specs.Faults.{unless}
-use Rattle.csv_io.specs.Load.{faults_of, file_records, grid_of, loaded}
+use Rattle.std.proofs.Common.{refl}
 use Rattle.csv_io.proofs.LoadFacts.{fault-read, loaded-other, loaded-text, table-read}
 use Rattle.csv_io.proofs.loading.load.Goals as goal
 
