@@ -1,0 +1,260 @@
+-- The words of the language: their texts, their numbers, and which of them are reserved.
+use Rattle.std.specs.Prelude.{ℕ, Bool, true, false, ◌&&◌, codes, List, [], ◌∷◌, if◌then◌else◌}
+use Rattle.std.specs.List.{list_all}
+use Rattle.std.specs.Str.{bytes_eq}
+use Rattle.kql_lexer.specs.Bytes.{is_word_start, is_word_char}
+use Rattle.kql_lexer.specs.declared.keyword.TheConstants.{KEYWORDS}
+use Rattle.kql_lexer.specs.declared.keyword.Keyword.{Keyword}
+use Rattle.kql_lexer.specs.declared.keyword.Keyword.TheVariants as word
+
+-- the text of a keyword
+unfoldable pub keyword_text : Keyword → List ℕ
+keyword_text word.Other = []
+keyword_text word.Or = codes "or"
+keyword_text word.In = codes "in"
+keyword_text word.By = codes "by"
+keyword_text word.On = codes "on"
+keyword_text word.To = codes "to"
+keyword_text word.And = codes "and"
+keyword_text word.Has = codes "has"
+keyword_text word.Asc = codes "asc"
+keyword_text word.Let = codes "let"
+keyword_text word.InTilde = codes "in~"
+keyword_text word.Bag = codes "bag"
+keyword_text word.All = codes "all"
+keyword_text word.Int = codes "int"
+keyword_text word.Top = codes "top"
+keyword_text word.True = codes "true"
+keyword_text word.From = codes "from"
+keyword_text word.Step = codes "step"
+keyword_text word.With = codes "with"
+keyword_text word.Kind = codes "kind"
+keyword_text word.Hint = codes "hint"
+keyword_text word.Desc = codes "desc"
+keyword_text word.Take = codes "take"
+keyword_text word.Sort = codes "sort"
+keyword_text word.Scan = codes "scan"
+keyword_text word.Join = codes "join"
+keyword_text word.Last = codes "last"
+keyword_text word.None = codes "none"
+keyword_text word.Long = codes "long"
+keyword_text word.Time = codes "time"
+keyword_text word.Bool = codes "bool"
+keyword_text word.Real = codes "real"
+keyword_text word.Guid = codes "guid"
+keyword_text word.False = codes "false"
+keyword_text word.Nulls = codes "nulls"
+keyword_text word.Range = codes "range"
+keyword_text word.Print = codes "print"
+keyword_text word.Union = codes "union"
+keyword_text word.Where = codes "where"
+keyword_text word.Limit = codes "limit"
+keyword_text word.Count = codes "count"
+keyword_text word.Order = codes "order"
+keyword_text word.Parse = codes "parse"
+keyword_text word.Array = codes "array"
+keyword_text word.First = codes "first"
+keyword_text word.Outer = codes "outer"
+keyword_text word.Inner = codes "inner"
+keyword_text word.DollarLeft = codes "$left"
+keyword_text word.Regex = codes "regex"
+keyword_text word.Typeof = codes "typeof"
+keyword_text word.DollarRight = codes "$right"
+keyword_text word.Extend = codes "extend"
+keyword_text word.Lookup = codes "lookup"
+keyword_text word.Simple = codes "simple"
+keyword_text word.Output = codes "output"
+keyword_text word.Double = codes "double"
+keyword_text word.String = codes "string"
+keyword_text word.HasCs = codes "has_cs"
+keyword_text word.Between = codes "between"
+keyword_text word.Matches = codes "matches"
+keyword_text word.Default = codes "default"
+keyword_text word.Project = codes "project"
+keyword_text word.Relaxed = codes "relaxed"
+keyword_text word.Declare = codes "declare"
+keyword_text word.Decimal = codes "decimal"
+keyword_text word.Dynamic = codes "dynamic"
+keyword_text word.Contains = codes "contains"
+keyword_text word.Endswith = codes "endswith"
+keyword_text word.Distinct = codes "distinct"
+keyword_text word.Datetime = codes "datetime"
+keyword_text word.Timespan = codes "timespan"
+keyword_text word.Leftsemi = codes "leftsemi"
+keyword_text word.Leftanti = codes "leftanti"
+keyword_text word.Serialize = codes "serialize"
+keyword_text word.Summarize = codes "summarize"
+keyword_text word.Partition = codes "partition"
+keyword_text word.MvExpand = codes "mv-expand"
+keyword_text word.Leftouter = codes "leftouter"
+keyword_text word.Fullouter = codes "fullouter"
+keyword_text word.Rightsemi = codes "rightsemi"
+keyword_text word.Rightanti = codes "rightanti"
+keyword_text word.Startswith = codes "startswith"
+keyword_text word.Rightouter = codes "rightouter"
+keyword_text word.ContainsCs = codes "contains_cs"
+keyword_text word.EndswithCs = codes "endswith_cs"
+keyword_text word.MakeSeries = codes "make-series"
+keyword_text word.Innerunique = codes "innerunique"
+keyword_text word.ProjectAway = codes "project-away"
+keyword_text word.ProjectKeep = codes "project-keep"
+keyword_text word.StartswithCs = codes "startswith_cs"
+keyword_text word.WithMatchId = codes "with_match_id"
+keyword_text word.ProjectRename = codes "project-rename"
+
+-- the number of a keyword
+unfoldable pub keyword_code : Keyword → ℕ
+keyword_code word.Other = 0
+keyword_code word.Or = 1
+keyword_code word.In = 2
+keyword_code word.By = 3
+keyword_code word.On = 4
+keyword_code word.To = 5
+keyword_code word.And = 6
+keyword_code word.Has = 7
+keyword_code word.Asc = 8
+keyword_code word.Let = 9
+keyword_code word.InTilde = 10
+keyword_code word.Bag = 11
+keyword_code word.All = 12
+keyword_code word.Int = 13
+keyword_code word.Top = 14
+keyword_code word.True = 15
+keyword_code word.From = 16
+keyword_code word.Step = 17
+keyword_code word.With = 18
+keyword_code word.Kind = 19
+keyword_code word.Hint = 20
+keyword_code word.Desc = 21
+keyword_code word.Take = 22
+keyword_code word.Sort = 23
+keyword_code word.Scan = 24
+keyword_code word.Join = 25
+keyword_code word.Last = 26
+keyword_code word.None = 27
+keyword_code word.Long = 28
+keyword_code word.Time = 29
+keyword_code word.Bool = 30
+keyword_code word.Real = 31
+keyword_code word.Guid = 32
+keyword_code word.False = 33
+keyword_code word.Nulls = 34
+keyword_code word.Range = 35
+keyword_code word.Print = 36
+keyword_code word.Union = 37
+keyword_code word.Where = 38
+keyword_code word.Limit = 39
+keyword_code word.Count = 40
+keyword_code word.Order = 41
+keyword_code word.Parse = 42
+keyword_code word.Array = 43
+keyword_code word.First = 44
+keyword_code word.Outer = 45
+keyword_code word.Inner = 46
+keyword_code word.DollarLeft = 47
+keyword_code word.Regex = 48
+keyword_code word.Typeof = 49
+keyword_code word.DollarRight = 50
+keyword_code word.Extend = 51
+keyword_code word.Lookup = 52
+keyword_code word.Simple = 53
+keyword_code word.Output = 54
+keyword_code word.Double = 55
+keyword_code word.String = 56
+keyword_code word.HasCs = 57
+keyword_code word.Between = 58
+keyword_code word.Matches = 59
+keyword_code word.Default = 60
+keyword_code word.Project = 61
+keyword_code word.Relaxed = 62
+keyword_code word.Declare = 63
+keyword_code word.Decimal = 64
+keyword_code word.Dynamic = 65
+keyword_code word.Contains = 66
+keyword_code word.Endswith = 67
+keyword_code word.Distinct = 68
+keyword_code word.Datetime = 69
+keyword_code word.Timespan = 70
+keyword_code word.Leftsemi = 71
+keyword_code word.Leftanti = 72
+keyword_code word.Serialize = 73
+keyword_code word.Summarize = 74
+keyword_code word.Partition = 75
+keyword_code word.MvExpand = 76
+keyword_code word.Leftouter = 77
+keyword_code word.Fullouter = 78
+keyword_code word.Rightsemi = 79
+keyword_code word.Rightanti = 80
+keyword_code word.Startswith = 81
+keyword_code word.Rightouter = 82
+keyword_code word.ContainsCs = 83
+keyword_code word.EndswithCs = 84
+keyword_code word.MakeSeries = 85
+keyword_code word.Innerunique = 86
+keyword_code word.ProjectAway = 87
+keyword_code word.ProjectKeep = 88
+keyword_code word.StartswithCs = 89
+keyword_code word.WithMatchId = 90
+keyword_code word.ProjectRename = 91
+
+-- the first of these keywords that has this text, or `Other`
+unfoldable pub keyword_among : List Keyword → List ℕ → Keyword
+keyword_among [] text = word.Other
+keyword_among (k ∷ ks) text = if bytes_eq (keyword_text k) text then k else keyword_among ks text
+
+-- the keyword with this text, or `Other`
+unfoldable pub keyword_of : List ℕ → Keyword
+keyword_of text = keyword_among KEYWORDS text
+
+-- the keywords that are no names
+unfoldable pub is_reserved_keyword : Keyword → Bool
+is_reserved_keyword word.And = true
+is_reserved_keyword word.Or = true
+is_reserved_keyword word.In = true
+is_reserved_keyword word.InTilde = true
+is_reserved_keyword word.Between = true
+is_reserved_keyword word.Contains = true
+is_reserved_keyword word.ContainsCs = true
+is_reserved_keyword word.Startswith = true
+is_reserved_keyword word.StartswithCs = true
+is_reserved_keyword word.Endswith = true
+is_reserved_keyword word.EndswithCs = true
+is_reserved_keyword word.Has = true
+is_reserved_keyword word.HasCs = true
+is_reserved_keyword word.Matches = true
+is_reserved_keyword word.True = true
+is_reserved_keyword word.False = true
+is_reserved_keyword word.By = true
+is_reserved_keyword word.On = true
+is_reserved_keyword word.Asc = true
+is_reserved_keyword word.Desc = true
+is_reserved_keyword word.Nulls = true
+is_reserved_keyword word.From = true
+is_reserved_keyword word.To = true
+is_reserved_keyword word.Step = true
+is_reserved_keyword word.With = true
+is_reserved_keyword word.Kind = true
+is_reserved_keyword word.Hint = true
+is_reserved_keyword word.Default = true
+is_reserved_keyword word.Typeof = true
+is_reserved_keyword word.Let = true
+is_reserved_keyword word.Range = true
+is_reserved_keyword word.Print = true
+is_reserved_keyword word.Union = true
+is_reserved_keyword word.DollarLeft = true
+is_reserved_keyword word.DollarRight = true
+is_reserved_keyword word.MvExpand = true
+is_reserved_keyword word.MakeSeries = true
+is_reserved_keyword word.ProjectAway = true
+is_reserved_keyword word.ProjectKeep = true
+is_reserved_keyword word.ProjectRename = true
+is_reserved_keyword _ = false
+
+-- an ASCII letter or `_`, then letters, digits and `_`
+unfoldable pub is_word : List ℕ → Bool
+is_word [] = false
+is_word (b ∷ bs) = is_word_start b && list_all is_word_char bs
+
+-- a reserved word, as the whole text
+unfoldable pub is_reserved : List ℕ → Bool
+is_reserved text = is_reserved_keyword (keyword_of text)
