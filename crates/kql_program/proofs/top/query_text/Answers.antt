@@ -1,0 +1,8 @@
+use Rattle.kql_program.proofs.TopFacts.{text-ok, text-stop}
+use Rattle.kql_program.proofs.top.query_text.Goals as goal
+
+pub returns-in_err-rows-clause-text : goal.returns-in_err-rows-clause-text
+returns-in_err-rows-clause-text g c = text-stop _ _ _ _ c.in_err-rows.ensures.rows c.from_residual.ensures.1
+
+pub returns-clause-text : goal.returns-clause-text
+returns-clause-text g c = text-ok _ _ _ _ c.in_ok-rows.ensures.rows c.in_ok-table_text.ensures.text

@@ -1,0 +1,86 @@
+-- The files of the command: the query file, and the table files in the order of the words.
+use Rattle.std.specs.Prelude.{◌≡◌, ℕ, ◌+◌, nat_le, List, [], ◌∷◌, ◌++◌, length, take, Option, Some, None, Result, Ok, Err, if◌then◌else◌}
+use Rattle.csv_io.specs.Faults.{Fault}
+use Rattle.csv_io.specs.Load.{loaded}
+use Rattle.kql_lexer.specs.Lexing as lexing
+use Rattle.kql_lexer.specs.Lexing.{lexed}
+use Rattle.kql_lexer.specs.declared.token.Token.{Token}
+use Rattle.kql_outside.specs.Told.{file_of}
+use Rattle.kql_values.specs.Table.{Grid}
+use Rattle.kql_values.specs.declared.catalogue.Named.{Named}
+use Rattle.kql_program.specs.Command.{name_in, path_in}
+use Rattle.kql_program.specs.declared.refusal.Refusal.TheVariants.{Data, Query}
+use Rattle.kql_program.specs.declared.refusal.Stop.{Stop}
+use Rattle.kql_program.specs.Refusals.{Answer, Computes, ◌>>=◌}
+
+-- files by their path: the first of a path counts
+abbrev pub Files : Type 0
+Files = List (List ℕ × List ℕ)
+
+abbrev pub found_as : ℕ → Option (List ℕ) → Answer (List ℕ)
+found_as number None = Err (Data number 307 0 0)
+found_as number (Some bytes) = Ok bytes
+
+-- the bytes of the file of a path, or 307
+unfoldable pub file_bytes : ℕ → Files → List ℕ → Answer (List ℕ)
+file_bytes number files path = found_as number (file_of files path)
+
+abbrev pub lexed_as : Result (List Token) lexing.Fault → Answer (List Token)
+lexed_as (Ok tokens) = Ok tokens
+lexed_as (Err fault) = Err (Query fault.code fault.place)
+
+-- the tokens of the query file, or the lexer's refusal
+unfoldable pub query_tokens : List ℕ → Answer (List Token)
+query_tokens bytes = lexed_as (lexed bytes)
+
+-- how many bytes the table files may have together
+abbrev pub bytes_top : ℕ
+bytes_top = 67108864
+
+abbrev pub loaded_as : ℕ → Result Grid Fault → Answer Grid
+loaded_as number (Ok grid) = Ok grid
+loaded_as number (Err fault) = Err (Data number fault.code fault.row fault.column)
+
+-- the table in a file's bytes, behind so many bytes of table files; too many together are 308
+unfoldable pub table_in : ℕ → ℕ → List ℕ → Answer Grid
+table_in number used bytes = if nat_le (used + length bytes) bytes_top then loaded_as number (loaded bytes) else Err (Data number 308 0 0)
+
+abbrev pub named_as : List ℕ → Grid → Named
+named_as name grid = record { name = name; table = grid }
+
+abbrev pub with_first : Named → Answer (List Named) → Answer (List Named)
+with_first table rest = rest >>= λ tables. Ok (table ∷ tables)
+
+-- the table of a file, behind so many bytes of table files
+abbrev pub table_of : Files → ℕ → ℕ → List ℕ → Answer Grid
+table_of files number used path = file_bytes number files path >>= table_in number used
+
+-- the tables of the words from this file on, behind so many bytes of table files
+unfoldable pub tables_from : Files → ℕ → ℕ → List (List ℕ) → Answer (List Named)
+tables_from files number used [] = Ok []
+tables_from files number used (word ∷ words) =
+    file_bytes number files (path_in word) >>= λ bytes.
+    table_in number used bytes >>= λ grid.
+    with_first (named_as (name_in word) grid) (tables_from files (number + 1) (used + length bytes) words)
+
+-- these tables, and then the others
+abbrev pub tables_after : List Named → Answer (List Named) → Answer (List Named)
+tables_after tables rest = rest >>= λ more. Ok (tables ++ more)
+
+-- a call gave a front of so many bytes of what the answer is
+abbrev pub ReadsFront : ℕ → Answer (List ℕ) → Result (List ℕ) Stop → Type 0
+ReadsFront limit answer (Ok bytes) = (all : List ℕ) × (answer ≡ Ok all) × (bytes ≡ take limit all)
+ReadsFront limit answer (Err stop) = Computes answer (Err stop)
+
+-- a call gave the table of a file, and how many bytes the table files have with it
+abbrev pub ReadsTable : Files → ℕ → ℕ → List ℕ → Result (Grid × ℕ) Stop → Type 0
+ReadsTable files number used path (Ok read) =
+    (bytes : List ℕ) × (file_bytes number files path ≡ Ok bytes) × (table_in number used bytes ≡ Ok read.0) × (read.1 ≡ used + length bytes)
+ReadsTable files number used path (Err stop) = Computes (table_of files number used path) (Err stop)
+
+-- a call added the table of a word to the others
+abbrev pub AddsTable : Files → ℕ → ℕ → List ℕ → List Named → List Named → Result ℕ Stop → Type 0
+AddsTable files number used word before now (Ok more) =
+    (bytes : List ℕ) × (grid : Grid) × (file_bytes number files (path_in word) ≡ Ok bytes) × (table_in number used bytes ≡ Ok grid)
+    × (more ≡ used + length bytes) × (now ≡ before ++ named_as (name_in word) grid ∷ [])
+AddsTable files number used word before now (Err stop) = Computes (table_of files number used (path_in word)) (Err stop)

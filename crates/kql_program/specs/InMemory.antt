@@ -1,0 +1,29 @@
+-- The top call over sinks in memory.
+use Rattle.std.specs.Prelude.{◌≡◌, ◌≤◌, ℕ, List, [], ◌++◌, length, Result, Ok, Err}
+use Rattle.kql_outside.specs.Memory.{SinkState, room_left}
+use Rattle.kql_program.specs.declared.ended.Ended.{Ended}
+use Rattle.kql_program.specs.Endings.{ending_of}
+use Rattle.kql_program.specs.Lines.{line_of, memory_line}
+use Rattle.kql_program.specs.Refusals.{Answer}
+
+-- what an answer writes to the output
+abbrev pub output_text : Answer (List ℕ) → List ℕ
+output_text (Ok text) = text
+output_text (Err r) = []
+
+-- and for errors
+abbrev pub error_text : Answer (List ℕ) → List ℕ
+error_text (Ok text) = []
+error_text (Err r) = line_of r
+
+-- there is room for what the answer writes, and for the line of want of memory
+pub record HaveRoom (a : Answer (List ℕ)) (out err : SinkState) : Type 0 where
+  pub output : length (output_text a) ≤ room_left out
+  pub error : length (error_text a) ≤ room_left err
+  pub memory : length memory_line ≤ room_left err
+
+-- the ending and the bytes of the answer
+pub record Answers (a : Answer (List ℕ)) (out out_new err err_new : SinkState) (e : Ended) : Type 0 where
+  pub ending : e ≡ ending_of a
+  pub output : out_new.bytes ≡ out.bytes ++ output_text a
+  pub error : err_new.bytes ≡ err.bytes ++ error_text a

@@ -1,0 +1,11 @@
+pub mod Answer
+pub mod Binding
+pub mod Command
+pub mod Endings
+pub mod Files
+pub mod Form
+pub mod InMemory
+pub mod Lines
+pub mod Outcomes
+pub mod Refusals
+pub mod Stops

@@ -1,0 +1,142 @@
+-- What a call of the program leaves, at each ending.
+use Rattle.std.specs.Prelude.{◌≡◌, ◌⊎◌, ◌<◌, ℕ, List, length, Option, Some, None, IfSome, Result, Ok, Err}
+use Rattle.kql_outside.specs.Causes.{Rose}
+use Rattle.kql_outside.specs.Told.{IsCutShort, appended}
+use Rattle.kql_lexer.specs.declared.place.Place.{Place}
+use Rattle.kql_program.specs.declared.ended.Ended.{Ended}
+use Rattle.kql_program.specs.declared.ended.Ended.TheVariants as ended
+use Rattle.kql_program.specs.declared.refusal.Refusal.{Refusal}
+use Rattle.kql_program.specs.declared.refusal.Refusal.TheVariants as refusal
+use Rattle.kql_program.specs.declared.refusal.Stop.{Stop}
+use Rattle.kql_program.specs.declared.refusal.Stop.TheVariants as stop
+use Rattle.kql_program.specs.Answer.{answer}
+use Rattle.kql_program.specs.Endings.{IsQuiet, ending_of, refused_as}
+use Rattle.kql_program.specs.Files.{Files}
+use Rattle.kql_program.specs.Lines.{line_of, memory_line, read_fault_line}
+use Rattle.kql_program.specs.Refusals.{Answer}
+
+-- this is what the program answers to the words, where the shelf tells its files
+abbrev pub IsAnswer : List (List ℕ) → Option Files → Answer (List ℕ) → Type 0
+IsAnswer words None a = Unit {0}
+IsAnswer words (Some files) a = a ≡ answer words files
+
+-- a sink at one moment: what it holds and how much more it takes, where that is told, and its count of faults
+pub record SinkNow : Type 0 where
+  pub written : Option (List ℕ)
+  pub room : Option ℕ
+  pub faults : ℕ
+
+abbrev pub sink_now : Option (List ℕ) → Option ℕ → ℕ → SinkNow
+sink_now written room faults = record { written = written; room = room; faults = faults }
+
+-- the outside at one moment
+pub record Outside : Type 0 where
+  pub shelf_faults : ℕ
+  pub out : SinkNow
+  pub err : SinkNow
+
+abbrev pub outside : ℕ → SinkNow → SinkNow → Outside
+outside shelf_faults out err = record { shelf_faults = shelf_faults; out = out; err = err }
+
+-- all of a text was added
+abbrev pub Adds : SinkNow → SinkNow → List ℕ → Type 0
+Adds before now text = now.written ≡ appended before.written text
+
+abbrev pub IsSame : SinkNow → SinkNow → Type 0
+IsSame before now = now.written ≡ before.written
+
+-- a text was left unfinished: a shorter front of it was added, the count of faults rose, and there was no room for all
+pub record IsUnfinished (before now : SinkNow) (text : List ℕ) : Type 0 where
+  pub front : IsCutShort before.written now.written text
+  pub cause : Rose before.faults now.faults
+  pub full : IfSome before.room (λ left. left < length text)
+
+-- a refusal: its line, and nothing on the output
+pub record IsRefused (a : Answer (List ℕ)) (before now : Outside) (r : Refusal) : Type 0 where
+  pub is : a ≡ Err r
+  pub quiet : IsSame before.out now.out
+  pub line : Adds before.err now.err (line_of r)
+
+-- the text of the table, and nothing for errors
+pub record IsTable (a : Answer (List ℕ)) (before now : Outside) : Type 0 where
+  pub text : List ℕ
+  pub is : a ≡ Ok text
+  pub whole : Adds before.out now.out text
+  pub quiet : IsSame before.err now.err
+
+-- a fault of the shelf: its line, and nothing on the output
+pub record IsReadFault (before now : Outside) : Type 0 where
+  pub cause : Rose before.shelf_faults now.shelf_faults
+  pub quiet : IsSame before.out now.out
+  pub line : Adds before.err now.err read_fault_line
+
+-- want of memory: its line, and nothing on the output
+pub record IsOutOfMemory (before now : Outside) : Type 0 where
+  pub quiet : IsSame before.out now.out
+  pub line : Adds before.err now.err memory_line
+
+-- the table's text was left unfinished, and nothing was written for errors
+pub record IsCutText (a : Answer (List ℕ)) (before now : Outside) : Type 0 where
+  pub text : List ℕ
+  pub is : a ≡ Ok text
+  pub cut : IsUnfinished before.out now.out text
+  pub quiet : IsSame before.err now.err
+
+-- a line that may be written for errors: that of the refusal, of want of memory, or, where the shelf's count of faults
+-- rose, of a read fault
+abbrev pub IsErrorLine : Answer (List ℕ) → Outside → Outside → List ℕ → Type 0
+IsErrorLine a before now line =
+    ((r : Refusal) × (a ≡ Err r) × (line ≡ line_of r)) ⊎ (line ≡ memory_line) ⊎ ((line ≡ read_fault_line) × Rose before.shelf_faults now.shelf_faults)
+
+-- a line for errors was left unfinished, and nothing was written to the output
+pub record IsCutLine (a : Answer (List ℕ)) (before now : Outside) : Type 0 where
+  pub text : List ℕ
+  pub is : IsErrorLine a before now text
+  pub cut : IsUnfinished before.err now.err text
+  pub quiet : IsSame before.out now.out
+
+-- what each ending says of the answer and of the outside
+abbrev pub Ends : Answer (List ℕ) → Outside → Outside → Ended → Type 0
+Ends a before now ended.Table = IsTable a before now
+Ends a before now (ended.QueryRefused code place) = IsRefused a before now (refusal.Query code place)
+Ends a before now (ended.Usage word code) = IsRefused a before now (refusal.Usage word code)
+Ends a before now (ended.DataRefused file code row column) = IsRefused a before now (refusal.Data file code row column)
+Ends a before now ended.ReadFault = IsReadFault before now
+Ends a before now ended.OutOfMemory = IsOutOfMemory before now
+Ends a before now ended.WriteFault = IsCutText a before now ⊎ IsCutLine a before now
+
+-- a text was written to its end, and the call ends so, or it was left unfinished
+abbrev pub Writes : SinkNow → SinkNow → List ℕ → Ended → Ended → Type 0
+Writes before now text done e = ((e ≡ done) × Adds before now text) ⊎ ((e ≡ ended.WriteFault) × IsUnfinished before now text)
+
+-- the line of a stop, and the ending after it; want of memory may stand in the place of a refusal's line
+abbrev pub IsLineOf : Stop → List ℕ → Ended → Type 0
+IsLineOf (stop.Refused r) line done = ((line ≡ line_of r) × (done ≡ refused_as r)) ⊎ ((line ≡ memory_line) × (done ≡ ended.OutOfMemory))
+IsLineOf stop.ReadFault line done = (line ≡ read_fault_line) × (done ≡ ended.ReadFault)
+IsLineOf stop.OutOfMemory line done = (line ≡ memory_line) × (done ≡ ended.OutOfMemory)
+
+-- a stop's line was written, or left unfinished
+pub record WritesStop (before now : SinkNow) (s : Stop) (e : Ended) : Type 0 where
+  pub line : List ℕ
+  pub done : Ended
+  pub is : IsLineOf s line done
+  pub writes : Writes before now line done e
+
+-- no count of faults rose
+pub record IsFaultless (before now : Outside) : Type 0 where
+  pub shelf : Rose before.shelf_faults now.shelf_faults → ⊥
+  pub out : Rose before.out.faults now.out.faults → ⊥
+  pub err : Rose before.err.faults now.err.faults → ⊥
+
+-- The outcome of a call: what its ending says of the answer and of what was written, and what follows from it.
+pub record HasOutcome (words : List (List ℕ)) (files : Option Files) (before now : Outside) (e : Ended) : Type 0 where
+  pub to : Answer (List ℕ)
+  pub is : IsAnswer words files to
+  pub ends : Ends to before now e
+  -- a read or write fault is answered only where the count of an object that was handed in rose in this call
+  pub read : e ≡ ended.ReadFault → Rose before.shelf_faults now.shelf_faults
+  pub write : e ≡ ended.WriteFault → Rose before.out.faults now.out.faults ⊎ Rose before.err.faults now.err.faults
+  -- after a refusal, a read fault or want of memory nothing was written to the output
+  pub quiet : IsQuiet e → IsSame before.out now.out
+  -- where no count rose the ending is that of the answer, or want of memory
+  pub complete : IsFaultless before now → IfSome files (λ told. (e ≡ ending_of (answer words told)) ⊎ (e ≡ ended.OutOfMemory))

@@ -1,0 +1,16 @@
+-- How an error of a lower room stops the work.
+use Rattle.kql_outside.specs.declared.transfers.ReadError.{ReadError}
+use Rattle.kql_outside.specs.declared.transfers.ReadError.TheVariants as read
+use Rattle.kql_lexer.specs.declared.lexer.LexFault.{LexFault}
+use Rattle.kql_lexer.specs.declared.lexer.LexFault.TheVariants as lex
+use Rattle.kql_program.specs.declared.refusal.Refusal.TheVariants as refusal
+use Rattle.kql_program.specs.declared.refusal.Stop.{Stop}
+use Rattle.kql_program.specs.declared.refusal.Stop.TheVariants as stop
+
+abbrev pub read_stop : ReadError → Stop
+read_stop read.Failed = stop.ReadFault
+read_stop read.OutOfMemory = stop.OutOfMemory
+
+abbrev pub lex_stop : LexFault → Stop
+lex_stop (lex.Refused code place) = stop.Refused (refusal.Query code place)
+lex_stop lex.OutOfMemory = stop.OutOfMemory

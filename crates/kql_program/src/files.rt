@@ -1,0 +1,165 @@
+ghost use Rattle.std.specs.Prelude.{◌≡◌, ◌≤◌, ◌+◌, ◌++◌, ◌∷◌, [], Err, IfOk, IfSome, OnOk, length, map, true};
+ghost use Rattle.kql_outside.specs.Causes.{Rose};
+ghost use Rattle.kql_values.specs.Named.{IsAbsent};
+ghost use Rattle.kql_values.specs.Catalogues.{table_name};
+ghost use Rattle.kql_program.specs.Command.{name_in, names_table, tables_faults, texts};
+ghost use Rattle.kql_program.specs.Answer.{query_read};
+ghost use Rattle.kql_program.specs.Files.{AddsTable, ReadsFront, ReadsTable, bytes_top, file_bytes, loaded_as, query_tokens, tables_from};
+ghost use Rattle.kql_program.specs.Refusals.{Computes, Gives};
+ghost use Rattle.csv_io.specs.Load.{loaded};
+ghost use Rattle.kql_program.specs.declared.refusal.Stop.TheVariants as stop;
+
+use crate::command::table_parts;
+use crate::query::{Filter, read_filter};
+use crate::refusal::{Refusal, Stop};
+use csv_io::{DataFault, load};
+use kql_items::Items;
+use kql_lexer::{MAX_BYTES, Tokens, lex};
+use kql_outside::{Shelf, read_up_to};
+use kql_values::{Bytes, Catalogue, KText, Named, Table};
+use std::alloc::Global;
+
+/// How many bytes the table files may have together.
+const BYTES_TOP: usize = 67_108_864;
+
+// Reads a file's first bytes, at most so many; a path without a file is 307.
+fn read_file<F: Shelf>(
+    alloc: Global,
+    shelf: &mut F,
+    path: &str,
+    number: u32,
+    limit: usize,
+) -> Result<Bytes, Stop>
+    ensures files { F.files shelf.new ≡ F.files shelf.old }
+    ensures later { F.faults shelf.old ≤ F.faults shelf.new }
+    ensures failed { result ≡ Err stop.ReadFault → Rose (F.faults shelf.old) (F.faults shelf.new) }
+    ensures within { IfOk result (λ bytes. length bytes ≤ limit) }
+    ensures front { IfSome (F.files shelf.old) (λ files. ReadsFront limit (file_bytes number files path.now) result) }
+{
+    if shelf.start(path)? {
+        Ok(Items::from_vec(read_up_to(alloc, shelf, limit)?))
+    } else {
+        Err(Stop::Refused(Refusal::Data {
+            file: number,
+            code: 307,
+            row: 0,
+            column: 0,
+        }))
+    }
+}
+
+/// The filter that the query file of this path holds.
+pub(crate) fn read_query<F: Shelf>(alloc: Global, shelf: &mut F, path: &str) -> Result<Filter, Stop>
+    ensures files { F.files shelf.new ≡ F.files shelf.old }
+    ensures later { F.faults shelf.old ≤ F.faults shelf.new }
+    ensures failed { result ≡ Err stop.ReadFault → Rose (F.faults shelf.old) (F.faults shelf.new) }
+    ensures query { IfSome (F.files shelf.old) (λ files. Computes (query_read files path.now) result) }
+{
+    let bytes = read_file(alloc, shelf, path, 0, MAX_BYTES + 1)?;
+    let tokens = read_tokens(alloc, bytes.as_slice())?;
+    read_filter(alloc, tokens.as_slice())
+}
+
+fn read_tokens(alloc: Global, text: &[u8]) -> Result<Tokens, Stop>
+    ensures tokens { Gives (query_tokens text.now) result }
+{
+    Ok(lex(alloc, text)?)
+}
+
+/// The tables of the words NAME=PATH, each file started, read and loaded before the next.
+pub(crate) fn read_tables<F: Shelf>(
+    alloc: Global,
+    shelf: &mut F,
+    words: &[String],
+) -> Result<Catalogue, Stop>
+    requires { tables_faults 2 [] (texts words.now) ≡ [] }
+    ensures files { F.files shelf.new ≡ F.files shelf.old }
+    ensures later { F.faults shelf.old ≤ F.faults shelf.new }
+    ensures failed { result ≡ Err stop.ReadFault → Rose (F.faults shelf.old) (F.faults shelf.new) }
+    ensures tables { IfSome (F.files shelf.old) (λ files. Computes (tables_from files 1 0 (texts words.now)) result) }
+{
+    let mut catalogue = Catalogue::new(alloc);
+    let mut used = 0;
+    for i in 0..words.len() {
+        let number = i as u32 + 1;
+        used = add_table(
+            alloc,
+            shelf,
+            words[i].as_str(),
+            number,
+            used,
+            &mut catalogue,
+        )?;
+    }
+    Ok(catalogue)
+}
+
+// Adds the table of a word, behind so many bytes of table files; answers how many they are with its own.
+fn add_table<F: Shelf>(
+    alloc: Global,
+    shelf: &mut F,
+    word: &str,
+    number: u32,
+    used: usize,
+    catalogue: &mut Catalogue,
+) -> Result<usize, Stop>
+    requires names { names_table word.now ≡ true }
+    requires fresh { IsAbsent table_name (name_in word.now) catalogue.old }
+    requires few { used ≤ bytes_top }
+    ensures files { F.files shelf.new ≡ F.files shelf.old }
+    ensures later { F.faults shelf.old ≤ F.faults shelf.new }
+    ensures failed { result ≡ Err stop.ReadFault → Rose (F.faults shelf.old) (F.faults shelf.new) }
+    ensures few { IfOk result (λ more. more ≤ bytes_top) }
+    ensures names { OnOk result (map table_name catalogue.new ≡ map table_name catalogue.old ++ name_in word.now ∷ []) }
+    ensures table { IfSome (F.files shelf.old) (λ files. AddsTable files number used word.now catalogue.old catalogue.new result) }
+{
+    let (name, path) = table_parts(word).unwrap();
+    let (table, used) = read_table(alloc, shelf, path, number, used)?;
+    let name = KText::from_str(alloc, name)?;
+    catalogue.push(Named { name, table })?;
+    Ok(used)
+}
+
+// The table of a file, behind so many bytes of table files, with how many they are then; above 67,108,864 is 308.
+fn read_table<F: Shelf>(
+    alloc: Global,
+    shelf: &mut F,
+    path: &str,
+    number: u32,
+    used: usize,
+) -> Result<(Table, usize), Stop>
+    requires { used ≤ bytes_top }
+    ensures files { F.files shelf.new ≡ F.files shelf.old }
+    ensures later { F.faults shelf.old ≤ F.faults shelf.new }
+    ensures failed { result ≡ Err stop.ReadFault → Rose (F.faults shelf.old) (F.faults shelf.new) }
+    ensures few { IfOk result (λ read. read.1 ≤ bytes_top) }
+    ensures table { IfSome (F.files shelf.old) (λ files. ReadsTable files number used path.now result) }
+{
+    let bytes = read_file(alloc, shelf, path, number, BYTES_TOP - used + 1)?;
+    let used = used + bytes.len();
+    if used > BYTES_TOP {
+        return Err(Stop::Refused(Refusal::Data {
+            file: number,
+            code: 308,
+            row: 0,
+            column: 0,
+        }));
+    }
+    let table = load_table(alloc, number, bytes.as_slice())?;
+    Ok((table, used))
+}
+
+fn load_table(alloc: Global, number: u32, bytes: &[u8]) -> Result<Table, Stop>
+    ensures table { Gives (loaded_as number (loaded bytes.now)) result }
+{
+    match load(alloc, bytes) {
+        Ok(table) => Ok(table),
+        Err(DataFault::Refused { code, row, column }) => Err(Stop::Refused(Refusal::Data {
+            file: number,
+            code,
+            row,
+            column,
+        })),
+        Err(DataFault::OutOfMemory) => Err(Stop::OutOfMemory),
+    }
+}

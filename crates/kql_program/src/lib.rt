@@ -1,0 +1,17 @@
+//! The top call: words and files in, the text of a table or one refusal out.
+#![tactic(auto)]
+
+mod command;
+mod ended;
+mod files;
+mod lines;
+mod memory;
+mod query;
+mod refusal;
+mod rows;
+mod top;
+
+pub use ended::{Ended, status};
+pub use memory::kql_in_memory;
+pub use refusal::Refusal;
+pub use top::kql;

@@ -1,0 +1,93 @@
+ghost use Rattle.std.specs.Prelude.{◌≡◌, IfOk, string_bytes};
+ghost use Rattle.kql_program.specs.Lines.{data_line, data_name, line_of, query_line, query_name, usage_line, usage_name};
+
+use crate::refusal::Refusal;
+use std::alloc::{AllocError, Global};
+
+/// The line of a refusal, with its line feed.
+pub(crate) fn line_of(alloc: Global, refusal: Refusal) -> Result<String, AllocError>
+    ensures { IfOk result (λ line. string_bytes line ≡ line_of refusal) }
+{
+    match refusal {
+        Refusal::Query { code, place } => query_line(alloc, place.line, place.column, code),
+        Refusal::Usage { word, code } => usage_line(alloc, word, code),
+        Refusal::Data {
+            file,
+            code,
+            row,
+            column,
+        } => data_line(alloc, file, code, row, column),
+    }
+}
+
+fn query_line(alloc: Global, line: u32, column: u32, code: u32) -> Result<String, AllocError>
+    ensures { IfOk result (λ text. string_bytes text ≡ query_line line column code) }
+{
+    let name = query_name(code);
+    format!(in alloc; "kql: {line}:{column}: {code} {name}\n")
+}
+
+fn usage_line(alloc: Global, word: u32, code: u32) -> Result<String, AllocError>
+    ensures { IfOk result (λ text. string_bytes text ≡ usage_line word code) }
+{
+    let name = usage_name(code);
+    format!(in alloc; "kql: word {word}: {code} {name}\n")
+}
+
+fn data_line(
+    alloc: Global,
+    file: u32,
+    code: u32,
+    row: u64,
+    column: u64,
+) -> Result<String, AllocError>
+    ensures { IfOk result (λ text. string_bytes text ≡ data_line file code row column) }
+{
+    let name = data_name(code);
+    format!(in alloc; "kql: file {file}: {code} {name} at {row}:{column}\n")
+}
+
+fn query_name(code: u32) -> &'static str
+    ensures { result.now ≡ query_name code }
+{
+    match code {
+        104 => "TextTooLong",
+        204 => "NotBuilt",
+        401 => "UnknownColumn",
+        404 => "WrongType",
+        410 => "UnknownTable",
+        _ => "",
+    }
+}
+
+fn usage_name(code: u32) -> &'static str
+    ensures { result.now ≡ usage_name code }
+{
+    match code {
+        601 => "NoCommand",
+        602 => "UnknownCommand",
+        603 => "UnknownOption",
+        606 => "NoQuery",
+        607 => "BadTable",
+        608 => "TableTwice",
+        610 => "TooManyTables",
+        _ => "",
+    }
+}
+
+fn data_name(code: u32) -> &'static str
+    ensures { result.now ≡ data_name code }
+{
+    match code {
+        204 => "NotBuilt",
+        301 => "NotUtf8",
+        302 => "NoHeader",
+        303 => "BadColumn",
+        304 => "ColumnTwice",
+        305 => "BadLength",
+        306 => "BadCell",
+        307 => "NoFile",
+        308 => "TooLong",
+        _ => "",
+    }
+}
