@@ -1,5 +1,5 @@
 -- Rows that fit.
-use Rattle.std.proofs.Common.{◌≡◌, ◌<◌, ℕ, zero, suc, get_or, List, [], ◌∷◌, map, length, refl, ap, arith}
+use Rattle.std.proofs.Common.{◌≡◌, ◌<◌, ℕ, zero, suc, get_or, List, [], ◌∷◌, map, length, refl, ap}
 use Rattle.std.specs.Prelude.{All, Some, slice_get}
 use Rattle.std.proofs.lemmas.List.Elements.{All-map}
 use Rattle.kql_values.specs.Seen.{row_at, cell_at}

@@ -49,3 +49,6 @@ pub type Places = Items<u64>;
 
 /// Bytes, as a file holds them.
 pub type Bytes = Items<u8>;
+
+#[cfg(test)]
+mod tests;
