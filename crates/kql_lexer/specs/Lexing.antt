@@ -5,7 +5,6 @@ use Rattle.std.specs.List.{filter_map}
 use Rattle.kql_lexer.specs.Pieces.{piece_of}
 use Rattle.kql_lexer.specs.Places.{place_at}
 use Rattle.kql_lexer.specs.declared.place.Place.{Place}
-use Rattle.kql_lexer.specs.declared.place.TheConstants.{MAX_BYTES}
 use Rattle.kql_lexer.specs.declared.token.Token.{Token}
 use Rattle.kql_lexer.specs.declared.token.TokenForm.TheVariants.{End}
 use Rattle.kql_lexer.specs.declared.token.Piece.{Piece}
@@ -72,5 +71,5 @@ end_mark text = record { place = place_at text (length text); form = End }
 -- the tokens of a text with the end mark, or its first fault
 unfoldable pub lexed : List ℕ → Result (List Token) Fault
 lexed text =
-    if nat_lt MAX_BYTES (length text) then Err (record { code = 104; place = place_at text 0 })
+    if nat_lt 262144 (length text) then Err (record { code = 104; place = place_at text 0 })
     else answer (faults_in text (pieces text)) (tokens_in text (pieces text) ++ end_mark text ∷ [])

@@ -3,7 +3,6 @@ use Rattle.std.specs.Prelude.{ℕ, Bool, true, false, ◌&&◌, codes, List, [],
 use Rattle.std.specs.List.{list_all}
 use Rattle.std.specs.Str.{bytes_eq}
 use Rattle.kql_lexer.specs.Bytes.{is_word_start, is_word_char}
-use Rattle.kql_lexer.specs.declared.keyword.TheConstants.{KEYWORDS}
 use Rattle.kql_lexer.specs.declared.keyword.Keyword.{Keyword}
 use Rattle.kql_lexer.specs.declared.keyword.Keyword.TheVariants as word
 
@@ -202,9 +201,25 @@ unfoldable pub keyword_among : List Keyword → List ℕ → Keyword
 keyword_among [] text = word.Other
 keyword_among (k ∷ ks) text = if bytes_eq (keyword_text k) text then k else keyword_among ks text
 
+-- every keyword but `Other`, the shorter ones first
+unfoldable pub keywords : List Keyword
+keywords =
+    word.Or ∷ word.In ∷ word.By ∷ word.On ∷ word.To ∷ word.And ∷ word.Has ∷ word.Asc ∷
+    word.Let ∷ word.InTilde ∷ word.Bag ∷ word.All ∷ word.Int ∷ word.Top ∷ word.True ∷ word.From ∷
+    word.Step ∷ word.With ∷ word.Kind ∷ word.Hint ∷ word.Desc ∷ word.Take ∷ word.Sort ∷ word.Scan ∷
+    word.Join ∷ word.Last ∷ word.None ∷ word.Long ∷ word.Time ∷ word.Bool ∷ word.Real ∷ word.Guid ∷
+    word.False ∷ word.Nulls ∷ word.Range ∷ word.Print ∷ word.Union ∷ word.Where ∷ word.Limit ∷ word.Count ∷
+    word.Order ∷ word.Parse ∷ word.Array ∷ word.First ∷ word.Outer ∷ word.Inner ∷ word.DollarLeft ∷ word.Regex ∷
+    word.Typeof ∷ word.DollarRight ∷ word.Extend ∷ word.Lookup ∷ word.Simple ∷ word.Output ∷ word.Double ∷ word.String ∷
+    word.HasCs ∷ word.Between ∷ word.Matches ∷ word.Default ∷ word.Project ∷ word.Relaxed ∷ word.Declare ∷ word.Decimal ∷
+    word.Dynamic ∷ word.Contains ∷ word.Endswith ∷ word.Distinct ∷ word.Datetime ∷ word.Timespan ∷ word.Leftsemi ∷ word.Leftanti ∷
+    word.Serialize ∷ word.Summarize ∷ word.Partition ∷ word.MvExpand ∷ word.Leftouter ∷ word.Fullouter ∷ word.Rightsemi ∷ word.Rightanti ∷
+    word.Startswith ∷ word.Rightouter ∷ word.ContainsCs ∷ word.EndswithCs ∷ word.MakeSeries ∷ word.Innerunique ∷ word.ProjectAway ∷ word.ProjectKeep ∷
+    word.StartswithCs ∷ word.WithMatchId ∷ word.ProjectRename ∷ []
+
 -- the keyword with this text, or `Other`
 unfoldable pub keyword_of : List ℕ → Keyword
-keyword_of text = keyword_among KEYWORDS text
+keyword_of text = keyword_among keywords text
 
 -- the keywords that are no names
 unfoldable pub is_reserved_keyword : Keyword → Bool

@@ -501,7 +501,7 @@ impl Keyword {
 }
 
 /// The keyword with this text, or `Other`.
-#[tactic(auto, unfolding(crate::specs::Words::keyword_of))]
+#[tactic(auto, unfolding(crate::specs::Words::keyword_of, crate::specs::Words::keywords))]
 pub fn keyword_of(text: &str) -> Keyword
     ensures keyword { result ≡ keyword_of text.now }
 {

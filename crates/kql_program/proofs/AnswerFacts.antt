@@ -1,5 +1,5 @@
 -- How answers follow one another.
-use Rattle.std.proofs.Common.{◌≡◌, List, [], ◌∷◌, refl, ap, subst, sym, ◌∙◌}
+use Rattle.std.proofs.Common.{◌≡◌, List, [], ◌∷◌, refl, subst, sym}
 use Rattle.std.specs.Prelude.{Result, Ok, Err, IsErrAnd}
 use Rattle.kql_program.specs.Refusals.{Answer, Computes, Gives, ◌>>=◌, unless}
 use Rattle.kql_program.specs.declared.refusal.Refusal.{Refusal}

@@ -1,6 +1,6 @@
 -- One more word of the command.
 use Rattle.std.proofs.Common.{◌≡◌, ◌<◌, ◌+◌, ◌∙◌, ℕ, suc, get_or, List, [], ◌∷◌, ◌++◌, length, map, take, drop, refl, ap, sym, arith, drop-cons}
-use Rattle.std.specs.Prelude.{Result, Ok, Err, String, string_bytes}
+use Rattle.std.specs.Prelude.{Ok, Err, String, string_bytes}
 use Rattle.std.specs.Global.{Global}
 use Rattle.std.proofs.lemmas.List.{get_or-map, length-map, map-append, take_more}
 use Rattle.kql_program.specs.Command.{name_in, table_faults, tables_faults, texts}

@@ -1,11 +1,11 @@
 -- What was read of the files.
-use Rattle.std.proofs.Common.{◌≡◌, ◌≤◌, ◌<◌, ◌+◌, ◌-◌, ◌↔◌, ◌∙◌, ℕ, suc, true, false, IsTrue, List, [], ◌∷◌, ◌++◌, length, map, take, drop, refl, ap, sym, arith, inl, inr}
+use Rattle.std.proofs.Common.{◌≡◌, ◌≤◌, ◌<◌, ◌+◌, ◌-◌, ◌↔◌, ◌∙◌, ℕ, true, false, IsTrue, List, length, take, refl, ap, sym, arith, inl, inr}
 use Rattle.std.specs.Prelude.{Option, Some, None, IsErrAnd, IsSome, IfSome, Result, Ok, Err, nat_le, nat_lt}
 use Rattle.std.proofs.lemmas.Bool.{cases_Bool}
 use Rattle.std.proofs.lemmas.Bool.Decides.{nat_tests}
 use Rattle.std.proofs.lemmas.List.{length-take, take_all}
 use Rattle.csv_io.specs.Load.{loaded}
-use Rattle.csv_io.specs.Faults.{Fault, IsFaultOf}
+use Rattle.csv_io.specs.Faults.{Fault}
 use Rattle.kql_lexer.specs.Answers.{IsFirstFault}
 use Rattle.kql_lexer.specs.Lexing.{lexed}
 use Rattle.kql_lexer.specs.Places.{place_at}

@@ -7,8 +7,9 @@ use Rattle.kql_program.specs.Answer.{answer}
 use Rattle.kql_program.specs.Endings.{IsQuiet, ending_of, refused_as}
 use Rattle.kql_program.specs.Files.{Files}
 use Rattle.kql_program.specs.Lines.{line_of, memory_line}
-use Rattle.kql_program.specs.Outcomes.{Adds, Ends, IsErrorLine, HasOutcome, IsAnswer, IsFaultless, IsLineOf, IsSame, Outside, SinkNow, Writes, WritesStop}
-use Rattle.kql_program.specs.Refusals.{Answer, Computes}
+use Rattle.kql_program.specs.Outcomes.{Adds, Ends, IsErrorLine, HasOutcome, IsAnswer, IsFaultless, IsLineOf, IsSame, MeetsFaults, Outside, Writes, WritesStop}
+use Rattle.kql_program.specs.Command.{words_faults}
+use Rattle.kql_program.specs.Refusals.{Answer, Computes, unless}
 use Rattle.kql_program.specs.declared.ended.Ended.{Ended}
 use Rattle.kql_program.specs.declared.ended.Ended.TheVariants as ended
 use Rattle.kql_program.specs.declared.refusal.Refusal.{Refusal}
@@ -70,18 +71,26 @@ outcome words files a b n e i h = record {
   complete = complete-told words files a b n e i h;
 }
 
+-- a text that was made
+abbrev result-of : List ℕ → Result (List ℕ) Stop
+result-of text = Ok text
+
+-- a stop in its place
+abbrev stopped-by : Stop → Result (List ℕ) Stop
+stopped-by s = Err s
+
 -- the text was made
-answer-ok : (words : List (List ℕ)) (files : Option Files) (a : Answer (List ℕ)) → IfSome files (λ told. answer words told ≡ a) → IsAnswer words files a
-answer-ok words None a h = tt
-answer-ok words (Some told) a h = sym h
+answer-ok : (words : List (List ℕ)) (files : Option Files) (text : List ℕ) → IfSome files (λ told. answer words told ≡ Ok text) → MeetsFaults words (result-of text) → IsAnswer words files (Ok text)
+answer-ok words None text h u = λ r e. cc (u r e)
+answer-ok words (Some told) text h u = sym h
 
 text-ends : (a : Answer (List ℕ)) (b n : Outside) (text : List ℕ) (e : Ended) → a ≡ Ok text → IsSame b.err n.err → Writes b.out n.out text ended.Table e → Ends a b n e
 text-ends a b n text e i same (inl w) = rw w.0 (record { text = text; is = i; whole = w.1; quiet = same })
 text-ends a b n text e i same (inr w) = rw w.0 (inl (record { text = text; is = i; cut = w.1; quiet = same }))
 
-pub outcome-text : (words : List (List ℕ)) (files : Option Files) (b n : Outside) (text : List ℕ) (e : Ended) → IfSome files (λ told. Computes (answer words told) (Ok text)) → IsSame b.err n.err
+pub outcome-text : (words : List (List ℕ)) (files : Option Files) (b n : Outside) (text : List ℕ) (e : Ended) → IfSome files (λ told. Computes (answer words told) (Ok text)) → MeetsFaults words (result-of text) → IsSame b.err n.err
     → Writes b.out n.out text ended.Table e → HasOutcome words files b n e
-outcome-text words files b n text e h same w = outcome words files (Ok text) b n e (answer-ok words files (Ok text) h) (text-ends (Ok text) b n text e refl same w)
+outcome-text words files b n text e h u same w = outcome words files (Ok text) b n e (answer-ok words files text h u) (text-ends (Ok text) b n text e refl same w)
 
 refused-ends : (a : Answer (List ℕ)) (b n : Outside) (r : Refusal) → a ≡ Err r → IsSame b.out n.out → n.err.written ≡ appended b.err.written (line_of r) → Ends a b n (refused_as r)
 refused-ends a b n (refusal.Query code place) i same w = record { is = i; quiet = same; line = w }
@@ -121,11 +130,6 @@ told_or : List (List ℕ) → Option Files → Answer (List ℕ) → Answer (Lis
 told_or words None a = a
 told_or words (Some told) a = answer words told
 
-told-is : (words : List (List ℕ)) (files : Option Files) (a : Answer (List ℕ)) → IsAnswer words files (told_or words files a)
-unfolding told_or
-told-is words None a = tt
-told-is words (Some told) a = refl
-
 told-refused : (words : List (List ℕ)) (files : Option Files) (r : Refusal) → IfSome files (λ told. answer words told ≡ Err r) → told_or words files (Err r) ≡ Err r
 unfolding told_or
 told-refused words None r h = refl
@@ -137,6 +141,17 @@ stand_in (stop.Refused r) = Err r
 stand_in stop.ReadFault = Ok []
 stand_in stop.OutOfMemory = Ok []
 
+stand-in-meets : (words : List (List ℕ)) (s : Stop) → MeetsFaults words (stopped-by s) → (r : Refusal) → unless (words_faults words) (tt {0}) ≡ Err r → stand_in s ≡ Err r
+unfolding stand_in
+stand-in-meets words (stop.Refused q) u r e = ap Err (refused-same q r (cc (u r e)))
+stand-in-meets words stop.ReadFault u r e = cc (u r e)
+stand-in-meets words stop.OutOfMemory u r e = cc (u r e)
+
+told-is : (words : List (List ℕ)) (files : Option Files) (s : Stop) → MeetsFaults words (stopped-by s) → IsAnswer words files (told_or words files (stand_in s))
+unfolding told_or
+told-is words None s u = stand-in-meets words s u
+told-is words (Some told) s u = refl
+
 stopped : (words : List (List ℕ)) (files : Option Files) (b n : Outside) (s : Stop) → IfSome files (λ told. Computes (answer words told) (Err s)) → (s ≡ stop.ReadFault → Rose b.shelf_faults n.shelf_faults)
     → IsStopped (told_or words files (stand_in s)) b n s
 unfolding stand_in
@@ -145,7 +160,7 @@ stopped words files b n stop.ReadFault h f = record { refused = λ r e. cc e; fa
 stopped words files b n stop.OutOfMemory h f = record { refused = λ r e. cc e; fault = f }
 
 -- the work stopped
-pub outcome-stop : (words : List (List ℕ)) (files : Option Files) (b n : Outside) (s : Stop) (e : Ended) → IfSome files (λ told. Computes (answer words told) (Err s))
+pub outcome-stop : (words : List (List ℕ)) (files : Option Files) (b n : Outside) (s : Stop) (e : Ended) → IfSome files (λ told. Computes (answer words told) (Err s)) → MeetsFaults words (stopped-by s)
     → (s ≡ stop.ReadFault → Rose b.shelf_faults n.shelf_faults) → IsSame b.out n.out → WritesStop b.err n.err s e → HasOutcome words files b n e
-outcome-stop words files b n s e h f same w =
-    outcome words files (told_or words files (stand_in s)) b n e (told-is words files (stand_in s)) (stop-ends (told_or words files (stand_in s)) b n s e (stopped words files b n s h f) same w)
+outcome-stop words files b n s e h u f same w =
+    outcome words files (told_or words files (stand_in s)) b n e (told-is words files s u) (stop-ends (told_or words files (stand_in s)) b n s e (stopped words files b n s h f) same w)

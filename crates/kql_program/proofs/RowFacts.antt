@@ -1,11 +1,8 @@
 -- The rows of a filter, and where there are none.
 use Rattle.std.proofs.Common.{◌≡◌, ℕ, List, refl}
-use Rattle.std.specs.Prelude.{Ok, Err, All, filter}
-use Rattle.std.proofs.lemmas.List.Elements.{All-filter}
-use Rattle.kql_values.specs.Table.{Grid, RowFits}
+use Rattle.std.specs.Prelude.{Ok, Err}
+use Rattle.kql_values.specs.Table.{Grid}
 use Rattle.kql_values.specs.declared.catalogue.Named.{Named}
-use Rattle.kql_values.specs.declared.schema.Column.{Column}
-use Rattle.kql_values.specs.declared.value.Value.{Value}
 use Rattle.kql_program.specs.Answer.{filtered}
 use Rattle.kql_program.specs.Binding.{column_named, kept, table_named}
 use Rattle.kql_program.specs.declared.query.Filter.{Filter}

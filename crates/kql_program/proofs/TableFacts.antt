@@ -1,6 +1,6 @@
 -- The tables of the words, one after another.
-use Rattle.std.proofs.Common.{◌≡◌, ◌≢◌, ◌≤◌, ◌<◌, ◌+◌, ◌∙◌, ◌&&◌, ℕ, zero, suc, Bool, true, false, get_or, List, [], ◌∷◌, ◌++◌, length, map, take, drop, refl, ap, sym, inl, inr, arith, append_assoc}
-use Rattle.std.specs.Prelude.{Option, Some, None, IfSome, IsErrAnd, Result, Ok, Err, String, string_bytes, not, nat_le, All}
+use Rattle.std.proofs.Common.{◌≡◌, ◌≤◌, ◌<◌, ◌+◌, ◌∙◌, ℕ, zero, suc, true, false, get_or, List, [], ◌∷◌, ◌++◌, length, map, take, drop, refl, ap, sym, inl, inr, arith, append_assoc}
+use Rattle.std.specs.Prelude.{Option, Some, None, IfSome, IsErrAnd, Result, Ok, Err, String, string_bytes, nat_le}
 use Rattle.std.specs.Global.{Global}
 use Rattle.std.specs.List.{list_any}
 use Rattle.std.specs.Str.{bytes_eq}
@@ -11,10 +11,9 @@ use Rattle.std.proofs.lemmas.List.Folds.{list_any_at}
 use Rattle.std.proofs.lemmas.Slice.Eq.{bytes_eq-Decides}
 use Rattle.kql_values.specs.Catalogues.{table_name}
 use Rattle.kql_values.specs.Named.{IsAbsent}
-use Rattle.kql_values.specs.Table.{Grid}
 use Rattle.kql_values.specs.declared.catalogue.Named.{Named}
 use Rattle.kql_program.specs.Command.{name_in, names_table, path_in, table_faults, tables_faults, texts}
-use Rattle.kql_program.specs.Files.{AddsTable, Files, file_bytes, named_as, table_in, table_of, tables_after, tables_from, with_first}
+use Rattle.kql_program.specs.Files.{AddsTable, Files, file_bytes, named_as, table_in, tables_after, tables_from, with_first}
 use Rattle.kql_program.specs.Refusals.{Answer, Computes, ◌>>=◌}
 use Rattle.kql_program.specs.declared.refusal.Refusal.{Refusal}
 use Rattle.kql_program.specs.declared.refusal.Stop.{Stop}

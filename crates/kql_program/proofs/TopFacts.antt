@@ -1,5 +1,5 @@
 -- The steps of the answer.
-use Rattle.std.proofs.Common.{◌≡◌, ◌≤◌, ◌<◌, ◌∙◌, ℕ, suc, get_or, List, [], ◌∷◌, length, map, drop, take, ◌-◌, refl, ap, subst, sym, arith, inl, inr}
+use Rattle.std.proofs.Common.{◌≡◌, ◌≤◌, ◌∙◌, ℕ, get_or, List, [], ◌∷◌, length, drop, take, ◌-◌, refl, ap, subst, sym, arith, inl, inr}
 use Rattle.std.specs.Prelude.{Option, Some, None, IfSome, IsErrAnd, Result, Ok, Err, String, string_bytes}
 use Rattle.std.specs.Global.{Global}
 use Rattle.std.proofs.lemmas.Bool.{cases_Bool}
@@ -12,6 +12,7 @@ use Rattle.kql_values.specs.declared.catalogue.Named.{Named}
 use Rattle.kql_program.specs.Answer.{answer, filtered, query_path, query_read, query_rows, table_words, words_read}
 use Rattle.kql_program.specs.Command.{is_option, run_faults, tables_faults, texts, words_faults}
 use Rattle.kql_program.specs.Files.{Files, tables_from}
+use Rattle.kql_program.specs.Outcomes.{MeetsFaults}
 use Rattle.kql_program.specs.Refusals.{Answer, Computes, Gives, ◌>>=◌, unless}
 use Rattle.kql_program.specs.declared.query.Filter.{Filter}
 use Rattle.kql_program.specs.declared.refusal.Refusal.{Refusal}
@@ -142,3 +143,37 @@ pub words-rest : (words : List (String Global)) → take (length words - 2) (dro
 words-rest words =
     let size = length-drop 2 words in
     take_all (length words - 2) (drop 2 words) (omega arith)
+
+-- a refusal, and a stop, in their places
+abbrev refused : Refusal → Answer (Unit {0})
+refused r = Err r
+
+abbrev halted : {X : Type 0} → Stop → Result X Stop
+halted s = Err s
+
+abbrev made : {X : Type 0} → X → Result X Stop
+made x = Ok x
+
+refused-same : (p q : Refusal) → refused p ≡ refused q → p ≡ q
+refused-same p q e = cc
+
+halted-same : {X : Type 0} (s t : Stop) → halted {X = X} s ≡ halted {X = X} t → s ≡ t
+halted-same s t e = cc
+
+-- no fault of the words
+pub meets-none : {X : Type 0} (words : List (List ℕ)) (x : Unit {0}) (r : Result X Stop) → Ok x ≡ unless (words_faults words) (tt {0}) → MeetsFaults words r
+meets-none words x r e = λ f q. cc (e ∙ q)
+
+-- the fault of the words
+pub meets-first : {X : Type 0} (words : List (List ℕ)) (f : Refusal) (r : Result X Stop) → Err f ≡ unless (words_faults words) (tt {0}) → IsErrAnd r (λ e. e ≡ stop.Refused f) → MeetsFaults words r
+meets-first words f (Ok x) e i = absurd i
+meets-first words f (Err s) e i = λ q p. ap Err (i ∙ ap stop.Refused (refused-same f q (e ∙ p)))
+
+-- a step that stopped
+pub meets-on : {X Y : Type 0} (words : List (List ℕ)) (s : Stop) (r : Result Y Stop) → MeetsFaults words (halted {X = X} s) → IsErrAnd r (λ e. e ≡ s) → MeetsFaults words r
+meets-on words s (Ok y) u i = absurd i
+meets-on words s (Err t) u i = λ f e. ap Err (i ∙ halted-same s (stop.Refused f) (u f e))
+
+-- a step that went on
+pub meets-past : {X Y : Type 0} (words : List (List ℕ)) (x : X) (r : Result Y Stop) → MeetsFaults words (made x) → MeetsFaults words r
+meets-past words x r u = λ f e. cc (u f e)

@@ -1,10 +1,16 @@
 -- The top call over sinks in memory.
-use Rattle.std.specs.Prelude.{◌≡◌, ◌≤◌, ℕ, List, [], ◌++◌, length, Result, Ok, Err}
+use Rattle.std.specs.Prelude.{◌≡◌, ◌≤◌, ℕ, List, [], ◌++◌, length, Some, Ok, Err}
 use Rattle.kql_outside.specs.Memory.{SinkState, room_left}
 use Rattle.kql_program.specs.declared.ended.Ended.{Ended}
+use Rattle.kql_program.specs.declared.ended.Ended.TheVariants.{OutOfMemory}
 use Rattle.kql_program.specs.Endings.{ending_of}
 use Rattle.kql_program.specs.Lines.{line_of, memory_line}
+use Rattle.kql_program.specs.Outcomes.{SinkNow, sink_now}
 use Rattle.kql_program.specs.Refusals.{Answer}
+
+-- a sink in memory, as the top call sees a sink
+abbrev pub in_memory : SinkState → SinkNow
+in_memory s = sink_now (Some s.bytes) (Some (room_left s)) s.count
 
 -- what an answer writes to the output
 abbrev pub output_text : Answer (List ℕ) → List ℕ
@@ -27,3 +33,9 @@ pub record Answers (a : Answer (List ℕ)) (out out_new err err_new : SinkState)
   pub ending : e ≡ ending_of a
   pub output : out_new.bytes ≡ out.bytes ++ output_text a
   pub error : err_new.bytes ≡ err.bytes ++ error_text a
+
+-- want of memory: its line, and nothing on the output
+pub record RunsOut (out out_new err err_new : SinkState) (e : Ended) : Type 0 where
+  pub ending : e ≡ OutOfMemory
+  pub output : out_new.bytes ≡ out.bytes
+  pub error : err_new.bytes ≡ err.bytes ++ memory_line

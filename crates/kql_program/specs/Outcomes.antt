@@ -2,7 +2,6 @@
 use Rattle.std.specs.Prelude.{◌≡◌, ◌⊎◌, ◌<◌, ℕ, List, length, Option, Some, None, IfSome, Result, Ok, Err}
 use Rattle.kql_outside.specs.Causes.{Rose}
 use Rattle.kql_outside.specs.Told.{IsCutShort, appended}
-use Rattle.kql_lexer.specs.declared.place.Place.{Place}
 use Rattle.kql_program.specs.declared.ended.Ended.{Ended}
 use Rattle.kql_program.specs.declared.ended.Ended.TheVariants as ended
 use Rattle.kql_program.specs.declared.refusal.Refusal.{Refusal}
@@ -10,15 +9,21 @@ use Rattle.kql_program.specs.declared.refusal.Refusal.TheVariants as refusal
 use Rattle.kql_program.specs.declared.refusal.Stop.{Stop}
 use Rattle.kql_program.specs.declared.refusal.Stop.TheVariants as stop
 use Rattle.kql_program.specs.Answer.{answer}
+use Rattle.kql_program.specs.Command.{words_faults}
 use Rattle.kql_program.specs.Endings.{IsQuiet, ending_of, refused_as}
 use Rattle.kql_program.specs.Files.{Files}
 use Rattle.kql_program.specs.Lines.{line_of, memory_line, read_fault_line}
-use Rattle.kql_program.specs.Refusals.{Answer}
+use Rattle.kql_program.specs.Refusals.{Answer, unless}
 
--- this is what the program answers to the words, where the shelf tells its files
+-- this is what the program answers to the words, where the shelf tells its files; where it does not, still the first
+-- fault of the words is the answer
 abbrev pub IsAnswer : List (List ℕ) → Option Files → Answer (List ℕ) → Type 0
-IsAnswer words None a = Unit {0}
+IsAnswer words None a = (r : Refusal) → unless (words_faults words) (tt {0}) ≡ Err r → a ≡ Err r
 IsAnswer words (Some files) a = a ≡ answer words files
+
+-- the first fault of the words is met, where they have one
+abbrev pub MeetsFaults : {X : Type 0} → List (List ℕ) → Result X Stop → Type 0
+MeetsFaults words result = (r : Refusal) → unless (words_faults words) (tt {0}) ≡ Err r → result ≡ Err (stop.Refused r)
 
 -- a sink at one moment: what it holds and how much more it takes, where that is told, and its count of faults
 pub record SinkNow : Type 0 where

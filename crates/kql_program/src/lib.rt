@@ -15,3 +15,6 @@ pub use ended::{Ended, status};
 pub use memory::kql_in_memory;
 pub use refusal::Refusal;
 pub use top::kql;
+
+#[cfg(test)]
+mod tests;

@@ -1,16 +1,19 @@
-ghost use Rattle.std.specs.Prelude.{◌≡◌, ◌⊎◌};
+ghost use Rattle.std.specs.Prelude.{◌≡◌, ◌⊎◌, Some};
 ghost use Rattle.kql_program.specs.Answer.{answer};
 ghost use Rattle.kql_program.specs.Command.{texts};
-ghost use Rattle.kql_program.specs.InMemory.{Answers, HaveRoom};
+ghost use Rattle.kql_program.specs.InMemory.{Answers, HaveRoom, RunsOut, in_memory};
+ghost use Rattle.kql_program.specs.Outcomes.{HasOutcome, outside};
 
 use crate::ended::Ended;
 use crate::top::kql;
 use kql_outside::{CleanShelf, CleanSink, Gate};
 use std::alloc::Global;
+use std::thread::Threads;
 
 /// The top call over files and sinks in memory. Where the sinks have room for the texts, its ending and its bytes are
-/// those of the answer, or the ending is want of memory.
-pub fn kql_in_memory<G: Gate + Sync>(
+/// those of the answer, or of want of memory.
+pub fn kql_in_memory<R: Threads + Sync, G: Gate + Sync>(
+    rt: &R,
     alloc: Global,
     words: &[String],
     shelf: &mut CleanShelf,
@@ -18,8 +21,15 @@ pub fn kql_in_memory<G: Gate + Sync>(
     err: &mut CleanSink,
     gate: &G,
 ) -> Ended
+    ensures files { shelf.new.files ≡ shelf.old.files }
+
+    // What `kql` says, where there may be too little room too.
+    ensures outcome { HasOutcome (texts words.now) (Some shelf.old.files)
+        (outside 0 (in_memory out.old) (in_memory err.old))
+        (outside 0 (in_memory out.new) (in_memory err.new)) result }
+
     ensures answers { HaveRoom (answer (texts words.now) shelf.old.files) out.old err.old →
-        Answers (answer (texts words.now) shelf.old.files) out.old out.new err.old err.new result ⊎ (result ≡ Ended.OutOfMemory) }
+        Answers (answer (texts words.now) shelf.old.files) out.old out.new err.old err.new result ⊎ RunsOut out.old out.new err.old err.new result }
 {
-    kql(alloc, words, shelf, out, err, gate)
+    kql(rt, alloc, words, shelf, out, err, gate)
 }

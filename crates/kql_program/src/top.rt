@@ -2,7 +2,7 @@ ghost use Rattle.std.specs.Prelude.{◌≡◌, ◌≤◌, Err, IfSome};
 ghost use Rattle.kql_outside.specs.Causes.{Rose};
 ghost use Rattle.kql_program.specs.Answer.{answer, query_rows};
 ghost use Rattle.kql_program.specs.Command.{texts};
-ghost use Rattle.kql_program.specs.Outcomes.{HasOutcome, Writes, WritesStop, outside, sink_now};
+ghost use Rattle.kql_program.specs.Outcomes.{HasOutcome, MeetsFaults, Writes, WritesStop, outside, sink_now};
 ghost use Rattle.kql_program.specs.Refusals.{Computes};
 ghost use Rattle.kql_program.specs.declared.refusal.Stop.TheVariants as stop;
 
@@ -16,6 +16,7 @@ use csv_io::table_text;
 use kql_outside::{Gate, Shelf, Sink, write_all};
 use kql_values::{Bytes, Table};
 use std::alloc::Global;
+use std::thread::Threads;
 
 const READ_FAULT_LINE: &str = "kql: read fault\n";
 
@@ -27,6 +28,7 @@ fn query_rows<F: Shelf>(alloc: Global, words: &[String], shelf: &mut F) -> Resul
     ensures later { F.faults shelf.old ≤ F.faults shelf.new }
     ensures failed { result ≡ Err stop.ReadFault → Rose (F.faults shelf.old) (F.faults shelf.new) }
     ensures rows { IfSome (F.files shelf.old) (λ files. Computes (query_rows (texts words.now) files) result) }
+    ensures usage { MeetsFaults (texts words.now) result }
 {
     check_words(words)?;
     let filter = read_query(alloc, shelf, words[1].as_str())?;
@@ -40,6 +42,7 @@ fn query_text<F: Shelf>(alloc: Global, words: &[String], shelf: &mut F) -> Resul
     ensures later { F.faults shelf.old ≤ F.faults shelf.new }
     ensures failed { result ≡ Err stop.ReadFault → Rose (F.faults shelf.old) (F.faults shelf.new) }
     ensures text { IfSome (F.files shelf.old) (λ files. Computes (answer (texts words.now) files) result) }
+    ensures usage { MeetsFaults (texts words.now) result }
 {
     let rows = query_rows(alloc, words, shelf)?;
     Ok(table_text(alloc, &rows)?)
@@ -49,8 +52,9 @@ fn query_text<F: Shelf>(alloc: Global, words: &[String], shelf: &mut F) -> Resul
 /// writes the text of its table to `out`, or one line for a refusal to `err`.
 ///
 /// The words are `run QUERY NAME=PATH ..`, without the program's name. The text is made whole before its first byte
-/// is written. No result depends on `gate`, which is not entered yet.
-pub fn kql<F: Shelf, O: Sink, E: Sink, G: Gate + Sync>(
+/// is written. No result depends on the runtime or on `gate`: no worker is started yet, and no gate entered.
+pub fn kql<R: Threads + Sync, F: Shelf, O: Sink, E: Sink, G: Gate + Sync>(
+    _rt: &R,
     alloc: Global,
     words: &[String],
     shelf: &mut F,

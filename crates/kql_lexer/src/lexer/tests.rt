@@ -1,6 +1,5 @@
 use super::{LexFault, lex};
 use crate::keyword::{Keyword, is_reserved, is_word, keyword_of};
-use crate::place::MAX_BYTES;
 use crate::token::{Token, TokenForm};
 use std::alloc::{AllocError, Global};
 use std::test::Fail;
@@ -77,12 +76,12 @@ fn tokens_and_refusals(rt: HostRuntime) -> Result<(), Fail> {
         let got = shown(rt.alloc(), text.as_bytes())?;
         assert_eq!(rt; got.as_str(), want, "at {text:?}");
     }
-    let longest = vec![in rt.alloc(); b'a'; MAX_BYTES]?;
+    let longest = vec![in rt.alloc(); b'a'; 262_144]?;
     assert_eq!(rt;
         lex(rt.alloc(), longest.as_slice()).map(|t| t.len()).ok(),
         Some(2)
     );
-    let longer = vec![in rt.alloc(); b'a'; MAX_BYTES + 1]?;
+    let longer = vec![in rt.alloc(); b'a'; 262_145]?;
     let got = shown(rt.alloc(), longer.as_slice())?;
     assert_eq!(rt; got.as_str(), "104 at 1:1:0");
     Ok(())

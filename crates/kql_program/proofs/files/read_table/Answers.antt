@@ -1,4 +1,4 @@
-use Rattle.std.proofs.Common.{Err, ◌≡◌, ◌≤◌, ◌<◌, ◌+◌, ◌∙◌, ap, arith, length}
+use Rattle.std.proofs.Common.{Err, ◌≤◌, ◌<◌, ◌+◌, ap, arith, length}
 use Rattle.kql_program.specs.Files.{bytes_top, loaded_as}
 use Rattle.csv_io.specs.Load.{loaded}
 use Rattle.kql_program.proofs.AnswerFacts.{gives-along}

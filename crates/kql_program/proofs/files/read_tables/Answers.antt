@@ -1,7 +1,6 @@
-use Rattle.std.proofs.Common.{◌≡◌, ◌≤◌, ◌<◌, ◌+◌, ◌∙◌, [], ◌∷◌, ◌++◌, ap, arith, length, map, sym, take}
+use Rattle.std.proofs.Common.{◌≤◌, ◌<◌, ◌∙◌, [], ◌∷◌, ◌++◌, ap, arith, length, map, sym, take}
 use Rattle.std.proofs.lemmas.Grind.{common_steps}
 use Rattle.std.specs.Prelude.{string_bytes}
-use Rattle.kql_values.specs.Catalogues.{table_name}
 use Rattle.kql_program.specs.Command.{name_in, texts}
 use Rattle.kql_program.proofs.CommandFacts.{names-more}
 use Rattle.kql_program.proofs.TableFacts.{absent, clean, few-words, told-end, told-next, told-stop}

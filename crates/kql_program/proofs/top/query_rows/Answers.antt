@@ -1,6 +1,7 @@
 use Rattle.std.proofs.Common.{◌∙◌, ◌-◌, ap, drop, length, take}
 use Rattle.std.specs.Prelude.{string_bytes}
-use Rattle.kql_program.proofs.TopFacts.{checked, rows-query, rows-rows, rows-tables, rows-words, words-rest}
+use Rattle.kql_program.specs.Command.{texts}
+use Rattle.kql_program.proofs.TopFacts.{meets-first, meets-none, rows-query, rows-rows, rows-tables, rows-words, words-rest}
 use Rattle.kql_program.proofs.top.query_rows.Goals as goal
 
 pub returns-in_err-check_words-clause-rows : goal.returns-in_err-check_words-clause-rows
@@ -20,3 +21,15 @@ pub returns-clause-rows : goal.returns-clause-rows
 returns-clause-rows g c =
     let path = c.as_str.ensures.value ∙ ap string_bytes c.index-words-1.is in
     rows-rows _ _ c.args.words.now _ c.as_str.result.now (take (length c.args.words.now - 2) (drop 2 c.args.words.now)) _ _ _ _ c.in_ok-check_words.ensures.checked path c.in_ok-filter.ensures.query c.in_ok-filter.ensures.files (words-rest c.args.words.now) c.in_ok-catalogue.ensures.tables c.filter_rows.ensures.rows
+
+pub returns-in_err-check_words-clause-usage : goal.returns-in_err-check_words-clause-usage
+returns-in_err-check_words-clause-usage g c = meets-first (texts c.args.words.now) _ _ c.in_err-check_words.ensures.checked c.from_residual.ensures.1
+
+pub returns-in_err-filter-clause-usage : goal.returns-in_err-filter-clause-usage
+returns-in_err-filter-clause-usage g c = meets-none (texts c.args.words.now) _ _ c.in_ok-check_words.ensures.checked
+
+pub returns-in_err-catalogue-clause-usage : goal.returns-in_err-catalogue-clause-usage
+returns-in_err-catalogue-clause-usage g c = meets-none (texts c.args.words.now) _ _ c.in_ok-check_words.ensures.checked
+
+pub returns-clause-usage : goal.returns-clause-usage
+returns-clause-usage g c = meets-none (texts c.args.words.now) _ _ c.in_ok-check_words.ensures.checked

@@ -1,0 +1,83 @@
+//! The program `kql`: the top call over the files and the streams of the system. Its words are those of the command.
+#![tactic(auto)]
+
+use kql_outside::{DirShelf, OpenGate, StreamSink};
+use kql_program::{Ended, kql, status};
+use std::io::ErrorKind;
+use std::process::ExitCode;
+use std::rt::Env;
+use std::{env, io};
+
+const HELP: &str = "\
+kql: answers a query of the Kusto Query Language over tables in CSV files.
+
+    kql run QUERY NAME=PATH ..
+
+QUERY is the path of a file with the query, and each NAME=PATH gives the CSV file
+of a table. The answer is CSV on standard output. A query or file that is refused
+is told in one line on standard error, with its place.
+
+    kql --help        this text
+    kql --version     the version
+
+Exit status: 0 the answer was written, 1 the query is refused, 2 a word of the
+command is refused, 3 a file is refused, 4 a file could not be read, 5 the answer
+could not be written, 6 there was no memory.
+";
+
+const VERSION: &str = "kql 0.1.0\n";
+
+// The words behind the program's name.
+fn words_of<R: Env + AllocGlobal>(rt: &R) -> io::Result<Vec<String>> {
+    let mut words = Vec::new(rt.alloc());
+    for word in env::args(rt)?.skip(1) {
+        words.push(word)?;
+    }
+    Ok(words)
+}
+
+// What is told of the program itself, if the words ask for it.
+fn told(words: &[String]) -> Option<&'static str> {
+    match words.first() {
+        Some(word) => match word.as_str() {
+            "--help" | "-h" | "help" => Some(HELP),
+            "--version" => Some(VERSION),
+            _ => None,
+        },
+        None => None,
+    }
+}
+
+// The status after words that could not be read.
+fn wordless(rt: &HostRuntime, error: io::Error) -> io::Result<ExitCode> {
+    if error.kind() == ErrorKind::OutOfMemory {
+        rt.eprint("kql: out of memory\n")?;
+        return Ok(ExitCode::from(status(&Ended::OutOfMemory)));
+    }
+    rt.eprint("kql: a word is not UTF-8\n")?;
+    Ok(ExitCode::from(2))
+}
+
+fn main(rt: HostRuntime) -> io::Result<ExitCode> {
+    let words = match words_of(&rt) {
+        Ok(words) => words,
+        Err(error) => return wordless(&rt, error),
+    };
+    if let Some(text) = told(&words) {
+        rt.print(text)?;
+        return Ok(ExitCode::SUCCESS);
+    }
+    let mut shelf = DirShelf::new(&rt);
+    let mut out = StreamSink::new(rt.stdout());
+    let mut err = StreamSink::new(rt.stderr());
+    let ended = kql(
+        &rt,
+        rt.alloc(),
+        &words,
+        &mut shelf,
+        &mut out,
+        &mut err,
+        &OpenGate,
+    );
+    Ok(ExitCode::from(status(&ended)))
+}
