@@ -1,0 +1,14 @@
+pub mod ArrayLaws
+pub mod ArrayLemmas
+pub mod BagForms
+pub mod BagLaws
+pub mod BagLemmas
+pub mod FormLemmas
+pub mod HashSteps
+pub mod JsonForms
+pub mod LevelCounts
+pub mod PartLemmas
+pub mod PrintFacts
+pub mod ReadBack
+pub mod SetLaws
+pub mod SetLemmas

@@ -1,0 +1,6 @@
+use Rattle.kql_dynamic.proofs.BagForms.{keys-form}
+use Rattle.kql_dynamic.proofs.bags.bag_keys.Goals as goal
+
+pub returns-in_ok-keys_of-in-Some-clause-form :
+    goal.returns-in_ok-keys_of-in-Some-clause-form
+returns-in_ok-keys_of-in-Some-clause-form c = rw c.in_ok-keys_of-in-Some.ensures (keys-form c.in-Some.entries.now)

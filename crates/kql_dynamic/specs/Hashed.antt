@@ -1,0 +1,19 @@
+-- What a dynamic value feeds to a hasher.
+use Rattle.std.specs.Prelude.{◌++◌, length, flat_map}
+use Rattle.std.specs.Hash as fed
+use Rattle.std.specs.Hash.{HashWrites}
+use Rattle.kql_values.specs.declared.dynamic.Dyn.{Dyn, fold-Dyn}
+use Rattle.kql_values.specs.declared.dynamic.Dyn.TheOpen.{Dyn-F}
+
+-- what a value feeds, from what its parts feed: an array and a bag feed how many parts there are first
+abbrev pub writes_step : Dyn-F HashWrites → HashWrites
+writes_step Dyn-F.Null = fed.u8 0
+writes_step (Dyn-F.Bool b) = fed.bool b
+writes_step (Dyn-F.Long n) = fed.i64 n
+writes_step (Dyn-F.Text t) = fed.str t
+writes_step (Dyn-F.Array parts) = fed.usize (length parts) ++ flat_map (λ w. w) parts
+writes_step (Dyn-F.Bag entries) = fed.usize (length entries) ++ flat_map (λ e. fed.str e.0 ++ e.1) entries
+
+-- what a value feeds
+unfoldable pub writes_of : Dyn → HashWrites
+writes_of = fold-Dyn HashWrites writes_step

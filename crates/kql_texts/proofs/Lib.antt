@@ -1,0 +1,9 @@
+pub mod CharFacts
+pub mod FoldFacts
+pub mod FunctionFacts
+pub mod MarkFacts
+pub mod PieceFacts
+pub mod PlaceFacts
+pub mod StandFacts
+pub mod TermChars
+pub mod TermFacts

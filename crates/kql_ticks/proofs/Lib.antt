@@ -1,0 +1,9 @@
+pub mod BackLemmas
+pub mod BinLemmas
+pub mod BoundLemmas
+pub mod DayLemmas
+pub mod DigitLemmas
+pub mod NumberLemmas
+pub mod PeriodLemmas
+pub mod SpanLemmas
+pub mod TextLemmas

@@ -1,0 +1,181 @@
+ghost use Rattle.std.specs.Prelude.{◌≡◌, ◌+◌, ◌<◌, ◌≤◌, pos, length, option_map, IfSome};
+ghost use Rattle.kql_ticks.specs.Forms.{before_z, date_in, day_of_date, fraction_in, minutes_in, moment_at, moment_in, moment_of, seconds_in, size_of, time_in, time_of_day_in};
+
+use crate::days::day_number;
+use crate::numbers::{number, share};
+use crate::periods::{DAY, HOUR, MINUTE, SECOND};
+use jiff_core::civil::{Date, days_in_month};
+
+/// The datetime that a text is, or none.
+///
+/// A datetime is `yyyy-mm-dd`, alone or followed by `T` or one space and `hh:mm`, `hh:mm:ss` or `hh:mm:ss.f` with one to
+/// seven digits, and there maybe `Z`. The date is one that the calendar has, from 0001-01-01 to 9999-12-31.
+#[tactic(auto, unfolding(crate::specs::Forms::moment_in))]
+pub fn read_moment(t: &str) -> Option<i64>
+    ensures value { result ≡ option_map pos (moment_in t.now) }
+{
+    let t = t.as_bytes();
+    let split = t.len().min(10);
+    let day = read_date(&t[..split])?;
+    let ticks = read_time_of_day(&t[split..])?;
+    Some((DAY * day as u64 + ticks) as i64)
+}
+
+/// The datetime of a year, month, day, hour and minute, or none where there is none.
+#[tactic(auto, unfolding(crate::specs::Forms::moment_at))]
+pub fn make_moment(year: i64, month: i64, day: i64, hour: i64, minute: i64) -> Option<i64>
+    ensures value { result ≡ option_map pos (moment_at year month day hour minute) }
+{
+    let year = size_of(year)?;
+    let month = size_of(month)?;
+    let day = size_of(day)?;
+    let hour = size_of(hour)?;
+    let minute = size_of(minute)?;
+    moment_of(year, month, day, hour, minute)
+}
+
+fn size_of(n: i64) -> Option<u64>
+    ensures value { result ≡ size_of n }
+{
+    if n < 0 {
+        return None;
+    }
+    Some(n as u64)
+}
+
+#[tactic(auto, unfolding(crate::specs::Forms::moment_of))]
+fn moment_of(year: u64, month: u64, day: u64, hour: u64, minute: u64) -> Option<i64>
+    ensures value { result ≡ option_map pos (moment_of year month day hour minute) }
+{
+    let day = day_of_date(year, month, day)?;
+    if hour >= 24 || minute >= 60 {
+        return None;
+    }
+    Some((DAY * day as u64 + (HOUR * hour + MINUTE * minute)) as i64)
+}
+
+// yyyy-mm-dd, as a day.
+#[tactic(auto, unfolding(crate::specs::Forms::date_in))]
+fn read_date(t: &[u8]) -> Option<u32>
+    ensures value { result ≡ date_in t.now }
+    ensures bound { IfSome result (λ n. n < 3652059) }
+{
+    if t.len() != 10 || t[4] != b'-' || t[7] != b'-' {
+        return None;
+    }
+    let year = number(&t[0..4])?;
+    let month = number(&t[5..7])?;
+    let day = number(&t[8..10])?;
+    day_of_date(year, month, day)
+}
+
+// The day of a date, if the calendar has it.
+#[tactic(auto, unfolding(crate::specs::Forms::day_of_date))]
+fn day_of_date(year: u64, month: u64, day: u64) -> Option<u32>
+    ensures value { result ≡ day_of_date year month day }
+    ensures bound { IfSome result (λ n. n < 3652059) }
+{
+    if year < 1 || year > 9999 || month < 1 || month > 12 {
+        return None;
+    }
+    if day < 1 || day > days_in_month(year as i16, month as u8) as u64 {
+        return None;
+    }
+    Some(day_number(Date::constrain(year as i16, month as u8, day as u8)))
+}
+
+// `T` or a space, a time and maybe `Z`; or nothing.
+#[tactic(auto, unfolding(crate::specs::Forms::time_of_day_in))]
+fn read_time_of_day(t: &[u8]) -> Option<u64>
+    ensures value { result ≡ time_of_day_in t.now }
+    ensures bound { IfSome result (λ n. n < 864000000000) }
+{
+    match t {
+        [] => Some(0),
+        [b, rest @ ..] => {
+            if *b != b'T' && *b != b' ' {
+                return None;
+            }
+            read_time(before_z(rest))
+        }
+    }
+}
+
+// The text before a last `Z`, or the whole text.
+#[tactic(auto, unfolding(crate::specs::Forms::before_z))]
+fn before_z(t: &[u8]) -> &[u8]
+    ensures { result.now ≡ before_z t.now }
+{
+    if t.is_empty() || t[t.len() - 1] != b'Z' {
+        return t;
+    }
+    &t[..t.len() - 1]
+}
+
+// hh:mm, hh:mm:ss, or hh:mm:ss and a fraction.
+#[tactic(auto, unfolding(crate::specs::Forms::time_in))]
+pub(crate) fn read_time(t: &[u8]) -> Option<u64>
+    ensures value { result ≡ time_in t.now }
+    ensures bound { IfSome result (λ n. n < 864000000000) }
+{
+    let split = t.len().min(5);
+    let minutes = read_minutes(&t[..split])?;
+    let seconds = read_seconds(&t[split..])?;
+    Some(minutes + seconds)
+}
+
+// hh:mm
+#[tactic(auto, unfolding(crate::specs::Forms::minutes_in))]
+fn read_minutes(t: &[u8]) -> Option<u64>
+    ensures value { result ≡ minutes_in t.now }
+    ensures bound { IfSome result (λ n. n ≤ 863400000000) }
+{
+    if t.len() != 5 || t[2] != b':' {
+        return None;
+    }
+    let hours = number(&t[0..2])?;
+    let minutes = number(&t[3..5])?;
+    if hours >= 24 || minutes >= 60 {
+        return None;
+    }
+    Some(HOUR * hours + MINUTE * minutes)
+}
+
+// `:ss` and maybe a fraction; or nothing.
+#[tactic(auto, unfolding(crate::specs::Forms::seconds_in))]
+fn read_seconds(t: &[u8]) -> Option<u64>
+    ensures value { result ≡ seconds_in t.now }
+    ensures bound { IfSome result (λ n. n < 600000000) }
+{
+    match t {
+        [] => Some(0),
+        [b, rest @ ..] => {
+            if *b != b':' || rest.len() < 2 {
+                return None;
+            }
+            let seconds = number(&rest[0..2])?;
+            let fraction = read_fraction(&rest[2..])?;
+            if seconds >= 60 {
+                return None;
+            }
+            Some(SECOND * seconds + fraction)
+        }
+    }
+}
+
+// `.` and one to seven digits of a second; or nothing.
+#[tactic(auto, unfolding(crate::specs::Forms::fraction_in))]
+fn read_fraction(t: &[u8]) -> Option<u64>
+    ensures value { result ≡ fraction_in t.now }
+    ensures bound { IfSome result (λ n. n < 10000000) }
+{
+    match t {
+        [] => Some(0),
+        [b, rest @ ..] => {
+            if *b != b'.' || rest.is_empty() || rest.len() > 7 {
+                return None;
+            }
+            share(SECOND, rest)
+        }
+    }
+}
