@@ -6,3 +6,4 @@ pub mod OutcomeFacts
 pub mod RowFacts
 pub mod TableFacts
 pub mod TopFacts
+pub mod WordFacts

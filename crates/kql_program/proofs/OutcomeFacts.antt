@@ -7,7 +7,7 @@ use Rattle.kql_program.specs.Answer.{answer}
 use Rattle.kql_program.specs.Endings.{IsQuiet, ending_of, refused_as}
 use Rattle.kql_program.specs.Files.{Files}
 use Rattle.kql_program.specs.Lines.{line_of, memory_line}
-use Rattle.kql_program.specs.Outcomes.{Adds, Ends, IsErrorLine, HasOutcome, IsAnswer, IsFaultless, IsLineOf, IsSame, MeetsFaults, Outside, Writes, WritesStop}
+use Rattle.kql_program.specs.Outcomes.{Adds, Ends, IsErrorLine, HasOutcome, IsAnswer, IsFaultless, IsLineOf, IsSame, MeetsFaults, Outside, RefusesWords, Writes, WritesStop}
 use Rattle.kql_program.specs.Command.{words_faults}
 use Rattle.kql_program.specs.Refusals.{Answer, Computes, unless}
 use Rattle.kql_program.specs.declared.ended.Ended.{Ended}
@@ -81,7 +81,7 @@ stopped-by s = Err s
 
 -- the text was made
 answer-ok : (words : List (List ℕ)) (files : Option Files) (text : List ℕ) → IfSome files (λ told. answer words told ≡ Ok text) → MeetsFaults words (result-of text) → IsAnswer words files (Ok text)
-answer-ok words None text h u = λ r e. cc (u r e)
+answer-ok words None text h u = record { first = λ r e. cc (u.first r e); no_other = λ word code e. cc e }
 answer-ok words (Some told) text h u = sym h
 
 text-ends : (a : Answer (List ℕ)) (b n : Outside) (text : List ℕ) (e : Ended) → a ≡ Ok text → IsSame b.err n.err → Writes b.out n.out text ended.Table e → Ends a b n e
@@ -141,11 +141,14 @@ stand_in (stop.Refused r) = Err r
 stand_in stop.ReadFault = Ok []
 stand_in stop.OutOfMemory = Ok []
 
-stand-in-meets : (words : List (List ℕ)) (s : Stop) → MeetsFaults words (stopped-by s) → (r : Refusal) → unless (words_faults words) (tt {0}) ≡ Err r → stand_in s ≡ Err r
+stand-in-meets : (words : List (List ℕ)) (s : Stop) → MeetsFaults words (stopped-by s) → RefusesWords words (stand_in s)
 unfolding stand_in
-stand-in-meets words (stop.Refused q) u r e = ap Err (refused-same q r (cc (u r e)))
-stand-in-meets words stop.ReadFault u r e = cc (u r e)
-stand-in-meets words stop.OutOfMemory u r e = cc (u r e)
+stand-in-meets words (stop.Refused q) u = record {
+  first = λ r e. ap Err (refused-same q r (cc (u.first r e)));
+  no_other = λ word code e. u.no_other word code (cc e);
+}
+stand-in-meets words stop.ReadFault u = record { first = λ r e. cc (u.first r e); no_other = λ word code e. cc e }
+stand-in-meets words stop.OutOfMemory u = record { first = λ r e. cc (u.first r e); no_other = λ word code e. cc e }
 
 told-is : (words : List (List ℕ)) (files : Option Files) (s : Stop) → MeetsFaults words (stopped-by s) → IsAnswer words files (told_or words files (stand_in s))
 unfolding told_or

@@ -12,10 +12,11 @@ use Rattle.kql_values.specs.declared.catalogue.Named.{Named}
 use Rattle.kql_program.specs.Answer.{answer, filtered, query_path, query_read, query_rows, table_words, words_read}
 use Rattle.kql_program.specs.Command.{is_option, run_faults, tables_faults, texts, words_faults}
 use Rattle.kql_program.specs.Files.{Files, tables_from}
-use Rattle.kql_program.specs.Outcomes.{MeetsFaults}
+use Rattle.kql_program.specs.Outcomes.{MeetsFaults, RefusesNoWord}
 use Rattle.kql_program.specs.Refusals.{Answer, Computes, Gives, ◌>>=◌, unless}
 use Rattle.kql_program.specs.declared.query.Filter.{Filter}
 use Rattle.kql_program.specs.declared.refusal.Refusal.{Refusal}
+use Rattle.kql_program.specs.declared.refusal.Refusal.TheVariants as refusal
 use Rattle.kql_program.specs.declared.refusal.Stop.{Stop}
 use Rattle.kql_program.specs.declared.refusal.Stop.TheVariants as stop
 use Rattle.kql_program.proofs.AnswerFacts.{computes, goes_on, raised, stops, unless-err, unless-ok}
@@ -157,23 +158,32 @@ made x = Ok x
 refused-same : (p q : Refusal) → refused p ≡ refused q → p ≡ q
 refused-same p q e = cc
 
+stopped-same : (p q : Refusal) → stop.Refused p ≡ stop.Refused q → p ≡ q
+stopped-same p q e = cc
+
 halted-same : {X : Type 0} (s t : Stop) → halted {X = X} s ≡ halted {X = X} t → s ≡ t
 halted-same s t e = cc
 
 -- no fault of the words
-pub meets-none : {X : Type 0} (words : List (List ℕ)) (x : Unit {0}) (r : Result X Stop) → Ok x ≡ unless (words_faults words) (tt {0}) → MeetsFaults words r
-meets-none words x r e = λ f q. cc (e ∙ q)
+pub meets-none : {X : Type 0} (words : List (List ℕ)) (x : Unit {0}) (r : Result X Stop) → Ok x ≡ unless (words_faults words) (tt {0}) → RefusesNoWord r → MeetsFaults words r
+meets-none words x r e n = record { first = λ f q. cc (e ∙ q); no_other = λ word code q. absurd (n word code q) }
 
 -- the fault of the words
 pub meets-first : {X : Type 0} (words : List (List ℕ)) (f : Refusal) (r : Result X Stop) → Err f ≡ unless (words_faults words) (tt {0}) → IsErrAnd r (λ e. e ≡ stop.Refused f) → MeetsFaults words r
 meets-first words f (Ok x) e i = absurd i
-meets-first words f (Err s) e i = λ q p. ap Err (i ∙ ap stop.Refused (refused-same f q (e ∙ p)))
+meets-first {X = X} words f (Err s) e i = record {
+  first = λ q p. ap Err (i ∙ ap stop.Refused (refused-same f q (e ∙ p)));
+  no_other = λ word code p. sym e ∙ ap Err (stopped-same f (refusal.Usage word code) (sym i ∙ halted-same {X = X} s (stop.Refused (refusal.Usage word code)) p));
+}
 
 -- a step that stopped
 pub meets-on : {X Y : Type 0} (words : List (List ℕ)) (s : Stop) (r : Result Y Stop) → MeetsFaults words (halted {X = X} s) → IsErrAnd r (λ e. e ≡ s) → MeetsFaults words r
 meets-on words s (Ok y) u i = absurd i
-meets-on words s (Err t) u i = λ f e. ap Err (i ∙ halted-same s (stop.Refused f) (u f e))
+meets-on {Y = Y} words s (Err t) u i = record {
+  first = λ f e. ap Err (i ∙ halted-same s (stop.Refused f) (u.first f e));
+  no_other = λ word code p. u.no_other word code (ap Err (sym i ∙ halted-same {X = Y} t (stop.Refused (refusal.Usage word code)) p));
+}
 
 -- a step that went on
-pub meets-past : {X Y : Type 0} (words : List (List ℕ)) (x : X) (r : Result Y Stop) → MeetsFaults words (made x) → MeetsFaults words r
-meets-past words x r u = λ f e. cc (u f e)
+pub meets-past : {X Y : Type 0} (words : List (List ℕ)) (x : X) (y : Y) → MeetsFaults words (made x) → MeetsFaults words (made y)
+meets-past words x y u = record { first = λ f e. cc (u.first f e); no_other = λ word code e. cc e }

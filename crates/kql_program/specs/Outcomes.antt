@@ -15,15 +15,25 @@ use Rattle.kql_program.specs.Files.{Files}
 use Rattle.kql_program.specs.Lines.{line_of, memory_line, read_fault_line}
 use Rattle.kql_program.specs.Refusals.{Answer, unless}
 
--- this is what the program answers to the words, where the shelf tells its files; where it does not, still the first
--- fault of the words is the answer
+-- the answer refuses a word exactly where it is the first fault of the words
+pub record RefusesWords (words : List (List ℕ)) (a : Answer (List ℕ)) : Type 0 where
+  pub first : (r : Refusal) → unless (words_faults words) (tt {0}) ≡ Err r → a ≡ Err r
+  pub no_other : (word code : ℕ) → a ≡ Err (refusal.Usage word code) → unless (words_faults words) (tt {0}) ≡ Err (refusal.Usage word code)
+
+-- this is what the program answers to the words, where the shelf tells its files; where it does not, still a word is
+-- refused exactly where it is the first fault of the words
 abbrev pub IsAnswer : List (List ℕ) → Option Files → Answer (List ℕ) → Type 0
-IsAnswer words None a = (r : Refusal) → unless (words_faults words) (tt {0}) ≡ Err r → a ≡ Err r
+IsAnswer words None a = RefusesWords words a
 IsAnswer words (Some files) a = a ≡ answer words files
 
--- the first fault of the words is met, where they have one
-abbrev pub MeetsFaults : {X : Type 0} → List (List ℕ) → Result X Stop → Type 0
-MeetsFaults words result = (r : Refusal) → unless (words_faults words) (tt {0}) ≡ Err r → result ≡ Err (stop.Refused r)
+-- no word is refused
+abbrev pub RefusesNoWord : {X : Type 0} → Result X Stop → Type 0
+RefusesNoWord result = (word code : ℕ) → result ≡ Err (stop.Refused (refusal.Usage word code)) → ⊥
+
+-- the work stops at a word exactly where it is the first fault of the words
+pub record MeetsFaults {X : Type 0} (words : List (List ℕ)) (result : Result X Stop) : Type 0 where
+  pub first : (r : Refusal) → unless (words_faults words) (tt {0}) ≡ Err r → result ≡ Err (stop.Refused r)
+  pub no_other : (word code : ℕ) → result ≡ Err (stop.Refused (refusal.Usage word code)) → unless (words_faults words) (tt {0}) ≡ Err (refusal.Usage word code)
 
 -- a sink at one moment: what it holds and how much more it takes, where that is told, and its count of faults
 pub record SinkNow : Type 0 where

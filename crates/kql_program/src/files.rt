@@ -5,6 +5,7 @@ ghost use Rattle.kql_values.specs.Catalogues.{table_name};
 ghost use Rattle.kql_program.specs.Command.{name_in, names_table, tables_faults, texts};
 ghost use Rattle.kql_program.specs.Answer.{query_read};
 ghost use Rattle.kql_program.specs.Files.{AddsTable, ReadsFront, ReadsTable, bytes_top, file_bytes, loaded_as, query_tokens, tables_from};
+ghost use Rattle.kql_program.specs.Outcomes.{RefusesNoWord};
 ghost use Rattle.kql_program.specs.Refusals.{Computes, Gives};
 ghost use Rattle.csv_io.specs.Load.{loaded};
 ghost use Rattle.kql_program.specs.declared.refusal.Stop.TheVariants as stop;
@@ -35,6 +36,7 @@ fn read_file<F: Shelf>(
     ensures failed { result ≡ Err stop.ReadFault → Rose (F.faults shelf.old) (F.faults shelf.new) }
     ensures within { IfOk result (λ bytes. length bytes ≤ limit) }
     ensures front { IfSome (F.files shelf.old) (λ files. ReadsFront limit (file_bytes number files path.now) result) }
+    ensures words { RefusesNoWord result }
 {
     if shelf.start(path)? {
         Ok(Items::from_vec(read_up_to(alloc, shelf, limit)?))
@@ -54,6 +56,7 @@ pub(crate) fn read_query<F: Shelf>(alloc: Global, shelf: &mut F, path: &str) -> 
     ensures later { F.faults shelf.old ≤ F.faults shelf.new }
     ensures failed { result ≡ Err stop.ReadFault → Rose (F.faults shelf.old) (F.faults shelf.new) }
     ensures query { IfSome (F.files shelf.old) (λ files. Computes (query_read files path.now) result) }
+    ensures words { RefusesNoWord result }
 {
     let bytes = read_file(alloc, shelf, path, 0, MAX_BYTES + 1)?;
     let tokens = read_tokens(alloc, bytes.as_slice())?;
@@ -77,6 +80,7 @@ pub(crate) fn read_tables<F: Shelf>(
     ensures later { F.faults shelf.old ≤ F.faults shelf.new }
     ensures failed { result ≡ Err stop.ReadFault → Rose (F.faults shelf.old) (F.faults shelf.new) }
     ensures tables { IfSome (F.files shelf.old) (λ files. Computes (tables_from files 1 0 (texts words.now)) result) }
+    ensures words { RefusesNoWord result }
 {
     let mut catalogue = Catalogue::new(alloc);
     let mut used = 0;
@@ -112,6 +116,7 @@ fn add_table<F: Shelf>(
     ensures few { IfOk result (λ more. more ≤ bytes_top) }
     ensures names { OnOk result (map table_name catalogue.new ≡ map table_name catalogue.old ++ name_in word.now ∷ []) }
     ensures table { IfSome (F.files shelf.old) (λ files. AddsTable files number used word.now catalogue.old catalogue.new result) }
+    ensures words { RefusesNoWord result }
 {
     let (name, path) = table_parts(word).unwrap();
     let (table, used) = read_table(alloc, shelf, path, number, used)?;
@@ -134,6 +139,7 @@ fn read_table<F: Shelf>(
     ensures failed { result ≡ Err stop.ReadFault → Rose (F.faults shelf.old) (F.faults shelf.new) }
     ensures few { IfOk result (λ read. read.1 ≤ bytes_top) }
     ensures table { IfSome (F.files shelf.old) (λ files. ReadsTable files number used path.now result) }
+    ensures words { RefusesNoWord result }
 {
     let bytes = read_file(alloc, shelf, path, number, BYTES_TOP - used + 1)?;
     let used = used + bytes.len();
