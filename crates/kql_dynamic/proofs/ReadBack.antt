@@ -1,5 +1,5 @@
 -- What is printed reads back, and what is read has the form.
-use Rattle.std.proofs.Common.{◌≡◌, ◌<◌, ◌≤◌, ◌+◌, ℕ, true, ◌&&◌, nat_le, List, [], ◌∷◌, ◌++◌, take, length, get_or, map, Some, refl, sym, ap, ◌∙◌}
+use Rattle.std.proofs.Common.{◌≡◌, ◌≢◌, ◌<◌, ◌≤◌, ◌+◌, ℕ, true, ◌&&◌, nat_le, List, [], ◌∷◌, ◌++◌, take, length, get_or, map, Some, None, refl, sym, ap, ◌∙◌}
 use Rattle.std.specs.Prelude.{Vec, String, string_bytes}
 use Rattle.std.specs.BTreeMap.{BTreeMap, insert_entry}
 use Rattle.std.specs.String.{string_cmp}
@@ -20,6 +20,7 @@ use Rattle.kql_values.specs.declared.dynamic.Dyn.{Dyn}
 use Rattle.kql_values.specs.declared.dynamic.Dyn.TheVariants as V
 use Rattle.serde_json.specs.Data.{depth}
 use Rattle.serde_json.specs.Read.{read}
+use Rattle.serde_json.proofs.OnLiterals.{serde_json_on_literals}
 use Rattle.serde_json.specs.View.{view}
 use Rattle.serde_json.specs.declared.value.Value.{Value, Array, Object}
 use Rattle.kql_dynamic.specs.Json.{dyn_of, entry_of, parsed, part_of}
@@ -93,6 +94,20 @@ printed-back v d t f back reads =
     let same = back h.0 in
     let deep : depth (view v) ≤ 127 = within (levels d) (depth (view v)) (ap levels (sym same) ∙ levels-dyn_of (view v)) h.1 in
     rw (reads deep) (ap value_of same)
+
+-- the empty text is no JSON
+read-nothing : read [] ≡ None
+unfolding serde_json_on_literals
+read-nothing = refl
+
+-- so no value is printed as it
+pub printed-some : (v : Value) (d : Dyn) (t : List ℕ) → fits 127 d ≡ true → (has_form d ≡ true → part_of v ≡ d) → (depth (view v) ≤ 127 → read t ≡ Some (view v)) → t ≢ []
+printed-some v d t f back reads e =
+    let h = and_parts (has_form d) (nat_le (levels d) 127) f in
+    let same = back h.0 in
+    let deep : depth (view v) ≤ 127 = within (levels d) (depth (view v)) (ap levels (sym same) ∙ levels-dyn_of (view v)) h.1 in
+    let none = rw e at (reads deep) in
+    cc (read-nothing, none)
 
 pub read-form : (v : Value) (d : Dyn) → d ≡ dyn_of (view v) → has_form d ≡ true → depth (view v) ≤ 127 → IsWellFormed (value_of d)
 read-form v d same h deep = value-form d (and_from (has_form d) (nat_le (levels d) 127) h (rw (same, levels-dyn_of (view v)) (le-leb (depth (view v)) 127 deep)))

@@ -1,6 +1,6 @@
 -- The laws of the sets.
-use Rattle.std.proofs.Common.{◌≡◌, ◌≢◌, ◌⊎◌, ◌||◌, ◌&&◌, ◌++◌, ◌∷◌, ◌∙◌, Bool, true, false, not, List, [], filter, refl, sym, ap, inl, inr, arith}
-use Rattle.std.specs.Prelude.{◌↔◌, Contains}
+use Rattle.std.proofs.Common.{◌≡◌, ◌≢◌, ◌<◌, ◌+◌, ◌⊎◌, ◌||◌, ◌&&◌, ◌++◌, ◌∷◌, ◌∙◌, Bool, true, false, not, List, [], filter, refl, sym, ap, inl, inr, arith}
+use Rattle.std.specs.Prelude.{◌↔◌, All, Contains}
 use Rattle.std.specs.Bool.{Decides}
 use Rattle.std.specs.List.{AllPairs}
 use Rattle.std.proofs.lemmas.Bool.{cases_Bool, and_parts, and_from, or_cases, or_left, or_right, not-true, both_ways}
@@ -9,11 +9,11 @@ use Rattle.std.proofs.lemmas.List.Folds.{list_any-append}
 use Rattle.std.proofs.lemmas.List.Kept.{AllPairs-cons, AllPairs-filter}
 use Rattle.std.proofs.lemmas.Map.Made.{is_member-Decides, is_member-filter}
 use Rattle.kql_values.specs.declared.dynamic.Dyn.{Dyn}
-use Rattle.kql_dynamic.specs.Laws.{DifferenceHolds, FirstsComeFirst, IntersectHolds, UnionHolds}
+use Rattle.kql_dynamic.specs.Laws.{DifferenceHolds, DifferenceInOrder, FirstsComeFirst, IntersectHolds, IntersectInOrder, UnionHolds, UnionInOrder, count_before}
 use Rattle.kql_dynamic.specs.Same.{same, same-decides, same-equiv}
 use Rattle.kql_dynamic.specs.Sets.{distinct, is_among}
 use Rattle.kql_dynamic.proofs.PartLemmas.{elements-Array}
-use Rattle.kql_dynamic.proofs.SetLemmas.{among-distinct}
+use Rattle.kql_dynamic.proofs.SetLemmas.{among-distinct, reflexive}
 
 not-from : (b : Bool) → (b ≡ true → ⊥) → not b ≡ true
 not-from true n = absurd (n refl)
@@ -107,3 +107,70 @@ firsts-come-first (x ∷ xs) ys =
     let r = λ (y : Dyn). not (is_among (x ∷ xs) y) in
     let joint = filter-filter p q r (λ y. neither (same x y) (is_among xs y) ∙ ap (λ b. not (b || is_among xs y)) (same-equiv.symm x y)) (distinct ys) in
     ap (λ l. x ∷ l) (ap (filter p) (firsts-come-first xs ys) ∙ (filter-append p (distinct xs) (filter q (distinct ys)) ∙ ap (λ l. filter p (distinct xs) ++ l) joint))
+
+-- ---- in the order of the first
+
+both-orders : (a b : Bool) → (a && b) ≡ (b && a)
+both-orders true true = refl
+both-orders true false = refl
+both-orders false true = refl
+both-orders false false = refl
+
+and-true : (a : Bool) → (a && true) ≡ a
+and-true true = refl
+and-true false = refl
+
+passes-other : (p : Dyn → Bool) (x : Dyn) → p x ≡ false → (y : Dyn) → (p y && not (same x y)) ≡ p y
+passes-other p x f y = elim (cases_Bool (same x y)) [
+  | inl t ↦ let e : p y ≡ false = sym (alike p x y t) ∙ f in rw e refl
+  | inr n ↦ rw n (and-true (p y))
+]
+
+-- the distinct ones of those that pass are those of the distinct ones that pass
+distinct-filter : (p : Dyn → Bool) (xs : List Dyn) → distinct (filter p xs) ≡ filter p (distinct xs)
+distinct-filter p [] = refl
+distinct-filter p (x ∷ xs) =
+    let q = λ (y : Dyn). not (same x y) in
+    let less = distinct-filter p xs in
+    elim (cases_Bool (p x)) [
+      | inl t ↦
+          let r = λ (y : Dyn). p y && q y in
+          let turned = filter-filter q p r (λ y. both-orders (q y) (p y)) (distinct xs) ∙ sym (filter-filter p q r (λ y. refl) (distinct xs)) in
+          rw (t, less) (ap (λ l. x ∷ l) turned)
+      | inr f ↦ rw (f, less) (sym (filter-filter p q p (passes-other p x f) (distinct xs)))
+    ]
+
+pairs-weaker : (R S : Dyn → Dyn → Type 0) (P : Dyn → Type 0) → ((a b : Dyn) → P a → P b → R a b → S a b) → (zs : List Dyn) → All P zs → AllPairs R zs → AllPairs S zs
+pairs-weaker R S P h zs each pairs i j d lt within = h _ _ (each i d (omega arith)) (each j d within) (pairs i j d lt within)
+
+before-itself : (x : Dyn) (xs : List Dyn) → count_before (x ∷ xs) x ≡ 0
+before-itself x xs = rw (reflexive x) refl
+
+before-other : (x : Dyn) (xs : List Dyn) (y : Dyn) → not (same x y) ≡ true → count_before (x ∷ xs) y ≡ count_before xs y + 1
+before-other x xs y n = rw (not-true (same x y) n) refl
+
+pub rises : (xs : List Dyn) → AllPairs (λ a b. count_before xs a < count_before xs b) (distinct xs)
+rises [] = λ i j d lt in_none. absurd (omega arith)
+rises (x ∷ xs) =
+    let q = λ (y : Dyn). not (same x y) in
+    let R : Dyn → Dyn → Type 0 = λ a b. count_before (x ∷ xs) a < count_before (x ∷ xs) b in
+    let rest = filter q (distinct xs) in
+    let passes = filter_passes q (distinct xs) in
+    AllPairs-cons R x rest
+    (All-weaker (λ (y : Dyn). q y ≡ true) (R x) (λ y n. omega (arith, before-itself x xs, before-other x xs y n)) rest passes)
+    (pairs-weaker (λ a b. count_before xs a < count_before xs b) R (λ y. q y ≡ true) (λ a b na nb lt. omega (arith, before-other x xs a na, before-other x xs b nb)) rest passes
+    (AllPairs-filter (λ a b. count_before xs a < count_before xs b) q (distinct xs) (rises xs)))
+
+pub union-in-order : UnionInOrder
+union-in-order xs ys = (distinct (xs ++ ys), rw (elements-Array xs, elements-Array ys) refl, rises (xs ++ ys))
+
+chosen-in-order : (p : Dyn → Bool) (xs : List Dyn) → AllPairs (λ a b. count_before xs a < count_before xs b) (distinct (filter p xs))
+chosen-in-order p xs = rw (distinct-filter p xs) (AllPairs-filter (λ a b. count_before xs a < count_before xs b) p (distinct xs) (rises xs))
+
+pub intersect-in-order : IntersectInOrder
+intersect-in-order xs ys = (distinct (filter (is_among ys) xs), rw (elements-Array xs, elements-Array ys) refl, chosen-in-order (is_among ys) xs)
+
+pub difference-in-order : DifferenceInOrder
+difference-in-order xs ys =
+    let left = λ (x : Dyn). not (is_among ys x) in
+    (distinct (filter left xs), rw (elements-Array xs, elements-Array ys) refl, chosen-in-order left xs)

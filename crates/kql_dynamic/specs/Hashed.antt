@@ -5,14 +5,14 @@ use Rattle.std.specs.Hash.{HashWrites}
 use Rattle.kql_values.specs.declared.dynamic.Dyn.{Dyn, fold-Dyn}
 use Rattle.kql_values.specs.declared.dynamic.Dyn.TheOpen.{Dyn-F}
 
--- what a value feeds, from what its parts feed: an array and a bag feed how many parts there are first
+-- what a value feeds, from what its parts feed: its kind first, and an array and a bag then how many parts there are
 abbrev pub writes_step : Dyn-F HashWrites → HashWrites
 writes_step Dyn-F.Null = fed.u8 0
-writes_step (Dyn-F.Bool b) = fed.bool b
-writes_step (Dyn-F.Long n) = fed.i64 n
-writes_step (Dyn-F.Text t) = fed.str t
-writes_step (Dyn-F.Array parts) = fed.usize (length parts) ++ flat_map (λ w. w) parts
-writes_step (Dyn-F.Bag entries) = fed.usize (length entries) ++ flat_map (λ e. fed.str e.0 ++ e.1) entries
+writes_step (Dyn-F.Bool b) = fed.u8 1 ++ fed.bool b
+writes_step (Dyn-F.Long n) = fed.u8 2 ++ fed.i64 n
+writes_step (Dyn-F.Text t) = fed.u8 3 ++ fed.str t
+writes_step (Dyn-F.Array parts) = fed.u8 4 ++ fed.usize (length parts) ++ flat_map (λ w. w) parts
+writes_step (Dyn-F.Bag entries) = fed.u8 5 ++ fed.usize (length entries) ++ flat_map (λ e. fed.str e.0 ++ e.1) entries
 
 -- what a value feeds
 unfoldable pub writes_of : Dyn → HashWrites

@@ -1,5 +1,5 @@
 -- What the calls on arrays, bags and sets keep, in words of lists, keys and sets.
-use Rattle.std.specs.Prelude.{◌≡◌, ◌≢◌, ◌+◌, ◌⊎◌, ◌↔◌, ℕ, pos, negsuc, List, [], ◌∷◌, ◌++◌, filter, length, not, reverse, IsTrue, Option, None, Some, option_and_then, Contains}
+use Rattle.std.specs.Prelude.{◌≡◌, ◌≢◌, ◌<◌, ◌+◌, ◌⊎◌, ◌↔◌, ℕ, pos, negsuc, List, [], ◌∷◌, ◌++◌, filter, if◌then◌else◌, length, not, reverse, IsTrue, Option, None, Some, option_and_then, Contains}
 use Rattle.std.specs.List.{AllPairs, list_all}
 use Rattle.std.specs.Option.{option_or}
 use Rattle.kql_values.specs.Dynamic.{is_well_formed_dynamic}
@@ -9,6 +9,7 @@ use Rattle.kql_values.specs.declared.value.Value.{Value}
 use Rattle.kql_dynamic.specs.Arrays.{array, array_concat, array_slice, sliced}
 use Rattle.kql_dynamic.specs.Bags.{bag, bag_merge, bag_pack, pairs}
 use Rattle.kql_dynamic.specs.Parts.{entries, entry_at}
+use Rattle.kql_dynamic.specs.Same.{same}
 use Rattle.kql_dynamic.specs.Sets.{distinct, is_among, set_difference, set_intersect, set_union}
 
 -- an array up to an index and from the next one on, put together
@@ -52,3 +53,21 @@ DifferenceHolds = (xs ys : List Dyn) → IsSetOf (λ d. Contains xs d × (¬ Con
 -- a value stands where it occurs first: those of the first array, and then those of the second that are new
 abbrev pub FirstsComeFirst : Type 0
 FirstsComeFirst = (xs ys : List Dyn) → distinct (xs ++ ys) ≡ distinct xs ++ filter (λ y. not (is_among xs y)) (distinct ys)
+
+-- how many of these stand before the first that is identical to a value
+abbrev pub count_before : List Dyn → Dyn → ℕ
+count_before [] d = 0
+count_before (x ∷ xs) d = if same x d then 0 else count_before xs d + 1
+
+-- an array whose values come in the order in which they occur first in a list
+abbrev pub IsInOrderOf : List Dyn → Value → Type 0
+IsInOrderOf xs v = (zs : List Dyn) × (v ≡ array zs) × AllPairs (λ a b. count_before xs a < count_before xs b) zs
+
+abbrev pub UnionInOrder : Type 0
+UnionInOrder = (xs ys : List Dyn) → IsInOrderOf (xs ++ ys) (set_union (V.Array xs ∷ V.Array ys ∷ []))
+
+abbrev pub IntersectInOrder : Type 0
+IntersectInOrder = (xs ys : List Dyn) → IsInOrderOf xs (set_intersect (V.Array xs ∷ V.Array ys ∷ []))
+
+abbrev pub DifferenceInOrder : Type 0
+DifferenceInOrder = (xs ys : List Dyn) → IsInOrderOf xs (set_difference (V.Array xs ∷ V.Array ys ∷ []))

@@ -23,7 +23,8 @@ pub fn array_length(_alloc: Global, args: &[Dyn]) -> Result<Value, AllocError>
     }
 }
 
-/// The elements of arrays, one array after another: `array_concat(array, ..)`. It is null where one is no array.
+/// The elements of arrays, one array after another: `array_concat(array, ..)`. It is null where one is no array, and
+/// the empty array where there are no arguments.
 pub fn array_concat(alloc: Global, args: &[Dyn]) -> Result<Value, AllocError>
     requires { IsTrue (list_all is_well_formed_dynamic args.now) }
     ensures value { IfOk result (λ v. v ≡ array_concat args.now) }
@@ -92,8 +93,8 @@ pub fn array_index_of(_alloc: Global, args: &[Dyn]) -> Result<Value, AllocError>
     }
 }
 
-/// The array of all arguments, nulls among them: `pack_array(value, ..)`. It is null where it would have more than
-/// 127 levels.
+/// The array of all arguments, nulls among them: `pack_array(value, ..)`. It is the empty array where there are no
+/// arguments, and null where it would have more than 127 levels.
 pub fn pack_array(alloc: Global, args: &[Dyn]) -> Result<Value, AllocError>
     requires { IsTrue (list_all is_well_formed_dynamic args.now) }
     ensures value { IfOk result (λ v. v ≡ pack_array args.now) }

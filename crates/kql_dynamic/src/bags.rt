@@ -44,8 +44,8 @@ pub fn bag_has_key(_alloc: Global, args: &[Dyn]) -> Result<Value, AllocError>
     }
 }
 
-/// One bag of the keys of bags: `bag_merge(bag, bag, ..)`. The first bag that has a key gives its value. It is null
-/// where one is no bag.
+/// One bag of the keys of bags: `bag_merge(bag, bag, ..)`. The first bag that has a key gives its value, also a null.
+/// It is null where one is no bag, and the empty bag where there are no arguments.
 pub fn bag_merge(alloc: Global, args: &[Dyn]) -> Result<Value, AllocError>
     requires { IsTrue (list_all is_well_formed_dynamic args.now) }
     ensures value { IfOk result (λ v. v ≡ bag_merge args.now) }
@@ -64,7 +64,8 @@ pub fn bag_merge(alloc: Global, args: &[Dyn]) -> Result<Value, AllocError>
 }
 
 /// The bag of keys and values: `bag_pack(key, value, ..)`. A later equal key replaces, and nulls stand as null. It
-/// is null where a key is no text, or where it would have more than 127 levels.
+/// is null where a key is no text, where the last key has no value, and where it would have more than 127 levels; it
+/// is the empty bag where there are no arguments.
 pub fn bag_pack(alloc: Global, args: &[Dyn]) -> Result<Value, AllocError>
     requires { IsTrue (list_all is_well_formed_dynamic args.now) }
     ensures value { IfOk result (λ v. v ≡ bag_pack args.now) }

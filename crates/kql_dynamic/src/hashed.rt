@@ -64,6 +64,7 @@ impl<'a> Hash for DynRef<'a> {
     }
 }
 
+// Feeds the kind of a value, and then what it holds.
 #[cycle(hash_dyn)]
 #[tactic(auto, using(crate::proofs::HashSteps::hash_steps))]
 fn hash_dyn<H: Hasher>(d: &Dyn, state: &mut H)
@@ -71,11 +72,26 @@ fn hash_dyn<H: Hasher>(d: &Dyn, state: &mut H)
 {
     match d {
         Dyn::Null => state.write_u8(0),
-        Dyn::Bool(b) => b.hash(state),
-        Dyn::Long(n) => n.hash(state),
-        Dyn::Text(t) => t.as_str().hash(state),
-        Dyn::Array(parts) => hash_parts(parts.as_slice(), state),
-        Dyn::Bag(entries) => hash_entries(entries.as_slice(), state),
+        Dyn::Bool(b) => {
+            state.write_u8(1);
+            b.hash(state);
+        }
+        Dyn::Long(n) => {
+            state.write_u8(2);
+            n.hash(state);
+        }
+        Dyn::Text(t) => {
+            state.write_u8(3);
+            t.as_str().hash(state);
+        }
+        Dyn::Array(parts) => {
+            state.write_u8(4);
+            hash_parts(parts.as_slice(), state);
+        }
+        Dyn::Bag(entries) => {
+            state.write_u8(5);
+            hash_entries(entries.as_slice(), state);
+        }
     }
 }
 

@@ -3,7 +3,8 @@ ghost use Rattle.serde_json.specs.Data.{depth as nesting};
 ghost use Rattle.serde_json.specs.Read.{max_depth, read as read_text};
 ghost use Rattle.serde_json.specs.View.{number_view, view};
 ghost use Rattle.kql_values.specs.Dynamic.{ascends, has_form};
-ghost use Rattle.kql_values.specs.Values.{IsWellFormed};
+ghost use Rattle.kql_values.specs.Values.{IsOfKind, IsWellFormed};
+ghost use Rattle.kql_values.specs.declared.value.Kind.TheVariants.{Dynamic};
 ghost use Rattle.std.specs.List.{list_all};
 ghost use Rattle.kql_dynamic.specs.Json.{dyn_of, entry_of, number_dyn, parsed, part_of};
 
@@ -21,6 +22,7 @@ use std::alloc::{AllocError, Global};
 #[tactic(auto, using(crate::proofs::JsonForms::json_forms), unfolding(crate::specs::Json::parsed))]
 pub fn parse_json(alloc: Global, t: &str) -> Result<Value, AllocError>
     ensures value { IfOk result (λ v. v ≡ parsed t.now) }
+    ensures kind { IfOk result (IsOfKind Dynamic) }
     ensures form { IfOk result IsWellFormed }
 {
     match read(alloc, t)? {

@@ -1,4 +1,4 @@
-ghost use Rattle.kql_dynamic.specs.Laws.{DifferenceHolds, FirstBagWins, FirstIsSliced, FirstsComeFirst, IntersectHolds, LastPairWins, SecondIsSliced, SlicesJoin, UnionHolds};
+ghost use Rattle.kql_dynamic.specs.Laws.{DifferenceHolds, DifferenceInOrder, FirstBagWins, FirstIsSliced, FirstsComeFirst, IntersectHolds, IntersectInOrder, LastPairWins, SecondIsSliced, SlicesJoin, UnionHolds, UnionInOrder};
 
 /// `array_slice` takes an array apart, and `array_concat` puts the parts together; of two arrays that were put
 /// together, `array_slice` gives each back.
@@ -20,4 +20,12 @@ pub fn elements_of_sets()
     ensures intersect { IntersectHolds }
     ensures difference { DifferenceHolds }
     ensures first { FirstsComeFirst }
+{}
+
+/// The values of a union come in the order in which they occur first in the two arrays, one after the other. Those
+/// of an intersection and of a difference come in the order in which they occur first in the first array.
+pub fn order_of_sets()
+    ensures union { UnionInOrder }
+    ensures intersect { IntersectInOrder }
+    ensures difference { DifferenceInOrder }
 {}

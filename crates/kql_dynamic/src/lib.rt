@@ -15,7 +15,7 @@ pub use arrays::{
 };
 pub use bags::{bag_has_key, bag_keys, bag_merge, bag_pack};
 pub use json::parse_json;
-pub use laws::{elements_of_sets, keys_of_several_bags, slices_and_joins};
+pub use laws::{elements_of_sets, keys_of_several_bags, order_of_sets, slices_and_joins};
 pub use parts::{are_well_formed, at_index, at_name, levels};
 pub use print::print_json;
 pub use sets::{set_difference, set_has_element, set_intersect, set_union};

@@ -1,4 +1,4 @@
-ghost use Rattle.std.specs.Prelude.{◌≡◌, false, true, ◌&&◌, IfOk, IsTrue, map, string_bytes};
+ghost use Rattle.std.specs.Prelude.{◌≡◌, ◌≢◌, [], false, true, ◌&&◌, IfOk, IsTrue, map, string_bytes};
 ghost use Rattle.std.specs.List.{list_all, list_any};
 ghost use Rattle.serde_json.specs.Data.{no_members};
 ghost use Rattle.serde_json.specs.View.{members_view, view};
@@ -19,6 +19,7 @@ pub fn print_json(alloc: Global, d: &Dyn) -> Result<KText, AllocError>
     requires { IsTrue (is_well_formed_dynamic d.now) }
     ensures text { IfOk result (λ t. t ≡ printed d.now) }
     ensures reads_back { IfOk result (λ t. parsed t ≡ value_of d.now) }
+    ensures not_empty { IfOk result (λ t. t ≢ []) }
 {
     let json = json_of(alloc, d)?;
     Ok(KText::from_string(json.to_string(alloc)?))

@@ -30,7 +30,8 @@ pub fn set_union(alloc: Global, args: &[Dyn]) -> Result<Value, AllocError>
         return Ok(Value::Null);
     };
     let both = joined(alloc, first, second)?;
-    Ok(Value::Dynamic(Dyn::Array(distinct(alloc, both.as_slice())?)))
+    let list = distinct(alloc, both.as_slice())?;
+    Ok(Value::Dynamic(Dyn::Array(list)))
 }
 
 /// The distinct elements of the first array that are in the second, by first occurrence:
@@ -48,7 +49,8 @@ pub fn set_intersect(alloc: Global, args: &[Dyn]) -> Result<Value, AllocError>
         return Ok(Value::Null);
     };
     let kept = chosen(alloc, true, first, second)?;
-    Ok(Value::Dynamic(Dyn::Array(distinct(alloc, kept.as_slice())?)))
+    let list = distinct(alloc, kept.as_slice())?;
+    Ok(Value::Dynamic(Dyn::Array(list)))
 }
 
 /// The distinct elements of the first array that are not in the second, by first occurrence:
@@ -66,7 +68,8 @@ pub fn set_difference(alloc: Global, args: &[Dyn]) -> Result<Value, AllocError>
         return Ok(Value::Null);
     };
     let kept = chosen(alloc, false, first, second)?;
-    Ok(Value::Dynamic(Dyn::Array(distinct(alloc, kept.as_slice())?)))
+    let list = distinct(alloc, kept.as_slice())?;
+    Ok(Value::Dynamic(Dyn::Array(list)))
 }
 
 /// Whether an array has an element that is identical to a value: `set_has_element(array, value)`. It is null where

@@ -5,9 +5,10 @@ ghost use Rattle.kql_values.specs.Dynamic.{is_well_formed_dynamic};
 use crate::{
     are_well_formed, array_concat, array_index_of, array_length, array_reverse, array_slice,
     at_index, at_name, bag_has_key, bag_keys, bag_merge, bag_pack, elements_of_sets,
-    keys_of_several_bags, levels, pack_array, parse_json, print_json, set_difference,
-    set_has_element, set_intersect, set_union, slices_and_joins,
+    keys_of_several_bags, levels, order_of_sets, pack_array, parse_json, print_json,
+    set_difference, set_has_element, set_intersect, set_union, slices_and_joins,
 };
+use kql_items::Items;
 use kql_values::{Dyn, KText, LEVELS_TOP, Value, has_form, has_levels_within};
 use std::alloc::{AllocError, Global};
 use std::process::Abort;
@@ -99,7 +100,7 @@ const NAMES: [(&str, &str, &str); 6] = [
 ];
 
 // A value, an index, and what stands there.
-const INDEXES: [(&str, i64, &str); 9] = [
+const INDEXES: [(&str, i64, &str); 13] = [
     (r#"[7,"x",{}]"#, 0, "7"),
     (r#"[7,"x",{}]"#, 1, r#""x""#),
     (r#"[7,"x",{}]"#, 3, "null"),
@@ -108,6 +109,10 @@ const INDEXES: [(&str, i64, &str); 9] = [
     (r#"[7,"x",{}]"#, -4, "null"),
     ("[]", -1, "null"),
     ("[1]", i64::MIN, "null"),
+    ("[1]", i64::MAX, "null"),
+    ("[null]", 0, "null"),
+    ("null", 0, "null"),
+    (r#""ab""#, 0, "null"),
     (r#"{"a":1}"#, 0, "null"),
 ];
 
@@ -149,8 +154,8 @@ enum Call {
     HasElement,
 }
 
-// A call, its arguments as one array, and its answer.
-const CALLS: [(Call, &str, &str); 55] = [
+// A call on arrays, its arguments as one array, and its answer.
+const ARRAY_CALLS: [(Call, &str, &str); 41] = [
     (Call::Length, "[[1,null]]", "2"),
     (Call::Length, "[[]]", "0"),
     (Call::Length, "[null]", "null"),
@@ -159,6 +164,7 @@ const CALLS: [(Call, &str, &str); 55] = [
     (Call::Concat, "[[]]", "[]"),
     (Call::Concat, "[[1],null]", "null"),
     (Call::Concat, "[[1],{}]", "null"),
+    (Call::Concat, "[]", "[]"),
     (Call::Slice, "[[1,2,3,4],1,2]", "[2,3]"),
     (Call::Slice, "[[1,2,3,4],-3,-2]", "[2,3]"),
     (Call::Slice, "[[1,2,3,4],-9,9]", "[1,2,3,4]"),
@@ -170,20 +176,43 @@ const CALLS: [(Call, &str, &str); 55] = [
     (Call::Slice, "[[1,2],null,1]", "null"),
     (Call::Slice, "[[1,2],0,null]", "null"),
     (Call::Slice, "[\"ab\",0,1]", "null"),
+    (Call::Slice, "[null,0,1]", "null"),
+    (Call::Slice, r#"[{"a":1},0,1]"#, "null"),
+    (Call::Slice, r#"[[1,2],"0",1]"#, "null"),
+    (Call::Slice, r#"[[1,2],0,true]"#, "null"),
     (Call::Reverse, "[[1,\"a\",null]]", r#"[null,"a",1]"#),
     (Call::Reverse, "[[]]", "[]"),
     (Call::Reverse, "[true]", "null"),
+    (Call::Reverse, "[null]", "null"),
+    (Call::Reverse, r#"[{"a":[1]}]"#, "null"),
     (Call::IndexOf, "[[1,\"1\",1],\"1\"]", "1"),
     (Call::IndexOf, "[[1,2],3]", "-1"),
     (Call::IndexOf, "[[1,null],null]", "1"),
     (Call::IndexOf, r#"[[{"b":1,"a":2}],{"a":2,"b":1}]"#, "0"),
     (Call::IndexOf, "[null,null]", "null"),
+    (Call::IndexOf, "[{},{}]", "null"),
+    (Call::IndexOf, "[[],[]]", "-1"),
+    (Call::IndexOf, "[[{},0,false,[]],[]]", "3"),
+    (Call::IndexOf, "[[{},0,false,[]],null]", "-1"),
+    (Call::PackArray, "[1,null,[2]]", "[1,null,[2]]"),
+    (Call::PackArray, "[[],{}]", "[[],{}]"),
+    (Call::PackArray, "[]", "[]"),
+];
+
+// A call on bags, its arguments as one array, and its answer.
+const BAG_CALLS: [(Call, &str, &str); 29] = [
     (Call::Keys, r#"[{"b":1,"a":null}]"#, r#"["a","b"]"#),
     (Call::Keys, "[{}]", "[]"),
     (Call::Keys, "[[1]]", "null"),
+    (Call::Keys, "[null]", "null"),
+    (Call::Keys, r#"["a"]"#, "null"),
     (Call::HasKey, r#"[{"b":1,"a":null},"a"]"#, "true"),
     (Call::HasKey, r#"[{"b":1},"a"]"#, "false"),
     (Call::HasKey, r#"[null,"a"]"#, "null"),
+    (Call::HasKey, r#"[["a"],"a"]"#, "null"),
+    (Call::HasKey, r#"[{"a":1},null]"#, "null"),
+    (Call::HasKey, r#"[{"1":1},1]"#, "null"),
+    (Call::HasKey, r#"[{},""]"#, "false"),
     (
         Call::Merge,
         r#"[{"a":1,"b":2},{"b":3,"c":4}]"#,
@@ -197,7 +226,14 @@ const CALLS: [(Call, &str, &str); 55] = [
     (Call::Merge, "[{},{}]", "{}"),
     (Call::Merge, r#"[{"a":1},null]"#, "null"),
     (Call::Merge, r#"[[],{"a":1}]"#, "null"),
-    (Call::PackArray, "[1,null,[2]]", "[1,null,[2]]"),
+    (Call::Merge, r#"["a",{"a":1}]"#, "null"),
+    (Call::Merge, r#"[{"a":null},{"a":1}]"#, r#"{"a":null}"#),
+    (
+        Call::Merge,
+        r#"[{"b":{"c":1},"a":[1]},{"b":{"d":2},"c":"x","a":null}]"#,
+        r#"{"a":[1],"b":{"c":1},"c":"x"}"#,
+    ),
+    (Call::Merge, "[]", "{}"),
     (Call::PackBag, r#"["b",1,"a",null]"#, r#"{"a":null,"b":1}"#),
     (
         Call::PackBag,
@@ -206,6 +242,14 @@ const CALLS: [(Call, &str, &str); 55] = [
     ),
     (Call::PackBag, "[1,2]", "null"),
     (Call::PackBag, r#"["k"]"#, "null"),
+    (Call::PackBag, "[null,1]", "null"),
+    (Call::PackBag, r#"["a",1,null,2]"#, "null"),
+    (Call::PackBag, r#"["b",[],"a",{}]"#, r#"{"a":{},"b":[]}"#),
+    (Call::PackBag, "[]", "{}"),
+];
+
+// A call on sets, its arguments as one array, and its answer.
+const SET_CALLS: [(Call, &str, &str); 36] = [
     (Call::Union, "[[2,1,2],[3,1]]", "[2,1,3]"),
     (
         Call::Union,
@@ -214,14 +258,62 @@ const CALLS: [(Call, &str, &str); 55] = [
     ),
     (Call::Union, "[[],[]]", "[]"),
     (Call::Union, "[[1],null]", "null"),
+    (Call::Union, "[null,[1]]", "null"),
+    (Call::Union, r#"["a",[1]]"#, "null"),
+    (Call::Union, r#"[[1],{"a":1}]"#, "null"),
+    (Call::Union, "[[],[2,2]]", "[2]"),
+    (
+        Call::Union,
+        r#"[[null,false,0,[],[null],""],[{},[false],0,[],false,"",null]]"#,
+        r#"[null,false,0,[],[null],"",{},[false]]"#,
+    ),
     (Call::Intersect, "[[3,1,2,1],[1,3]]", "[3,1]"),
     (Call::Intersect, r#"[[[1],[2],"1"],[1,[2]]]"#, "[[2]]"),
     (Call::Intersect, r#"[{"a":1},[1]]"#, "null"),
+    (Call::Intersect, "[null,[1]]", "null"),
+    (Call::Intersect, "[[1],null]", "null"),
+    (Call::Intersect, "[[],[1]]", "[]"),
+    (Call::Intersect, "[[1],[]]", "[]"),
+    (
+        Call::Intersect,
+        "[[0,{},null],[null,false,[],0]]",
+        "[0,null]",
+    ),
+    (
+        Call::Intersect,
+        r#"[[1,{"b":1,"a":2}],[{"a":2,"b":1}]]"#,
+        r#"[{"a":2,"b":1}]"#,
+    ),
     (Call::Difference, "[[3,1,2,1,2],[3]]", "[1,2]"),
     (Call::Difference, "[[1],[1]]", "[]"),
+    (Call::Difference, "[null,[1]]", "null"),
+    (Call::Difference, "[[1],null]", "null"),
+    (Call::Difference, "[[1],true]", "null"),
+    (Call::Difference, "[[],[1]]", "[]"),
+    (Call::Difference, "[[2,1,2],[]]", "[2,1]"),
+    (
+        Call::Difference,
+        "[[0,{},null,[]],[false,[],{}]]",
+        "[0,null]",
+    ),
+    (
+        Call::Difference,
+        r#"[[{"b":1,"a":2},1],[{"a":2,"b":1}]]"#,
+        "[1]",
+    ),
     (Call::HasElement, "[[1,null],null]", "true"),
     (Call::HasElement, r#"[[1,null],"1"]"#, "false"),
     (Call::HasElement, "[1,1]", "null"),
+    (Call::HasElement, "[null,null]", "null"),
+    (Call::HasElement, r#"[{"a":1},"a"]"#, "null"),
+    (Call::HasElement, "[[],null]", "false"),
+    (Call::HasElement, "[[{},0,false],null]", "false"),
+    (Call::HasElement, "[[{},0,false],[]]", "false"),
+    (
+        Call::HasElement,
+        r#"[[{"b":1,"a":2}],{"a":2,"b":1}]"#,
+        "true",
+    ),
 ];
 
 // The answer of a call, none where it has another number of arguments.
@@ -252,20 +344,113 @@ fn laws_hold() {
     slices_and_joins();
     keys_of_several_bags();
     elements_of_sets();
+    order_of_sets();
 }
 
-#[test]
-fn calls_answer(rt: HostRuntime) -> Result<(), Fail> {
-    let alloc = rt.alloc();
-    for (call, text, want) in CALLS {
+// Makes each of these calls, and compares its answer.
+fn compare(
+    rt: &impl Abort,
+    alloc: Global,
+    rows: &[(Call, &'static str, &'static str)],
+) -> Result<(), Fail> {
+    for (call, text, want) in rows {
         let Value::Dynamic(Dyn::Array(args)) = parse_json(alloc, text)? else {
             panic!(rt; "{text} is no array");
         };
         let is_well_formed = are_well_formed(args.as_slice());
         assert!(rt; is_well_formed);
-        let value = answer(alloc, call, args.as_slice())?.ok_or("arguments")?;
-        let got = shown(&rt, alloc, value)?;
-        assert_eq!(rt; got.as_str(), want, "{call:?} of {text}");
+        let value = answer(alloc, *call, args.as_slice())?.ok_or("arguments")?;
+        let got = shown(rt, alloc, value)?;
+        assert_eq!(rt; got.as_str(), *want, "{call:?} of {text}");
     }
+    Ok(())
+}
+
+#[test]
+fn calls_on_arrays_answer(rt: HostRuntime) -> Result<(), Fail> {
+    compare(&rt, rt.alloc(), &ARRAY_CALLS)
+}
+
+#[test]
+fn calls_on_bags_answer(rt: HostRuntime) -> Result<(), Fail> {
+    compare(&rt, rt.alloc(), &BAG_CALLS)
+}
+
+#[test]
+fn calls_on_sets_answer(rt: HostRuntime) -> Result<(), Fail> {
+    compare(&rt, rt.alloc(), &SET_CALLS)
+}
+
+// A text of that many bags, one in another.
+fn nested_bags(alloc: Global, depth: usize) -> Result<String, AllocError> {
+    let mut text = String::new(alloc);
+    for _ in 0..depth {
+        text.push_str(r#"{"k":"#)?;
+    }
+    text.push('0')?;
+    for _ in 0..depth {
+        text.push('}')?;
+    }
+    Ok(text)
+}
+
+#[test]
+fn nesting_of_bags_has_a_limit(rt: HostRuntime) -> Result<(), Fail> {
+    let alloc = rt.alloc();
+    for (depth, is_bag) in [(1usize, true), (126, true), (127, true), (128, false)] {
+        let d = dynamic(parse_json(alloc, nested_bags(alloc, depth)?.as_str())?);
+        let is_well_formed = has_form(&d) && has_levels_within(&d, LEVELS_TOP);
+        assert!(rt; is_well_formed);
+        let want = if is_bag { depth as u32 } else { 0 };
+        assert_eq!(rt; levels(&d), want);
+        let args = [Dyn::Text(KText::from_str(alloc, "k")?), d];
+        let is_well_formed = are_well_formed(&args);
+        assert!(rt; is_well_formed);
+        let packed = shown(&rt, alloc, bag_pack(alloc, &args)?)?;
+        assert_eq!(rt; packed.as_str() == "null", depth == 127);
+    }
+    Ok(())
+}
+
+// An array of 17 values, each null or false, as the bits of a number say.
+fn bits(alloc: Global, number: u32) -> Result<Dyn, AllocError> {
+    let mut parts = Items::new(alloc);
+    for place in 0..17u32 {
+        let is_set = (number >> place) & 1 == 1;
+        parts.push(if is_set { Dyn::Null } else { Dyn::Bool(false) })?;
+    }
+    Ok(Dyn::Array(parts))
+}
+
+// The bits of the numbers from one to another, as one array.
+fn bits_between(alloc: Global, from: u32, to: u32) -> Result<Dyn, AllocError> {
+    let mut list = Items::new(alloc);
+    for number in from..to {
+        list.push(bits(alloc, number)?)?;
+    }
+    Ok(Dyn::Array(list))
+}
+
+// How many elements an array has.
+fn count(value: Value) -> usize {
+    match value {
+        Value::Dynamic(Dyn::Array(parts)) => parts.len(),
+        _ => 0,
+    }
+}
+
+#[test]
+fn long_sets_are_quick(rt: HostRuntime) -> Result<(), Fail> {
+    let alloc = rt.alloc();
+    let args = [
+        bits_between(alloc, 0, 60_000)?,
+        bits_between(alloc, 40_000, 100_000)?,
+    ];
+    let is_well_formed = are_well_formed(&args);
+    assert!(rt; is_well_formed);
+    let union = count(set_union(alloc, &args)?);
+    let intersect = count(set_intersect(alloc, &args)?);
+    let difference = count(set_difference(alloc, &args)?);
+    assert_eq!(rt; [union, intersect, difference], [100_000, 20_000, 40_000]);
     Ok(())
 }

@@ -34,7 +34,8 @@ pub fn replace(alloc: Global, text: &str, from: &str, to: &str) -> Result<KText,
     if from.is_empty() {
         return KText::from_str(alloc, text);
     }
-    Ok(KText::from_string(text.replace(alloc, from, to)?))
+    let replaced = text.replace(alloc, from, to)?;
+    Ok(KText::from_string(replaced))
 }
 
 fn push_text(alloc: Global, parts: &mut DynList, text: &str) -> Result<(), AllocError>

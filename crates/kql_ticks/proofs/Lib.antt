@@ -5,5 +5,6 @@ pub mod DayLemmas
 pub mod DigitLemmas
 pub mod NumberLemmas
 pub mod PeriodLemmas
+pub mod RangeLemmas
 pub mod SpanLemmas
 pub mod TextLemmas

@@ -1,5 +1,6 @@
 ghost use Rattle.std.specs.Prelude.{◌≡◌, ◌+◌, ◌<◌, ◌≤◌, pos, length, option_map, IfSome};
 ghost use Rattle.kql_ticks.specs.Forms.{before_z, date_in, day_of_date, fraction_in, minutes_in, moment_at, moment_in, moment_of, seconds_in, size_of, time_in, time_of_day_in};
+ghost use Rattle.kql_values.specs.Values.{IsMoment};
 
 use crate::days::day_number;
 use crate::numbers::{number, share};
@@ -13,6 +14,7 @@ use jiff_core::civil::{Date, days_in_month};
 #[tactic(auto, unfolding(crate::specs::Forms::moment_in))]
 pub fn read_moment(t: &str) -> Option<i64>
     ensures value { result ≡ option_map pos (moment_in t.now) }
+    ensures range { IfSome result IsMoment }
 {
     let t = t.as_bytes();
     let split = t.len().min(10);
@@ -25,6 +27,7 @@ pub fn read_moment(t: &str) -> Option<i64>
 #[tactic(auto, unfolding(crate::specs::Forms::moment_at))]
 pub fn make_moment(year: i64, month: i64, day: i64, hour: i64, minute: i64) -> Option<i64>
     ensures value { result ≡ option_map pos (moment_at year month day hour minute) }
+    ensures range { IfSome result IsMoment }
 {
     let year = size_of(year)?;
     let month = size_of(month)?;
@@ -46,6 +49,7 @@ fn size_of(n: i64) -> Option<u64>
 #[tactic(auto, unfolding(crate::specs::Forms::moment_of))]
 fn moment_of(year: u64, month: u64, day: u64, hour: u64, minute: u64) -> Option<i64>
     ensures value { result ≡ option_map pos (moment_of year month day hour minute) }
+    ensures range { IfSome result IsMoment }
 {
     let day = day_of_date(year, month, day)?;
     if hour >= 24 || minute >= 60 {

@@ -1,4 +1,4 @@
-ghost use Rattle.std.specs.Prelude.{◌≡◌, ◌<◌, ◌≤◌, ◌^◌, pos, neg_ℤ, ◌+ℤ◌, ◌*ℤ◌, ◌≤ℤ◌, unsigned_abs};
+ghost use Rattle.std.specs.Prelude.{◌≡◌, ◌<◌, ◌≤◌, ◌^◌, pos, neg_ℤ, ◌+ℤ◌, ◌*ℤ◌, ◌≤ℤ◌, unsigned_abs, IfSome};
 ghost use Rattle.kql_values.specs.Values.{IsMoment};
 ghost use Rattle.kql_ticks.specs.Moves.{add_part, in_month, to_month};
 ghost use Rattle.kql_ticks.specs.Periods.{IsPeriod, day_at, month_number, ticks_of};
@@ -20,6 +20,7 @@ pub fn add_part(part: Part, n: i64, x: i64) -> Option<i64>
     requires moment { IsMoment x }
     requires part { IsPeriod part }
     ensures value { result ≡ add_part part n (unsigned_abs x) }
+    ensures range { IfSome result IsMoment }
 {
     match part {
         Part::Year => add_months(12 * n as i128, ticks(x)),
@@ -58,6 +59,7 @@ fn add_ticks(n: i64, size: u64, ticks: u64) -> Option<i64>
     requires size { size ≤ 6048000000000 }
     requires bound { ticks ≤ 3155378975999999999 }
     ensures value { result ≡ fit_moment (pos ticks +ℤ n *ℤ pos size) }
+    ensures range { IfSome result IsMoment }
 {
     fit_moment(ticks as i128 + n as i128 * size as i128)
 }
@@ -68,6 +70,7 @@ fn add_months(months: i128, ticks: u64) -> Option<i64>
     requires high { months ≤ℤ pos (2 ^ 100) }
     requires bound { ticks ≤ 3155378975999999999 }
     ensures value { result ≡ to_month (pos (month_number (day_at ticks)) +ℤ months) ticks }
+    ensures range { IfSome result IsMoment }
 {
     to_month(month_number(day_of(ticks)) as i128 + months, ticks)
 }
@@ -76,6 +79,7 @@ fn add_months(months: i128, ticks: u64) -> Option<i64>
 fn to_month(month: i128, ticks: u64) -> Option<i64>
     requires { ticks ≤ 3155378975999999999 }
     ensures value { result ≡ to_month month ticks }
+    ensures range { IfSome result IsMoment }
 {
     if month < 12 {
         return None;

@@ -45,6 +45,7 @@ pub fn start_of(part: Part, x: i64) -> Option<i64>
     requires moment { IsMoment x }
     requires part { HasBounds part }
     ensures value { result ≡ start_of part (unsigned_abs x) }
+    ensures range { IfSome result IsMoment }
 
     // It is not above the datetime and in the same period, and the tick before it is in another.
     ensures below { IfSome result (λ s. s ≤ℤ x) }
@@ -64,6 +65,7 @@ pub fn end_of(part: Part, x: i64) -> Option<i64>
     requires moment { IsMoment x }
     requires part { HasBounds part }
     ensures value { result ≡ end_of part (unsigned_abs x) }
+    ensures range { IfSome result IsMoment }
 
     // It is not below the datetime and in the same period, and the tick after it is in another.
     ensures above { IfSome result (λ e. x ≤ℤ e) }

@@ -8,5 +8,5 @@ use Rattle.kql_dynamic.proofs.sets.set_difference.Goals as goal
 
 pub returns-clause-form : goal.returns-clause-form
 returns-clause-form c =
-    let e : array c.in_ok-distinct.field-0 ≡ set_difference c.args.args.now = grind (arith, common_steps) in
+    let e : array c.in_ok-list.list ≡ set_difference c.args.args.now = grind (arith, common_steps) in
     formed _ _ e (difference-form c.args.args.now c.requires.form)

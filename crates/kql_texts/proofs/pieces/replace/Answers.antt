@@ -19,20 +19,20 @@ returns-then-is_empty-clause-replaced c =
 pub returns-clause-replaced : goal.returns-clause-replaced
 returns-clause-replaced c =
     let some = is_some_text _ c.args.from.now c.is_empty.ensures c.if-is_empty.false in
-    let run = c.in_ok-replace.ensures.ok in
+    let run = c.in_ok-replaced.ensures.ok in
     let parts = replaced_parts run.0 c.args.from.now c.args.to.now c.args.text.now _ _ some refl run.1 in
     (parts.0, parts.1, c.from_string.ensures.same ∙ parts.2)
 
 pub returns-clause-same : goal.returns-clause-same
 returns-clause-same c = λ same.
     let some = is_some_text _ c.args.from.now c.is_empty.ensures c.if-is_empty.false in
-    let run = c.in_ok-replace.ensures.ok in
+    let run = c.in_ok-replaced.ensures.ok in
     let parts = replaced_parts run.0 c.args.from.now c.args.to.now c.args.text.now _ _ some refl run.1 in
     c.from_string.ensures.same ∙ parts.2 ∙ ap (λ l. joined l parts.0) (sym same) ∙ parts.3
 
 pub returns-clause-value : goal.returns-clause-value
 returns-clause-value c =
     let some = is_some_text _ c.args.from.now c.is_empty.ensures c.if-is_empty.false in
-    let run = c.in_ok-replace.ensures.ok in
+    let run = c.in_ok-replaced.ensures.ok in
     let parts = replaced_parts run.0 c.args.from.now c.args.to.now c.args.text.now _ _ some refl run.1 in
     c.from_string.ensures.same ∙ parts.2 ∙ ap (joined c.args.to.now) (IsSplit-value _ _ _ parts.1)

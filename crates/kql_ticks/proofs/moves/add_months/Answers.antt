@@ -7,4 +7,4 @@ pub returns : goal.returns
 returns c =
     let m = c.month_number.ensures.value in
     let d = rw c.day_of.ensures.value at m in
-    record { value = c.to_month.ensures.value ∙ ap (λ (z : ℤ). to_month z c.args.ticks) (omega (arith, ints, d)) }
+    record { range = c.to_month.ensures.range; value = c.to_month.ensures.value ∙ ap (λ (z : ℤ). to_month z c.args.ticks) (omega (arith, ints, d)) }

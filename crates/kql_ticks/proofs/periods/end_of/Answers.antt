@@ -4,6 +4,7 @@ use Rattle.kql_ticks.specs.Periods.{day_at}
 use Rattle.kql_ticks.specs.Ranges.{fit_moment}
 use Rattle.kql_ticks.proofs.BackLemmas.{size_is}
 use Rattle.kql_ticks.proofs.BoundLemmas.{end_above, end_same, end_after}
+use Rattle.kql_ticks.proofs.RangeLemmas.{fit_moment_gives}
 use Rattle.kql_ticks.proofs.periods.end_of.Goals as goal
 
 -- what the code computes, with its casts taken away
@@ -30,3 +31,6 @@ returns-clause-after c =
     let s = end c in
     let after = rw s.0 at c.next_day-next.ensures.after in
     rw s.1 (end_after c.args.part c.next_day-next.result (unsigned_abs c.args.x) c.requires.part after)
+
+pub returns-clause-range : goal.returns-clause-range
+returns-clause-range c = fit_moment_gives _ _ c.fit_moment.ensures

@@ -4,6 +4,7 @@ use Rattle.kql_ticks.specs.Periods.{day_at}
 use Rattle.kql_ticks.specs.Ranges.{fit_moment}
 use Rattle.kql_ticks.proofs.BackLemmas.{size_is}
 use Rattle.kql_ticks.proofs.BoundLemmas.{start_below, start_same, start_before}
+use Rattle.kql_ticks.proofs.RangeLemmas.{fit_moment_gives}
 use Rattle.kql_ticks.proofs.periods.start_of.Goals as goal
 
 -- what the code computes, with its casts taken away
@@ -30,3 +31,6 @@ returns-clause-before c =
     let s = start c in
     let before = rw s.0 at c.first_day-first.ensures.before in
     rw s.1 (start_before c.args.part c.first_day-first.result (unsigned_abs c.args.x) c.requires.part before)
+
+pub returns-clause-range : goal.returns-clause-range
+returns-clause-range c = fit_moment_gives _ _ c.fit_moment.ensures
