@@ -1,5 +1,15 @@
 pub mod FrontFacts
 pub mod LexFacts
+pub mod LiteralFacts
 pub mod NumberFacts
+pub mod NumberFronts
 pub mod PlaceFacts
+pub mod ReadingFacts
+pub mod Runs
+pub mod SignFronts
+pub mod StringFacts
+pub mod StringFronts
+pub mod TextFacts
 pub mod WordFacts
+pub mod WordFronts
+pub mod WordLists

@@ -1,6 +1,10 @@
 pub mod Answers
 pub mod Bytes
 pub mod Lexing
+pub mod Literals
+pub mod Numbers
 pub mod Pieces
 pub mod Places
+pub mod Shapes
+pub mod Strings
 pub mod Words

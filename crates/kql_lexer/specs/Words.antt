@@ -1,5 +1,5 @@
--- The words of the language: their texts, their numbers, and which of them are reserved.
-use Rattle.std.specs.Prelude.{ℕ, Bool, true, false, ◌&&◌, codes, List, [], ◌∷◌, if◌then◌else◌}
+-- The words of the language: their texts, and which of them are reserved.
+use Rattle.std.specs.Prelude.{ℕ, Bool, true, false, ◌&&◌, codes, nat_le, List, [], ◌∷◌, take, length, Option, Some, None, if◌then◌else◌}
 use Rattle.std.specs.List.{list_all}
 use Rattle.std.specs.Str.{bytes_eq}
 use Rattle.kql_lexer.specs.Bytes.{is_word_start, is_word_char}
@@ -101,105 +101,15 @@ keyword_text word.StartswithCs = codes "startswith_cs"
 keyword_text word.WithMatchId = codes "with_match_id"
 keyword_text word.ProjectRename = codes "project-rename"
 
--- the number of a keyword
-unfoldable pub keyword_code : Keyword → ℕ
-keyword_code word.Other = 0
-keyword_code word.Or = 1
-keyword_code word.In = 2
-keyword_code word.By = 3
-keyword_code word.On = 4
-keyword_code word.To = 5
-keyword_code word.And = 6
-keyword_code word.Has = 7
-keyword_code word.Asc = 8
-keyword_code word.Let = 9
-keyword_code word.InTilde = 10
-keyword_code word.Bag = 11
-keyword_code word.All = 12
-keyword_code word.Int = 13
-keyword_code word.Top = 14
-keyword_code word.True = 15
-keyword_code word.From = 16
-keyword_code word.Step = 17
-keyword_code word.With = 18
-keyword_code word.Kind = 19
-keyword_code word.Hint = 20
-keyword_code word.Desc = 21
-keyword_code word.Take = 22
-keyword_code word.Sort = 23
-keyword_code word.Scan = 24
-keyword_code word.Join = 25
-keyword_code word.Last = 26
-keyword_code word.None = 27
-keyword_code word.Long = 28
-keyword_code word.Time = 29
-keyword_code word.Bool = 30
-keyword_code word.Real = 31
-keyword_code word.Guid = 32
-keyword_code word.False = 33
-keyword_code word.Nulls = 34
-keyword_code word.Range = 35
-keyword_code word.Print = 36
-keyword_code word.Union = 37
-keyword_code word.Where = 38
-keyword_code word.Limit = 39
-keyword_code word.Count = 40
-keyword_code word.Order = 41
-keyword_code word.Parse = 42
-keyword_code word.Array = 43
-keyword_code word.First = 44
-keyword_code word.Outer = 45
-keyword_code word.Inner = 46
-keyword_code word.DollarLeft = 47
-keyword_code word.Regex = 48
-keyword_code word.Typeof = 49
-keyword_code word.DollarRight = 50
-keyword_code word.Extend = 51
-keyword_code word.Lookup = 52
-keyword_code word.Simple = 53
-keyword_code word.Output = 54
-keyword_code word.Double = 55
-keyword_code word.String = 56
-keyword_code word.HasCs = 57
-keyword_code word.Between = 58
-keyword_code word.Matches = 59
-keyword_code word.Default = 60
-keyword_code word.Project = 61
-keyword_code word.Relaxed = 62
-keyword_code word.Declare = 63
-keyword_code word.Decimal = 64
-keyword_code word.Dynamic = 65
-keyword_code word.Contains = 66
-keyword_code word.Endswith = 67
-keyword_code word.Distinct = 68
-keyword_code word.Datetime = 69
-keyword_code word.Timespan = 70
-keyword_code word.Leftsemi = 71
-keyword_code word.Leftanti = 72
-keyword_code word.Serialize = 73
-keyword_code word.Summarize = 74
-keyword_code word.Partition = 75
-keyword_code word.MvExpand = 76
-keyword_code word.Leftouter = 77
-keyword_code word.Fullouter = 78
-keyword_code word.Rightsemi = 79
-keyword_code word.Rightanti = 80
-keyword_code word.Startswith = 81
-keyword_code word.Rightouter = 82
-keyword_code word.ContainsCs = 83
-keyword_code word.EndswithCs = 84
-keyword_code word.MakeSeries = 85
-keyword_code word.Innerunique = 86
-keyword_code word.ProjectAway = 87
-keyword_code word.ProjectKeep = 88
-keyword_code word.StartswithCs = 89
-keyword_code word.WithMatchId = 90
-keyword_code word.ProjectRename = 91
-
 -- the first of these keywords that has this text, or `Other`
 unfoldable pub keyword_among : List Keyword → List ℕ → Keyword
 keyword_among [] text = word.Other
 keyword_among (k ∷ ks) text = if bytes_eq (keyword_text k) text then k else keyword_among ks text
+
+-- each of these keywords has at least as many bytes as the one before it, and the first at least n
+unfoldable pub rises : ℕ → List Keyword → Bool
+rises n [] = true
+rises n (k ∷ ks) = nat_le n (length (keyword_text k)) && rises (length (keyword_text k)) ks
 
 -- every keyword but `Other`, the shorter ones first
 unfoldable pub keywords : List Keyword
@@ -273,3 +183,42 @@ is_word (b ∷ bs) = is_word_start b && list_all is_word_char bs
 -- a reserved word, as the whole text
 unfoldable pub is_reserved : List ℕ → Bool
 is_reserved text = is_reserved_keyword (keyword_of text)
+
+-- the words that a typed literal begins with
+unfoldable pub is_literal_keyword : Keyword → Bool
+is_literal_keyword word.Bool = true
+is_literal_keyword word.Long = true
+is_literal_keyword word.Datetime = true
+is_literal_keyword word.Timespan = true
+is_literal_keyword word.Time = true
+is_literal_keyword word.Dynamic = true
+is_literal_keyword word.Int = true
+is_literal_keyword word.Real = true
+is_literal_keyword word.Double = true
+is_literal_keyword word.Decimal = true
+is_literal_keyword word.Guid = true
+is_literal_keyword _ = false
+
+-- the words that begin with a letter and have another sign in them, the longer ones first
+abbrev pub joined_words : List Keyword
+joined_words = word.ProjectRename ∷ word.ProjectAway ∷ word.ProjectKeep ∷ word.MakeSeries ∷ word.MvExpand ∷ word.InTilde ∷ []
+
+-- the words that begin with `$`
+abbrev pub side_words : List Keyword
+side_words = word.DollarRight ∷ word.DollarLeft ∷ []
+
+-- the words that may stand directly behind `!`, the longer ones first
+abbrev pub negated_words : List Keyword
+negated_words =
+    word.StartswithCs ∷ word.ContainsCs ∷ word.EndswithCs ∷ word.Startswith ∷ word.Contains ∷ word.Endswith ∷ word.Between ∷
+    word.HasCs ∷ word.InTilde ∷ word.Has ∷ word.In ∷ []
+
+-- the first of these keywords that has this text
+unfoldable pub word_in : List Keyword → List ℕ → Option Keyword
+word_in [] text = None
+word_in (k ∷ ks) text = if bytes_eq (keyword_text k) text then Some k else word_in ks text
+
+-- the first of these keywords that the bytes begin with
+unfoldable pub word_before : List Keyword → List ℕ → Option Keyword
+word_before [] bytes = None
+word_before (k ∷ ks) bytes = if bytes_eq (keyword_text k) (take (length (keyword_text k)) bytes) then Some k else word_before ks bytes

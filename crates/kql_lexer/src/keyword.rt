@@ -1,5 +1,5 @@
-ghost use Rattle.std.specs.Prelude.{◌≡◌};
-ghost use Rattle.kql_lexer.specs.Words.{keyword_text, keyword_of, keyword_code, keyword_among, is_reserved_keyword, is_word, is_reserved};
+ghost use Rattle.std.specs.Prelude.{◌≡◌, true};
+ghost use Rattle.kql_lexer.specs.Words.{keyword_text, keyword_of, keyword_among, is_literal_keyword, is_reserved_keyword, is_word, is_reserved, rises, word_before};
 
 use crate::classes::{all_word_chars, is_word_start};
 
@@ -297,107 +297,6 @@ impl Keyword {
         }
     }
 
-    /// A number of its own for each keyword, from 0 for `Other` up.
-    #[tactic(auto, unfolding(crate::specs::Words::keyword_code))]
-    pub fn code(self) -> u8
-        ensures code { result ≡ keyword_code self }
-    {
-        match self {
-            Keyword::Other => 0,
-            Keyword::Or => 1,
-            Keyword::In => 2,
-            Keyword::By => 3,
-            Keyword::On => 4,
-            Keyword::To => 5,
-            Keyword::And => 6,
-            Keyword::Has => 7,
-            Keyword::Asc => 8,
-            Keyword::Let => 9,
-            Keyword::InTilde => 10,
-            Keyword::Bag => 11,
-            Keyword::All => 12,
-            Keyword::Int => 13,
-            Keyword::Top => 14,
-            Keyword::True => 15,
-            Keyword::From => 16,
-            Keyword::Step => 17,
-            Keyword::With => 18,
-            Keyword::Kind => 19,
-            Keyword::Hint => 20,
-            Keyword::Desc => 21,
-            Keyword::Take => 22,
-            Keyword::Sort => 23,
-            Keyword::Scan => 24,
-            Keyword::Join => 25,
-            Keyword::Last => 26,
-            Keyword::None => 27,
-            Keyword::Long => 28,
-            Keyword::Time => 29,
-            Keyword::Bool => 30,
-            Keyword::Real => 31,
-            Keyword::Guid => 32,
-            Keyword::False => 33,
-            Keyword::Nulls => 34,
-            Keyword::Range => 35,
-            Keyword::Print => 36,
-            Keyword::Union => 37,
-            Keyword::Where => 38,
-            Keyword::Limit => 39,
-            Keyword::Count => 40,
-            Keyword::Order => 41,
-            Keyword::Parse => 42,
-            Keyword::Array => 43,
-            Keyword::First => 44,
-            Keyword::Outer => 45,
-            Keyword::Inner => 46,
-            Keyword::DollarLeft => 47,
-            Keyword::Regex => 48,
-            Keyword::Typeof => 49,
-            Keyword::DollarRight => 50,
-            Keyword::Extend => 51,
-            Keyword::Lookup => 52,
-            Keyword::Simple => 53,
-            Keyword::Output => 54,
-            Keyword::Double => 55,
-            Keyword::String => 56,
-            Keyword::HasCs => 57,
-            Keyword::Between => 58,
-            Keyword::Matches => 59,
-            Keyword::Default => 60,
-            Keyword::Project => 61,
-            Keyword::Relaxed => 62,
-            Keyword::Declare => 63,
-            Keyword::Decimal => 64,
-            Keyword::Dynamic => 65,
-            Keyword::Contains => 66,
-            Keyword::Endswith => 67,
-            Keyword::Distinct => 68,
-            Keyword::Datetime => 69,
-            Keyword::Timespan => 70,
-            Keyword::Leftsemi => 71,
-            Keyword::Leftanti => 72,
-            Keyword::Serialize => 73,
-            Keyword::Summarize => 74,
-            Keyword::Partition => 75,
-            Keyword::MvExpand => 76,
-            Keyword::Leftouter => 77,
-            Keyword::Fullouter => 78,
-            Keyword::Rightsemi => 79,
-            Keyword::Rightanti => 80,
-            Keyword::Startswith => 81,
-            Keyword::Rightouter => 82,
-            Keyword::ContainsCs => 83,
-            Keyword::EndswithCs => 84,
-            Keyword::MakeSeries => 85,
-            Keyword::Innerunique => 86,
-            Keyword::ProjectAway => 87,
-            Keyword::ProjectKeep => 88,
-            Keyword::StartswithCs => 89,
-            Keyword::WithMatchId => 90,
-            Keyword::ProjectRename => 91,
-        }
-    }
-
     /// Whether the word is no name, but in `['word']`.
     #[tactic(auto, unfolding(crate::specs::Words::is_reserved_keyword))]
     pub fn is_reserved(self) -> bool
@@ -498,6 +397,107 @@ impl Keyword {
             Keyword::WithMatchId => false,
         }
     }
+
+    /// Whether a typed literal may begin with the word.
+    #[tactic(auto, unfolding(crate::specs::Words::is_literal_keyword))]
+    pub fn is_literal(self) -> bool
+        ensures literal { result ≡ is_literal_keyword self }
+    {
+        match self {
+            Keyword::Bool => true,
+            Keyword::Long => true,
+            Keyword::Datetime => true,
+            Keyword::Timespan => true,
+            Keyword::Time => true,
+            Keyword::Dynamic => true,
+            Keyword::Int => true,
+            Keyword::Real => true,
+            Keyword::Double => true,
+            Keyword::Decimal => true,
+            Keyword::Guid => true,
+            Keyword::And => false,
+            Keyword::Or => false,
+            Keyword::In => false,
+            Keyword::InTilde => false,
+            Keyword::Between => false,
+            Keyword::Contains => false,
+            Keyword::ContainsCs => false,
+            Keyword::Startswith => false,
+            Keyword::StartswithCs => false,
+            Keyword::Endswith => false,
+            Keyword::EndswithCs => false,
+            Keyword::Has => false,
+            Keyword::HasCs => false,
+            Keyword::Matches => false,
+            Keyword::True => false,
+            Keyword::False => false,
+            Keyword::By => false,
+            Keyword::On => false,
+            Keyword::Asc => false,
+            Keyword::Desc => false,
+            Keyword::Nulls => false,
+            Keyword::From => false,
+            Keyword::To => false,
+            Keyword::Step => false,
+            Keyword::With => false,
+            Keyword::Kind => false,
+            Keyword::Hint => false,
+            Keyword::Default => false,
+            Keyword::Typeof => false,
+            Keyword::Let => false,
+            Keyword::Range => false,
+            Keyword::Print => false,
+            Keyword::Union => false,
+            Keyword::DollarLeft => false,
+            Keyword::DollarRight => false,
+            Keyword::MvExpand => false,
+            Keyword::MakeSeries => false,
+            Keyword::ProjectAway => false,
+            Keyword::ProjectKeep => false,
+            Keyword::ProjectRename => false,
+            Keyword::Other => false,
+            Keyword::Bag => false,
+            Keyword::All => false,
+            Keyword::Top => false,
+            Keyword::Take => false,
+            Keyword::Sort => false,
+            Keyword::Scan => false,
+            Keyword::Join => false,
+            Keyword::Last => false,
+            Keyword::None => false,
+            Keyword::Where => false,
+            Keyword::Limit => false,
+            Keyword::Count => false,
+            Keyword::Order => false,
+            Keyword::Parse => false,
+            Keyword::Array => false,
+            Keyword::First => false,
+            Keyword::Outer => false,
+            Keyword::Inner => false,
+            Keyword::Regex => false,
+            Keyword::Extend => false,
+            Keyword::Lookup => false,
+            Keyword::Simple => false,
+            Keyword::Output => false,
+            Keyword::String => false,
+            Keyword::Project => false,
+            Keyword::Relaxed => false,
+            Keyword::Declare => false,
+            Keyword::Distinct => false,
+            Keyword::Leftsemi => false,
+            Keyword::Leftanti => false,
+            Keyword::Serialize => false,
+            Keyword::Summarize => false,
+            Keyword::Partition => false,
+            Keyword::Leftouter => false,
+            Keyword::Fullouter => false,
+            Keyword::Rightsemi => false,
+            Keyword::Rightanti => false,
+            Keyword::Rightouter => false,
+            Keyword::Innerunique => false,
+            Keyword::WithMatchId => false,
+        }
+    }
 }
 
 /// The keyword with this text, or `Other`.
@@ -508,12 +508,19 @@ pub fn keyword_of(text: &str) -> Keyword
     keyword_among(&KEYWORDS, text)
 }
 
+/// The first of some keywords that has this text, or `Other`. The shorter ones stand first, so the search ends at the
+/// first that is longer than the text.
 #[tactic(auto, using(crate::proofs::WordFacts::among_end))]
 fn keyword_among(keywords: &[Keyword], word: &str) -> Keyword
+    requires rises { rises 0 keywords.now ≡ true }
     ensures { result ≡ keyword_among keywords.now word.now }
 {
     for keyword in keywords {
-        if keyword.text() == word {
+        let text = keyword.text();
+        if text.len() > word.len() {
+            return Keyword::Other;
+        }
+        if text == word {
             return *keyword;
         }
     }
@@ -538,4 +545,45 @@ pub fn is_reserved(text: &str) -> bool
     ensures reserved { result ≡ is_reserved text.now }
 {
     keyword_of(text).is_reserved()
+}
+
+/// The words that begin with a letter and have another sign in them, the longer ones first.
+pub(crate) const JOINED_WORDS: [Keyword; 6] = [
+    Keyword::ProjectRename,
+    Keyword::ProjectAway,
+    Keyword::ProjectKeep,
+    Keyword::MakeSeries,
+    Keyword::MvExpand,
+    Keyword::InTilde,
+];
+
+/// The words that begin with `$`.
+pub(crate) const SIDE_WORDS: [Keyword; 2] = [Keyword::DollarRight, Keyword::DollarLeft];
+
+/// The words that may stand directly behind `!`, the longer ones first.
+pub(crate) const NEGATED_WORDS: [Keyword; 11] = [
+    Keyword::StartswithCs,
+    Keyword::ContainsCs,
+    Keyword::EndswithCs,
+    Keyword::Startswith,
+    Keyword::Contains,
+    Keyword::Endswith,
+    Keyword::Between,
+    Keyword::HasCs,
+    Keyword::InTilde,
+    Keyword::Has,
+    Keyword::In,
+];
+
+/// The first of some keywords that the bytes begin with.
+#[tactic(auto, using(crate::proofs::WordFacts::before_end))]
+pub(crate) fn word_before(keywords: &[Keyword], bytes: &[u8]) -> Option<Keyword>
+    ensures { result ≡ word_before keywords.now bytes.now }
+{
+    for keyword in keywords {
+        if bytes.starts_with(keyword.text().as_bytes()) {
+            return Some(*keyword);
+        }
+    }
+    None
 }

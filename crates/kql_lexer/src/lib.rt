@@ -5,13 +5,17 @@
 #![tactic(auto)]
 
 mod classes;
+mod forms;
 mod fronts;
 mod keyword;
 mod lexer;
+mod literals;
+mod numbers;
 mod place;
+mod strings;
 mod token;
 
 pub use keyword::{KEYWORDS, Keyword, is_reserved, is_word, keyword_of};
-pub use lexer::{LexFault, lex};
+pub use lexer::{LexFault, lex, one_reading};
 pub use place::{MAX_BYTES, Place};
 pub use token::{Token, TokenForm, Tokens};

@@ -83,19 +83,28 @@ pub enum TokenForm {
     Percent,
 }
 
-/// What a piece of a text is.
+/// What the longest piece of a text is, before any text is copied.
 #[derive(Debug, Drop)]
-pub(crate) enum Piece {
+pub(crate) enum Shape {
     /// Blanks or a comment.
     Gap,
-    Form(TokenForm),
     /// Something that is no token, with the code of its refusal.
     Flaw(u32),
+    /// A token that holds no text.
+    Plain(TokenForm),
+    /// A word.
+    Word(Keyword),
+    /// A string with escapes.
+    Quoted,
+    /// A verbatim string.
+    Verbatim,
+    /// A typed literal: its keyword, and how many bytes stand before its `(`.
+    Typed(Keyword, usize),
 }
 
-/// The longest piece that a text begins with.
+/// The longest piece that some bytes begin with.
 #[derive(Debug, Drop)]
 pub(crate) struct Front {
     pub size: usize,
-    pub piece: Piece,
+    pub shape: Shape,
 }

@@ -1,0 +1,8 @@
+use Rattle.kql_lexer.proofs.LexFacts.{told_fault, told_tokens}
+use Rattle.kql_lexer.proofs.lexer.one_reading.Goals as goal
+
+pub returns-clause-tokens : goal.returns-clause-tokens
+returns-clause-tokens c = told_tokens c.args.text.now c.lex.result c.lex.ensures.tokens
+
+pub returns-clause-refused : goal.returns-clause-refused
+returns-clause-refused c = told_fault c.args.text.now c.lex.result c.lex.ensures.refused
