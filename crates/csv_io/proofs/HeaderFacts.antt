@@ -8,7 +8,7 @@ use Rattle.std.proofs.lemmas.Slice.Eq.{bytes_eq-Decides}
 use Rattle.std.specs.List.{position_or_len}
 use Rattle.std.specs.Str.{bytes_eq}
 use Rattle.csv_io.specs.Faults.{Fault, IsFirstOf}
-use Rattle.csv_io.specs.Header.{column_faults, column_of, header_faults, is_bad_column, is_built, kind_of, name_of}
+use Rattle.csv_io.specs.Header.{column_faults, column_of, header_faults, is_bad_column, name_of}
 use Rattle.csv_io.specs.declared.fault.DataFault.{DataFault}
 use Rattle.csv_io.proofs.LoadFacts.{first-append}
 use Rattle.kql_values.specs.Named.{IsAbsent, column_name, place_of}
@@ -40,12 +40,9 @@ pub no-faults-absent : (before : List Column) (field : List ℕ) → column_faul
 unfolding column_faults
 no-faults-absent before field e = elim (cases_Bool (is_bad_column (length before + 1) field)) [
   | inl t ↦ cc (rw t at e)
-  | inr f ↦ elim (cases_Bool (is_built (kind_of field))) [
-    | inr g ↦ cc (rw (f, g) at e)
-    | inl t ↦ elim (cases_Bool (is_some (place_of column_name (name_of field) before))) [
-      | inl u ↦ cc (rw (f, t, u) at e)
-      | inr v ↦ place_of-None column_name (name_of field) before (is-none _ v)
-    ]
+  | inr f ↦ elim (cases_Bool (is_some (place_of column_name (name_of field) before))) [
+    | inl u ↦ cc (rw (f, u) at e)
+    | inr v ↦ place_of-None column_name (name_of field) before (is-none _ v)
   ]
 ]
 

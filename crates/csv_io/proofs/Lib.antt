@@ -1,6 +1,10 @@
+pub mod CellBack
 pub mod FieldFacts
 pub mod HeaderFacts
 pub mod LoadFacts
 pub mod NumberFacts
 pub mod RecordsLeftFacts
+pub mod Reloaded
 pub mod TextFacts
+pub mod TypedHeader
+pub mod WrittenText

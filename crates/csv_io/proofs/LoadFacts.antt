@@ -1,23 +1,19 @@
 -- Faults one after another, and one more cell or row without a fault.
-use Rattle.std.proofs.Common.{◌≡◌, ◌≤◌, ◌<◌, ◌==◌, ◌+◌, ◌++◌, ◌∙◌, ℕ, zero, suc, true, false, List, [], ◌∷◌, length, drop, get_or, refl, sym, ap, arith, append_assoc, length-append, drop-cons, eq-eqb, inl, inr}
-use Rattle.std.proofs.lemmas.List.{append-nil}
+use Rattle.std.proofs.Common.{◌≡◌, ◌≤◌, ◌<◌, ◌==◌, ◌+◌, ◌++◌, ◌∙◌, ℕ, zero, suc, true, false, List, [], ◌∷◌, length, drop, take, get_or, refl, sym, ap, arith, append_assoc, length-append, drop-cons, eq-eqb, inl, inr}
+use Rattle.std.proofs.lemmas.List.{append-nil, take_all, take_more}
 use Rattle.std.proofs.lemmas.Bool.{cases_Bool, ne_eqb}
-use Rattle.std.specs.Prelude.{Option, Some, None, Result, Ok, Err, map, IfOk, IfErr, IsUtf8, unwrap_or, option_map, codes, ℤ}
+use Rattle.std.specs.Prelude.{Some, Result, Ok, Err, map, IfOk, IfErr, IsUtf8}
 use Rattle.std.proofs.lemmas.Str.{IsUtf8-from_is_utf8, is_utf8-from_IsUtf8}
 use Rattle.std.specs.Str.Lossy.{utf8_valid_len}
-use Rattle.std.specs.Str.{is_utf8, str_eq_ignore_ascii_case}
-use Rattle.csv_io.specs.Cells.{long_of, read_bool, read_long}
+use Rattle.std.specs.Str.{is_utf8}
 use Rattle.csv_io.specs.Faults.{Fault, bad_length, not_utf8, fault_at, IsFaultOf, IsFirstOf, Reads, unless}
 use Rattle.csv_io.specs.Header.{column_of, header_faults}
-use Rattle.csv_io.specs.Load.{cell_faults, cell_of, cells_faults, cells_of, faults_of, file_records, grid_of, loaded, row_faults, rows_faults}
+use Rattle.csv_io.specs.Load.{cell_faults, cells_faults, cells_of, faults_of, file_records, grid_of, loaded, row_faults, rows_faults}
 use Rattle.csv_io.specs.declared.fault.DataFault.{DataFault}
 use Rattle.csv_io.specs.declared.fault.DataFault.TheVariants as fault
 use Rattle.kql_values.specs.Table.{CellFits, RowFits}
 use Rattle.kql_values.specs.declared.schema.Column.{Column}
-use Rattle.kql_values.specs.declared.value.Kind.{Kind}
-use Rattle.kql_values.specs.declared.value.Kind.TheVariants as kind
 use Rattle.kql_values.specs.declared.value.Value.{Value}
-use Rattle.kql_values.specs.declared.value.Value.TheVariants as value
 
 inside : (f g : Fault) → Some f ≡ Some g → f ≡ g
 inside f g e = cc e
@@ -54,44 +50,24 @@ loaded-other bytes n =
     let other : is_utf8 bytes ≡ false = elim (cases_Bool (is_utf8 bytes)) [ inl t ↦ absurd (n (IsUtf8-from_is_utf8 bytes t)) | inr f ↦ f ] in
     rw other refl
 
--- an option of a value or of null
-abbrev AllFit : Kind → List ℕ → Option Value → Type 0
-AllFit k name o = CellFits (record { name = name; kind = k }) (unwrap_or o value.Null)
-
-bool-fits : (name field : List ℕ) → AllFit kind.Bool name (read_bool field)
-bool-fits name [] = (tt, tt)
-bool-fits name (b ∷ bs) = elim (cases_Bool (str_eq_ignore_ascii_case (b ∷ bs) (codes "true"))) [
-  | inl t ↦ rw t (tt, tt)
-  | inr f ↦ elim (cases_Bool (str_eq_ignore_ascii_case (b ∷ bs) (codes "false"))) [
-    | inl t ↦ rw (f, t) (tt, tt)
-    | inr g ↦ rw (f, g) (tt, tt)
-  ]
-]
-
-number-fits : (name : List ℕ) (o : Option ℤ) → AllFit kind.Long name (option_map value.Long o)
-number-fits name None = (tt, tt)
-number-fits name (Some n) = (tt, tt)
-
-long-fits : (name field : List ℕ) → AllFit kind.Long name (read_long field)
-long-fits name [] = (tt, tt)
-long-fits name (b ∷ bs) = number-fits name (long_of (b ∷ bs))
-
--- a value that was read, or null, fits its column
-cell-fits : (k : Kind) (name field : List ℕ) → CellFits (record { name = name; kind = k }) (cell_of k field)
-unfolding cell_of
-cell-fits kind.Text name field = (tt, tt)
-cell-fits kind.Bool name field = bool-fits name field
-cell-fits kind.Long name field = long-fits name field
-cell-fits kind.Moment name field = (tt, tt)
-cell-fits kind.Span name field = (tt, tt)
-cell-fits kind.Dynamic name field = (tt, tt)
-
--- so a row of as many fields as there are columns fits them
-pub cells-fit : (columns : List Column) (fields : List (List ℕ)) → length fields ≡ length columns → RowFits columns (cells_of columns fields)
+-- a row with one value more
+fits-push : (columns : List Column) (c : Column) (row : List Value) (v : Value) → RowFits columns row → CellFits c v → RowFits (columns ++ c ∷ []) (row ++ v ∷ [])
 unfolding RowFits
-cells-fit [] fields e = tt
-cells-fit (c ∷ cs) [] e = absurd (omega arith)
-cells-fit (c ∷ cs) (f ∷ fs) e = (cell-fits c.kind c.name f, cells-fit cs fs (omega arith))
+fits-push [] c [] v h f = (f, tt)
+fits-push [] c (w ∷ row) v h f = absurd h
+fits-push (b ∷ columns) c [] v h f = absurd h
+fits-push (b ∷ columns) c (w ∷ row) v h f = (h.0, fits-push columns c row v h.1 f)
+
+pub fits-more : (columns : List Column) (j : ℕ) (d : Column) (row : List Value) (v : Value) → j < length columns → RowFits (take j columns) row → CellFits (get_or columns j d) v
+    → RowFits (take (j + 1) columns) (row ++ v ∷ [])
+fits-more columns j d row v lt h f = rw (take_more columns j d lt) (fits-push (take j columns) (get_or columns j d) row v h f)
+
+pub fits-all : (columns : List Column) (j : ℕ) (row : List Value) → length columns ≤ j → RowFits (take j columns) row → RowFits columns row
+fits-all columns j row all h = rw (take_all j columns all) at h
+
+pub fits-none : (columns : List Column) (row : List Value) → row ≡ [] → RowFits (take 0 columns) row
+unfolding RowFits
+fits-none columns row e = rw e tt
 
 -- the faults of the first field that is left, and of the others
 faults-at : (columns : List Column) (fields : List (List ℕ)) (row at j : ℕ) (d : Column) → j < length columns → j < length fields

@@ -9,14 +9,14 @@ use Rattle.std.proofs.lemmas.Bool.Decides.{nat_tests}
 use Rattle.std.proofs.lemmas.Str.Parse.{IsNumeralModel, numerals_by_value, tells_all_ascii_digits, parse_signed_minus, parse_signed_plain}
 use Rattle.csv_io.specs.Cells.{is_whole, long_of}
 
-own : IsNumeralModel (λ ds. all_ascii_digits ds ≡ true) (digits_value 10)
+pub own : IsNumeralModel (λ ds. all_ascii_digits ds ≡ true) (digits_value 10)
 own = numerals_by_value _ tells_all_ascii_digits
 
 by_test : {E : Type 0} (r : Result ℤ E) (P : Type 0) (v : ℤ) (b : Bool) → OkIff r P v → (b ≡ true → P) → (P → b ≡ true) → result_ok r ≡ (if b then Some v else None)
 by_test (Ok x) P v b h f g = rw (g h.0, h.1) refl
 by_test (Err e) P v b h f g = elim (cases_Bool b) [ inl t ↦ absurd (h (f t)) | inr n ↦ rw n refl ]
 
-to-whole : (ds : List ℕ) → all_ascii_digits ds ≡ true → 0 < length ds → is_whole ds ≡ true
+pub to-whole : (ds : List ℕ) → all_ascii_digits ds ≡ true → 0 < length ds → is_whole ds ≡ true
 to-whole [] a b = absurd (omega arith)
 to-whole (d ∷ ds) a b = a
 

@@ -20,7 +20,7 @@ long [] c ys = omega arith
 long (x ∷ xs) c ys = let h = long xs c ys in omega arith
 
 -- a text may be cut at an ASCII byte
-split : (a : List ℕ) (c : ℕ) (b : List ℕ) → IsUtf8 (a ++ c ∷ b) → c < 128 → IsUtf8 a × IsUtf8 b
+pub split : (a : List ℕ) (c : ℕ) (b : List ℕ) → IsUtf8 (a ++ c ∷ b) → c < 128 → IsUtf8 a × IsUtf8 b
 split a c b u lt =
     let bs = a ++ c ∷ b in
     let here : get_or bs (length a) 0 < 128 = rw (get_or-append_seam a c b 0) lt in
@@ -82,7 +82,12 @@ fine st.AfterQuote c p = elim (cases_Bool (c == 34)) [ inl t ↦ rw t (tt, inl r
 fine st.InComment c p = absurd p
 fine st.AfterCr c p = elim (cases_Bool (c == 10)) [ inl t ↦ rw t (tt, inr (ascii c 10 (omega arith) t)) | inr n ↦ rw n (rw n at (fine-record c)) ]
 
-text-push : (fs : List (List ℕ)) (f : List ℕ) → AllText fs → IsUtf8 f → AllText (fs ++ f ∷ [])
+-- no fields are text
+pub no-fields : (fs : List (List ℕ)) → fs ≡ [] → AllText fs
+unfolding AllText
+no-fields fs e = rw e tt
+
+pub text-push : (fs : List (List ℕ)) (f : List ℕ) → AllText fs → IsUtf8 f → AllText (fs ++ f ∷ [])
 unfolding AllText
 text-push [] f a u = (u, tt)
 text-push (g ∷ fs) f a u = (a.0, text-push fs f a.1 u)

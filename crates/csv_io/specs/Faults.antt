@@ -13,9 +13,6 @@ abbrev pub fault_at : ℕ → ℕ → ℕ → Fault
 fault_at code row column = record { code = code; row = row; column = column }
 
 -- the codes
-abbrev pub not_built : ℕ
-not_built = 204
-
 abbrev pub not_utf8 : ℕ
 not_utf8 = 301
 

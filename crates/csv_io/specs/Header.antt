@@ -2,7 +2,7 @@
 use Rattle.std.specs.Prelude.{ℕ, ◌+◌, ◌==◌, ◌||◌, nat_lt, Bool, true, false, List, [], ◌∷◌, ◌++◌, length, codes, is_some, if◌then◌else◌}
 use Rattle.std.specs.List.{after_last, before_last, list_any}
 use Rattle.std.specs.Str.{bytes_eq}
-use Rattle.csv_io.specs.Faults.{Fault, bad_column, column_twice, fault_at, not_built}
+use Rattle.csv_io.specs.Faults.{Fault, bad_column, column_twice, fault_at}
 use Rattle.csv_io.specs.declared.header.TypeWord.{TypeWord}
 use Rattle.csv_io.specs.declared.header.TypeWord.TheVariants as word
 use Rattle.kql_values.specs.Named.{column_name, place_of}
@@ -62,26 +62,17 @@ is_left_out word.LeftOut = true
 is_left_out (word.Given k) = false
 is_left_out word.Absent = false
 
--- the types whose cells are read
-abbrev pub is_built : Kind → Bool
-is_built kind.Bool = true
-is_built kind.Long = true
-is_built kind.Text = true
-is_built kind.Moment = false
-is_built kind.Span = false
-is_built kind.Dynamic = false
-
 -- the 257th field, a refused type, or no name
 abbrev pub is_bad_column : ℕ → List ℕ → Bool
 is_bad_column place field = nat_lt 256 place || is_left_out (type_in field) || (length (name_of field) == 0)
 
--- the faults of a field behind these columns: a bad column, a type that is not read, a name that stood before
+-- the faults of a field behind these columns: a bad column, or a name that stood before
 unfoldable pub column_faults : List Column → List ℕ → List Fault
 column_faults before field =
     let place = length before + 1 in
     if is_bad_column place field then fault_at bad_column 0 place ∷ []
-    else if is_built (kind_of field) then (if is_some (place_of column_name (name_of field) before) then fault_at column_twice 0 place ∷ [] else [])
-    else fault_at not_built 0 place ∷ []
+    else if is_some (place_of column_name (name_of field) before) then fault_at column_twice 0 place ∷ []
+    else []
 
 -- the faults of a header's fields behind these columns, in order
 abbrev pub header_faults : List Column → List (List ℕ) → List Fault

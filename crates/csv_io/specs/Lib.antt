@@ -3,6 +3,8 @@ pub mod Faults
 pub mod Header
 pub mod Load
 pub mod Printed
+pub mod Pushed
 pub mod RecordsLeft
+pub mod Reload
 pub mod Text
 pub mod TextRecords

@@ -1,20 +1,24 @@
 -- The text of a table.
-use Rattle.std.specs.Prelude.{ℕ, true, false, List, [], ◌++◌, map, flat_map, codes}
+use Rattle.std.specs.Prelude.{ℕ, true, false, List, [], ◌++◌, map, flat_map, codes, unsigned_abs}
 use Rattle.std.specs.Fmt.{signed_decimal}
 use Rattle.csv.specs.Writing.{default_writer, row_text}
+use Rattle.kql_dynamic.specs.Printed.{printed}
+use Rattle.kql_ticks.specs.Texts.{moment_text, span_text}
 use Rattle.kql_values.specs.Table.{Grid}
 use Rattle.kql_values.specs.declared.schema.Column.{Column}
 use Rattle.kql_values.specs.declared.value.Value.{Value}
 use Rattle.kql_values.specs.declared.value.Value.TheVariants as value
 
--- the text of a cell; a moment, a span and a dynamic value are not written here
+-- the text of a cell
 abbrev pub cell_text : Value → List ℕ
 cell_text value.Null = []
 cell_text (value.Bool true) = codes "true"
 cell_text (value.Bool false) = codes "false"
 cell_text (value.Long n) = signed_decimal n
 cell_text (value.Text t) = t
-cell_text _ = []
+cell_text (value.Moment x) = moment_text (unsigned_abs x)
+cell_text (value.Span x) = span_text x
+cell_text (value.Dynamic d) = printed d
 
 abbrev pub line_text : List Value → List ℕ
 line_text row = row_text default_writer (map cell_text row)

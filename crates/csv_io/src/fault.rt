@@ -24,8 +24,6 @@ impl From<AllocError> for DataFault {
 }
 
 // The codes of refusals.
-pub(crate) const NOT_BUILT: u32 = 204;
-
 pub(crate) const NOT_UTF8: u32 = 301;
 
 pub(crate) const NO_HEADER: u32 = 302;

@@ -2,9 +2,9 @@ ghost use Rattle.std.specs.Prelude.{◌≡◌, ◌++◌, ◌∷◌, [], true, fa
 ghost use Rattle.std.specs.List.{after_last, before_last, list_any};
 ghost use Rattle.csv.specs.Records.{AllText, fields_of};
 ghost use Rattle.csv_io.specs.Faults.{Reads};
-ghost use Rattle.csv_io.specs.Header.{column_faults, column_of, header_faults, is_built, is_colon, is_left_out, is_refused_word, kind_by, name_by, type_in, type_of_word};
+ghost use Rattle.csv_io.specs.Header.{column_faults, column_of, header_faults, is_colon, is_left_out, is_refused_word, kind_by, name_by, type_in, type_of_word};
 
-use crate::fault::{BAD_COLUMN, COLUMN_TWICE, DataFault, NOT_BUILT, refused};
+use crate::fault::{BAD_COLUMN, COLUMN_TWICE, DataFault, refused};
 use crate::fields::field;
 use csv::ByteRecord;
 use kql_values::{Column, KText, Kind, Schema};
@@ -55,9 +55,6 @@ fn read_column(alloc: Global, schema: &Schema, field: &str) -> Result<Column, Da
     let heading = heading_of(field);
     if place > COLUMN_LIMIT || heading.is_left_out || heading.name.is_empty() {
         return Err(refused(BAD_COLUMN, 0, place));
-    }
-    if !is_built(heading.kind) {
-        return Err(refused(NOT_BUILT, 0, place));
     }
     if schema.find(heading.name).is_some() {
         return Err(refused(COLUMN_TWICE, 0, place));
@@ -159,13 +156,4 @@ fn is_refused_word(word: &str) -> bool
         || word == "guid"
         || word == "date"
         || word == "time"
-}
-
-fn is_built(kind: Kind) -> bool
-    ensures { result ≡ is_built kind }
-{
-    match kind {
-        Kind::Bool | Kind::Long | Kind::Text => true,
-        Kind::Moment | Kind::Span | Kind::Dynamic => false,
-    }
 }

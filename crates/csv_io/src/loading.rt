@@ -1,5 +1,6 @@
 ghost use Rattle.std.specs.Prelude.{◌≡◌, [], Ok, IfErr, IfOk, OnOk};
 ghost use Rattle.csv.specs.Records.{AllText, fields_of};
+ghost use Rattle.csv_io.specs.Cells.{FitsKind};
 ghost use Rattle.csv_io.specs.Faults.{IsFaultOf, Reads};
 ghost use Rattle.csv_io.specs.Load.{cell_faults, cell_of, cells_of, faults_of, file_records, grid_of, loaded, row_faults, rows_faults, rows_grid};
 ghost use Rattle.csv_io.specs.TextRecords.{AllRecordsText};
@@ -21,11 +22,13 @@ use std::str;
 /// The first record is the header. A field `Name:type` of it, where the text after the last colon is one of the words
 /// bool, long, string, datetime, timespan and dynamic, names a column of that type; any other field is wholly a name,
 /// of type string. The other records are the rows. An empty cell is null, and the empty string in a column of strings.
+/// A bool is `true` or `false` in any case of ASCII; a long is digits with a minus before them or none; datetimes,
+/// timespans and JSON are read by `read_moment`, `read_span` and `parse_json`.
 ///
 /// The refusals, in the order in which they are looked for: 301 the file is not UTF-8 (the column is the number of bytes
 /// before the first that is not); 302 there is no record; then of the header, column by column, 303 no name, a type that
-/// the language leaves out, or the 257th column, 204 a type that is not read yet, 304 a name that stood before; then row
-/// by row 305 another number of fields (which is the column), and 306 a cell that does not read as its type.
+/// the language leaves out, or the 257th column, 304 a name that stood before; then row by row 305 another number of
+/// fields (which is the column), and 306 a cell that does not read as its type, which no cell of a dynamic column is.
 pub fn load(alloc: Global, bytes: &[u8]) -> Result<Table, DataFault>
     ensures table { IfOk result (λ t. loaded bytes.now ≡ Ok t) }
     ensures fault { IfErr result (IsFaultOf (loaded bytes.now)) }
@@ -104,7 +107,8 @@ fn read_value(
     row: u64,
     column: usize,
 ) -> Result<Value, DataFault>
-    ensures { Reads (cell_faults kind row column text.now) (cell_of kind text.now) result }
+    ensures read { Reads (cell_faults kind row column text.now) (cell_of kind text.now) result }
+    ensures fits { IfOk result (FitsKind kind) }
 {
     match read_cell(alloc, kind, text)? {
         Some(value) => Ok(value),

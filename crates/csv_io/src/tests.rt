@@ -1,6 +1,7 @@
 use super::*;
 use kql_values::{CellRef, Table};
 use std::alloc::{AllocError, Global};
+use std::str;
 use std::test::Fail;
 
 // A letter for each cell, row by row: what it is.
@@ -13,7 +14,9 @@ fn forms_of(alloc: Global, table: &Table) -> Result<String, AllocError> {
                 CellRef::Bool(_) => 'b',
                 CellRef::Long(_) => 'l',
                 CellRef::Text(_) => 't',
-                _ => '?',
+                CellRef::Moment(_) => 'm',
+                CellRef::Span(_) => 's',
+                CellRef::Dynamic(_) => 'd',
             })?;
         }
     }
@@ -29,14 +32,30 @@ fn files_that_are_tables(rt: HostRuntime) -> Result<(), Fail> {
         ("x:long\n1\n\"\"\n2\n", "l-l", "x\n1\n\"\"\n2\n"),
         ("v\n\"\"\nw\n", "tt", "v\n\"\"\nw\n"),
         (
-            "Ts,Note\n2024-01-01,\"two\nlines\"\n",
-            "tt",
-            "Ts,Note\n2024-01-01,\"two\nlines\"\n",
+            "Ts:datetime,Note\n2024-01-01,\"two\nlines\"\n",
+            "mt",
+            "Ts,Note\n2024-01-01T00:00:00.0000000Z,\"two\nlines\"\n",
         ),
         (
-            "t\n\"a\"\"b\"\n\"c,d\"\n e \n",
-            "ttt",
-            "t\n\"a\"\"b\"\n\"c,d\"\n e \n",
+            "a:datetime,b:timespan\n2024-03-01 10:05,36h\n,\n2024-03-01T10:07:30.5Z,-1.5h\n",
+            "ms--ms",
+            "a,b\n2024-03-01T10:05:00.0000000Z,1.12:00:00\n,\n2024-03-01T10:07:30.5000000Z,-01:30:00\n",
+        ),
+        (
+            "a:dynamic,b:dynamic\n\"[1,2]\",\"[7,8,9]\"\n[],[]\n,5\n",
+            "dddd-d",
+            "a,b\n\"[1,2]\",\"[7,8,9]\"\n[],[]\n,5\n",
+        ),
+        (
+            "d:dynamic\n\"{\"\"b\"\":[1,2.5],\"\"a\"\":true}\"\nnope\nnull\n\"\"\n",
+            "dd--",
+            "d\n\"{\"\"a\"\":true,\"\"b\"\":[1,null]}\"\n\"\"\"nope\"\"\"\n\"\"\n\"\"\n",
+        ),
+        ("a:datetime,b:timespan,c:dynamic\n", "", "a,b,c\n"),
+        (
+            "t\n\"a\"\"b\"\n\"c,d\"\n e \na\"b\n\"a\"b\n",
+            "ttttt",
+            "t\n\"a\"\"b\"\n\"c,d\"\n e \n\"a\"\"b\"\nab\n",
         ),
         ("\u{feff}a\n1\n", "t", "a\n1\n"),
         ("\u{feff}\u{feff}a\n1\n", "t", "\u{feff}a\n1\n"),
@@ -45,6 +64,17 @@ fn files_that_are_tables(rt: HostRuntime) -> Result<(), Fail> {
         ("a,b\n1,2", "tt", "a,b\n1,2\n"),
         ("a,b\n1,\"2", "tt", "a,b\n1,2\n"),
         ("\n\na:long\n\n1\n\n", "l", "a\n1\n"),
+        ("a", "", "a\n"),
+        ("a:", "", "a:\n"),
+        ("a:l", "", "a:l\n"),
+        ("a:lo", "", "a:lo\n"),
+        ("a:lon", "", "a:lon\n"),
+        ("a:long", "", "a\n"),
+        ("a:long,b", "", "a,b\n"),
+        ("a:long,b\n", "", "a,b\n"),
+        ("a:long,b\n1,", "lt", "a,b\n1,\n"),
+        ("a:long,b\n1,p", "lt", "a,b\n1,p\n"),
+        ("a:long,b\n1,p\n", "lt", "a,b\n1,p\n"),
         (
             "a:Long,a:b:long,c:string,long,:x,d:\nu,1,v,w,,z\n",
             "tltttt",
@@ -52,14 +82,28 @@ fn files_that_are_tables(rt: HostRuntime) -> Result<(), Fail> {
         ),
         ("a,A,\"b\":long\n1,2,3\n", "ttl", "a,A,b\n1,2,3\n"),
         (
-            "b:bool\nTRUE\nfalse\nTrUe\n\"\"\n",
-            "bbb-",
-            "b\ntrue\nfalse\ntrue\n\"\"\n",
+            "a:int:long,a:long:string,:,a:long \n1,2,3,4\n",
+            "lttt",
+            "a:int,a:long,:,a:long \n1,2,3,4\n",
+        ),
+        ("\u{feff}a:long\n5\n", "l", "a\n5\n"),
+        ("\u{feff}\"a\",b\n1,2\n", "tt", "a,b\n1,2\n"),
+        ("a:long,b\r\n\r\n1,2\r\n", "lt", "a,b\n1,2\n"),
+        ("t\n\"a\rb\"\nc\u{feff}\n", "tt", "t\n\"a\rb\"\nc\u{feff}\n"),
+        (
+            "d:dynamic\n2.5\n [1] \n\"{\"\"a\"\":1,\"\"a\"\":2}\"\n",
+            "-dd",
+            "d\n\"\"\n[1]\n\"{\"\"a\"\":2}\"\n",
         ),
         (
-            "x:long\n-9223372036854775808\n9223372036854775807\n007\n-0\n",
-            "llll",
-            "x\n-9223372036854775808\n9223372036854775807\n7\n0\n",
+            "b:bool\nTRUE\nfalse\nTrUe\nFALSE\n\"\"\n",
+            "bbbb-",
+            "b\ntrue\nfalse\ntrue\nfalse\n\"\"\n",
+        ),
+        (
+            "x:long\n-9223372036854775808\n9223372036854775807\n007\n-0\n-007\n00000000000000000000001\n",
+            "llllll",
+            "x\n-9223372036854775808\n9223372036854775807\n7\n0\n-7\n1\n",
         ),
     ] {
         let table = load(alloc, file.as_bytes())?;
@@ -80,6 +124,7 @@ fn headers_that_are_refused(rt: HostRuntime) {
         (":long\n", 303, 1),
         ("a,,b\n", 303, 2),
         ("\"\"\n", 303, 1),
+        ("\"\"", 303, 1),
         ("a:int\n", 303, 1),
         ("a,b:real\n", 303, 2),
         ("a:double\n", 303, 1),
@@ -88,11 +133,12 @@ fn headers_that_are_refused(rt: HostRuntime) {
         ("a:date\n", 303, 1),
         ("a:b:time\n", 303, 1),
         (":datetime\n", 303, 1),
-        ("a:datetime\n", 204, 1),
-        ("a,b:timespan\n", 204, 2),
-        ("a,b,c:dynamic\n", 204, 3),
-        ("a,a:datetime\n", 204, 2),
+        ("a:long,", 303, 2),
+        ("a:datetime,a:dynamic\n", 304, 2),
         ("a,a:long\n", 304, 2),
+        ("a:b:long,a:b\n", 304, 2),
+        ("a:Long,a:Long\n", 304, 2),
+        ("\u{feff}a,a\n", 304, 2),
         ("a,b,a,c:int\n", 304, 3),
         ("a:int,b,b\n", 303, 1),
         ("a,b:int\n1\n", 303, 2),
@@ -118,6 +164,18 @@ fn rows_that_are_refused(rt: HostRuntime) {
         ("a,b\n1,2\n3\n", 305, 2, 1),
         ("a\n1,2\n", 305, 1, 2),
         ("a,b\n1", 305, 1, 1),
+        ("a:long,b\n1", 305, 1, 1),
+        ("a:long,b\n1\nx,1\n", 305, 1, 1),
+        ("a:long,b\nx,1\n1\n", 306, 1, 1),
+        (
+            "a:long,t:datetime\n1,2024-01-01\n2,\n3,2024-13-01\n",
+            306,
+            3,
+            2,
+        ),
+        ("t:datetime\n2024-01-01T10\n", 306, 1, 1),
+        ("t:timespan\n10:00\n", 306, 1, 1),
+        ("a:dynamic,b:timespan\n{,5\n", 306, 1, 2),
         ("a:long,b\nx\n", 305, 1, 1),
         ("a:long\nx\n1,2\n", 306, 1, 1),
         ("a:long,b:bool\n1,true\nx,maybe\n", 306, 2, 1),
@@ -127,6 +185,11 @@ fn rows_that_are_refused(rt: HostRuntime) {
         ("a:long\n1.5\n", 306, 1, 1),
         ("a:long\n 5\n", 306, 1, 1),
         ("a:long\n-\n", 306, 1, 1),
+        ("a:long\n--5\n", 306, 1, 1),
+        ("a:long\n5-\n", 306, 1, 1),
+        ("a:long\n-+5\n", 306, 1, 1),
+        ("a:long\n5 \n", 306, 1, 1),
+        ("a:long\n1_0\n", 306, 1, 1),
         ("a:long\n0x1\n", 306, 1, 1),
         ("a:long\n9223372036854775808\n", 306, 1, 1),
         ("a:long\n-9223372036854775809\n", 306, 1, 1),
@@ -147,6 +210,10 @@ fn files_that_are_no_text(rt: HostRuntime) {
         (b"\xef\xbb\xbfa\nb\xc3".as_slice(), 6),
         (b":long\n\xff".as_slice(), 6),
         (b"\xed\xa0\x80".as_slice(), 0),
+        (b"a\xe2\x82".as_slice(), 1),
+        (b"\xc0\x80".as_slice(), 0),
+        (b"\xf4\x90\x80\x80".as_slice(), 0),
+        (b"a,b\n1\n\xff".as_slice(), 6),
     ] {
         match load(rt.alloc(), file) {
             Ok(_) => assert!(rt; false, "{file:?} was taken"),
@@ -192,5 +259,49 @@ fn the_widest_header(rt: HostRuntime) -> Result<(), Fail> {
             }
         ),
     }
+    Ok(())
+}
+
+// The text behind the first line.
+fn lines_after(text: &str) -> &str {
+    match text.split_once('\n') {
+        Some((_, rest)) => rest,
+        None => "",
+    }
+}
+
+#[test]
+fn a_printed_table_loads_again(rt: HostRuntime) -> Result<(), Fail> {
+    let alloc = rt.alloc();
+    let header = "b:bool,l:long,t:string,m:datetime,s:timespan,d:dynamic\n";
+    let rows =
+        "true,-5,\"x, \"\"y\"\"\nz\",2024-03-01T10:04:59.9999999Z,-1.12:00:00.5000000,\"[1,null,\"\"a\"\"]\"\n,,,,,\nfalse,0,p,0001-01-01T00:00:00.0000000Z,00:00:00,\"\"\"nope\"\"\"\n";
+    let mut text = String::from_str(alloc, header)?;
+    text.push_str(rows)?;
+    for _ in 0..2 {
+        let table = load(alloc, text.as_bytes())?;
+        let found = forms_of(alloc, &table)?;
+        assert_eq!(rt; found.as_str(), "bltmsd--t---bltmsd");
+        let printed = table_text(alloc, &table)?;
+        let lines = lines_after(str::from_utf8(printed.as_slice()).unwrap_or(""));
+        assert_eq!(rt; lines, rows);
+        text = String::from_str(alloc, header)?;
+        text.push_str(lines)?;
+    }
+    Ok(())
+}
+
+#[test]
+fn a_file_of_many_rows(rt: HostRuntime) -> Result<(), Fail> {
+    let alloc = rt.alloc();
+    let mut text = String::from_str(alloc, "x:long,t\n")?;
+    for i in 0..20000 {
+        write!(text, "{i},row {i}\n")?;
+    }
+    let table = load(alloc, text.as_bytes())?;
+    assert_eq!(rt; table.len(), 20000);
+    let printed = table_text(alloc, &table)?;
+    let lines = lines_after(str::from_utf8(printed.as_slice()).unwrap_or(""));
+    assert_eq!(rt; lines, lines_after(text.as_str()));
     Ok(())
 }

@@ -37,7 +37,7 @@ fn spent(_error: Error) -> AllocError {
     AllocError
 }
 
-// A writer into memory fails for memory alone.
+// An error of a writer into memory is taken for want of memory.
 fn written(outcome: Result<(), Error>) -> Result<(), AllocError>
     ensures { MatchResult result (λ x. outcome ≡ Ok x) (λ _. IsErr outcome) }
 {
