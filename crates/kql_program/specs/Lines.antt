@@ -7,7 +7,11 @@ use Rattle.kql_program.specs.declared.refusal.Refusal.TheVariants.{Query, Usage,
 -- the name of a code of a refused query
 abbrev pub query_name : ℕ → List ℕ
 query_name code =
-    if code == 104 then codes "TextTooLong"
+    if code == 101 then codes "BadCharacter"
+    else if code == 102 then codes "OpenText"
+    else if code == 103 then codes "BadNumber"
+    else if code == 104 then codes "TextTooLong"
+    else if code == 105 then codes "TooManyTokens"
     else if code == 204 then codes "NotBuilt"
     else if code == 401 then codes "UnknownColumn"
     else if code == 404 then codes "WrongType"
@@ -29,8 +33,7 @@ usage_name code =
 -- the name of a code of a refused file
 abbrev pub data_name : ℕ → List ℕ
 data_name code =
-    if code == 204 then codes "NotBuilt"
-    else if code == 301 then codes "NotUtf8"
+    if code == 301 then codes "NotUtf8"
     else if code == 302 then codes "NoHeader"
     else if code == 303 then codes "BadColumn"
     else if code == 304 then codes "ColumnTwice"

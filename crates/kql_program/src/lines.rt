@@ -51,7 +51,11 @@ fn query_name(code: u32) -> &'static str
     ensures { result.now ≡ query_name code }
 {
     match code {
+        101 => "BadCharacter",
+        102 => "OpenText",
+        103 => "BadNumber",
         104 => "TextTooLong",
+        105 => "TooManyTokens",
         204 => "NotBuilt",
         401 => "UnknownColumn",
         404 => "WrongType",
@@ -79,7 +83,6 @@ fn data_name(code: u32) -> &'static str
     ensures { result.now ≡ data_name code }
 {
     match code {
-        204 => "NotBuilt",
         301 => "NotUtf8",
         302 => "NoHeader",
         303 => "BadColumn",

@@ -41,10 +41,10 @@ fn words_of(alloc: Global, command: &str) -> Result<Vec<String>, AllocError> {
     Ok(words)
 }
 
-fn file(alloc: Global, path: &str, text: &str) -> Result<(String, Vec<u8>), AllocError> {
+fn file(alloc: Global, path: &str, bytes: &[u8]) -> Result<(String, Vec<u8>), AllocError> {
     Ok((
         String::from_str(alloc, path)?,
-        Vec::from_slice(alloc, text.as_bytes())?,
+        Vec::from_slice(alloc, bytes)?,
     ))
 }
 
@@ -56,18 +56,18 @@ fn shown(alloc: Global, bytes: &[u8]) -> Result<String, AllocError> {
 }
 
 // Calls `kql` with these words, a file `q` of the query and files `t` and `u` of tables.
-fn call(
+fn call_on_bytes(
     rt: &(impl Threads + Sync),
     alloc: Global,
     command: &str,
     query: &str,
-    table: &str,
+    table: &[u8],
     faults: Faults,
 ) -> Result<(Left, Ended), AllocError> {
     let mut files = Vec::new(alloc);
-    files.push(file(alloc, "q", query)?)?;
+    files.push(file(alloc, "q", query.as_bytes())?)?;
     files.push(file(alloc, "t", table)?)?;
-    files.push(file(alloc, "u", "y\n")?)?;
+    files.push(file(alloc, "u", b"y\n")?)?;
     let mut shelf = MemShelf::new(files, faults.shelf);
     let chunk = faults.chunk.max(1);
     let mut out = MemSink::new(alloc, chunk, 1_048_576, faults.out)?;
@@ -80,6 +80,17 @@ fn call(
         err: shown(alloc, err.bytes())?,
     };
     Ok((left, ended))
+}
+
+fn call(
+    rt: &(impl Threads + Sync),
+    alloc: Global,
+    command: &str,
+    query: &str,
+    table: &str,
+    faults: Faults,
+) -> Result<(Left, Ended), AllocError> {
+    call_on_bytes(rt, alloc, command, query, table.as_bytes(), faults)
 }
 
 const QUERY: &str = "T | where x == 5";
@@ -101,6 +112,11 @@ fn answers_queries(rt: HostRuntime) -> Result<(), Fail> {
             "T | where n == 9223372036854775807",
             "n:long,b:bool\n9223372036854775807,TRUE\n-1,\n",
             "n,b\n9223372036854775807,true\n",
+        ),
+        (
+            QUERY,
+            "x:long,t:datetime,d:timespan,j:dynamic\n5,2024-01-01,36h,[1]\n6,,,\n5,,,\n",
+            "x,t,d,j\n5,2024-01-01T00:00:00.0000000Z,1.12:00:00,[1]\n5,,,\n",
         ),
     ];
     for (query, table, want) in cases {
@@ -124,6 +140,10 @@ fn refuses_queries(rt: HostRuntime) -> Result<(), Fail> {
         ("T | where x == 5 | where x == 5", "1:18: 204 NotBuilt"),
         ("T |\n  where x == ", "2:14: 204 NotBuilt"),
         ("by | where x == 5", "1:1: 204 NotBuilt"),
+        ("T | where x == 'a'", "1:16: 204 NotBuilt"),
+        ("T | where ? == 5", "1:11: 101 BadCharacter"),
+        ("T | where x == \"a", "1:16: 102 OpenText"),
+        ("T | where x == 5a", "1:16: 103 BadNumber"),
     ];
     for (query, want) in cases {
         let alloc = rt.alloc();
@@ -149,7 +169,10 @@ fn refuses_files(rt: HostRuntime) -> Result<(), Fail> {
         ("x:long\n5\nabc\n", "306 BadCell at 2:1"),
         ("a,b\n1,2\n3\n", "305 BadLength at 2:1"),
         ("", "302 NoHeader at 0:0"),
-        ("x:long,t:datetime\n", "204 NotBuilt at 0:2"),
+        (
+            "a:long,t:datetime\n1,2024-01-01\n2,\n3,2024-13-01\n",
+            "306 BadCell at 3:2",
+        ),
         ("x:long,:long\n", "303 BadColumn at 0:2"),
         ("x,x\n", "304 ColumnTwice at 0:2"),
     ];
@@ -232,11 +255,38 @@ fn refuses_long_queries(rt: HostRuntime) -> Result<(), Fail> {
 }
 
 #[test]
+fn refuses_bytes(rt: HostRuntime) -> Result<(), Fail> {
+    let alloc = rt.alloc();
+    for (table, want) in [
+        (
+            Vec::from_slice(alloc, b"a\xff")?,
+            "kql: file 1: 301 NotUtf8 at 0:1\n",
+        ),
+        (
+            vec![in alloc; b'\n'; 67_108_865]?,
+            "kql: file 1: 308 TooLong at 0:0\n",
+        ),
+    ] {
+        let (left, _ended) = call_on_bytes(
+            &rt,
+            alloc,
+            "run q T=t",
+            QUERY,
+            &table,
+            no_faults(alloc),
+        )?;
+        assert_eq!(rt; left.err.as_str(), want);
+        assert_eq!(rt; left.status, 3);
+    }
+    Ok(())
+}
+
+#[test]
 fn answers_in_memory(rt: HostRuntime) -> Result<(), Fail> {
     let alloc = rt.alloc();
     let mut files = Vec::new(alloc);
-    files.push(file(alloc, "q", QUERY)?)?;
-    files.push(file(alloc, "t", NUMBERS)?)?;
+    files.push(file(alloc, "q", QUERY.as_bytes())?)?;
+    files.push(file(alloc, "t", NUMBERS.as_bytes())?)?;
     let mut shelf = CleanShelf::new(files);
     let mut out = CleanSink::new(alloc, 4, 4096)?;
     let mut err = CleanSink::new(alloc, 4, 4096)?;
@@ -259,9 +309,9 @@ fn counts_tables(rt: HostRuntime) -> Result<(), Fail> {
             words.push(format!(in alloc; "a{i}=u")?)?;
         }
         let mut files = Vec::new(alloc);
-        files.push(file(alloc, "q", "T | where x == 6")?)?;
-        files.push(file(alloc, "t", NUMBERS)?)?;
-        files.push(file(alloc, "u", "y\n")?)?;
+        files.push(file(alloc, "q", b"T | where x == 6")?)?;
+        files.push(file(alloc, "t", NUMBERS.as_bytes())?)?;
+        files.push(file(alloc, "u", b"y\n")?)?;
         let mut shelf = MemShelf::new(files, Vec::new(alloc));
         let mut out = MemSink::new(alloc, 4096, 4096, Vec::new(alloc))?;
         let mut err = MemSink::new(alloc, 4096, 4096, Vec::new(alloc))?;
