@@ -1,0 +1,6 @@
+use Rattle.std.proofs.Common.{◌≡◌, map, take}
+use Rattle.kql_values.specs.Seen.{seen}
+use Rattle.kql_scalar_fns.proofs.calls.cells_of.Given as goal
+
+abbrev pub invariant-arguments : goal.invariant-arguments
+invariant-arguments l = map seen l.cells.items ≡ take l.arg-index l.args

@@ -1,0 +1,15 @@
+pub mod Applied
+pub mod Arguments
+pub mod Arithmetic
+pub mod Choice
+pub mod Comparison
+pub mod Conversion
+pub mod Dynamic
+pub mod Find
+pub mod Kinds
+pub mod Logic
+pub mod Names
+pub mod Readings
+pub mod Search
+pub mod Text
+pub mod Time

@@ -1,0 +1,108 @@
+ghost use Rattle.std.specs.Prelude.{◌≡◌, ◌++◌, ◌==◌, IfOk, IsTrue, OnOk, option_and_then, option_map, slice_index};
+ghost use Rattle.std.specs.Fmt.{signed_decimal};
+ghost use Rattle.kql_dynamic.specs.Parts.{text};
+ghost use Rattle.kql_values.specs.Dynamic.{is_well_formed_dynamic};
+ghost use Rattle.kql_values.specs.Seen.{seen};
+ghost use Rattle.kql_values.specs.Values.{IsWellFormed};
+ghost use Rattle.kql_scalar_fns.specs.Readings.{bool_written, dynamic_text, long_written, text_of};
+
+use kql_dynamic::print_json;
+use kql_ticks::{print_moment, print_span};
+use kql_values::{CellRef, Dyn, KText};
+use std::alloc::{AllocError, Global};
+
+// Digits with a minus before them or none, in the range of a long.
+#[tactic(auto, using(crate::proofs::NumberFacts::number_facts))]
+pub(crate) fn read_long(text: &str) -> Option<i64>
+    ensures { result ≡ long_written text.now }
+{
+    if begins_with_plus(text) {
+        return None;
+    }
+    text.parse::<i64>().ok()
+}
+
+fn begins_with_plus(text: &str) -> bool
+    ensures { result ≡ (slice_index text.now 0 == 43) }
+{
+    match text.as_bytes().first() {
+        Some(byte) => *byte == b'+',
+        None => false,
+    }
+}
+
+// `true` and `false` in any case.
+#[tactic(auto, unfolding(crate::specs::Readings::bool_written))]
+pub(crate) fn read_bool(text: &str) -> Option<bool>
+    ensures { result ≡ bool_written text.now }
+{
+    if text.eq_ignore_ascii_case("true") {
+        Some(true)
+    } else if text.eq_ignore_ascii_case("false") {
+        Some(false)
+    } else {
+        None
+    }
+}
+
+// The text of a dynamic value that is one.
+#[tactic(auto, unfolding(kql_dynamic::specs::Parts::text))]
+pub(crate) fn text_in(d: &Dyn) -> Option<&str>
+    ensures { option_map (λ s. s.now) result ≡ text d.now }
+{
+    match d {
+        Dyn::Text(t) => Some(t.as_str()),
+        _ => None,
+    }
+}
+
+// JSON, but a text without its quotes.
+#[tactic(auto, unfolding(crate::specs::Readings::dynamic_text))]
+fn dynamic_text(alloc: Global, d: &Dyn) -> Result<KText, AllocError>
+    requires { IsTrue (is_well_formed_dynamic d.now) }
+    ensures { IfOk result (λ t. t ≡ dynamic_text d.now) }
+{
+    match text_in(d) {
+        Some(t) => KText::from_str(alloc, t),
+        None => print_json(alloc, d),
+    }
+}
+
+fn long_text(alloc: Global, n: i64) -> Result<KText, AllocError>
+    ensures { IfOk result (λ t. t ≡ signed_decimal n) }
+{
+    Ok(KText::from_string(format!(in alloc; "{n}")?))
+}
+
+// What a value prints as; null is the empty text.
+#[tactic(auto, unfolding(crate::specs::Readings::text_of))]
+pub(crate) fn text_of(alloc: Global, a: CellRef<'_>) -> Result<KText, AllocError>
+    requires { IsWellFormed (seen a) }
+    ensures { IfOk result (λ t. t ≡ text_of (seen a.entry)) }
+{
+    match a {
+        CellRef::Null => Ok(KText::new(alloc)),
+        CellRef::Bool(true) => KText::from_str(alloc, "true"),
+        CellRef::Bool(false) => KText::from_str(alloc, "false"),
+        CellRef::Long(n) => long_text(alloc, n),
+        CellRef::Text(t) => KText::from_str(alloc, t),
+        CellRef::Moment(n) => print_moment(alloc, n),
+        CellRef::Span(n) => print_span(alloc, n),
+        CellRef::Dynamic(d) => dynamic_text(alloc, d),
+    }
+}
+
+// Adds what a value prints as at the end.
+#[tactic(auto, unfolding(crate::specs::Readings::text_of))]
+pub(crate) fn push_text_of(alloc: Global, out: &mut KText, a: CellRef<'_>) -> Result<(), AllocError>
+    requires { IsWellFormed (seen a) }
+    ensures { OnOk result (out.new ≡ out.old ++ text_of (seen a.entry)) }
+{
+    match a {
+        CellRef::Text(t) => out.push_str(t),
+        other => {
+            let text = text_of(alloc, other)?;
+            out.push_str(text.as_str())
+        }
+    }
+}

@@ -1,0 +1,9 @@
+pub mod Classes
+pub mod Derives
+pub mod Forms
+pub mod Grammar
+pub mod Leaves
+pub mod Levels
+pub mod Parsing
+pub mod Reading
+pub mod Trees

@@ -1,0 +1,26 @@
+//! The trees of the query language, its grammar, and the reader of expressions.
+#![tactic(auto)]
+
+mod class;
+mod leaf;
+mod parse;
+mod query;
+pub mod reader;
+mod tree;
+
+pub use class::{Class, is_name};
+pub use leaf::text_in;
+pub use parse::{SyntaxFault, parse_expr};
+pub use query::{
+    ColumnOp, Decl, Distinct, Expand, ExpandKind, GroupOp, Hint, HintValue, Item, Join, JoinKind,
+    JoinSign, Key, Let, LetBody, MakeSeries, NullsEnd, On, OnPair, Op, Output, ParseKind,
+    Partition, Pat, Pipe, Query, Range, RowOp, Scan, Series, SortOrder, Source, Step, Summarize,
+    TableArg, TableOp, Union, UnionKind,
+};
+pub use tree::{
+    Access, And, Arg, BetweenOp, BetweenSign, Cmp, CompareOp, CompareSign, Expr, InOp, InSign,
+    Literal, Name, Post, Prod, ProdOp, ProdSign, Sign, Sum, SumOp, SumSign, Term, Word,
+};
+
+#[cfg(test)]
+mod tests;

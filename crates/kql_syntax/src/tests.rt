@@ -1,0 +1,420 @@
+use crate::parse::{SyntaxFault, parse_expr};
+use crate::tree::{Cmp, Expr, Literal, Name, Sign, Sum, Term};
+use kql_items::Items;
+use kql_lexer::{Keyword, Place, Token, TokenForm, Tokens, keyword_of};
+use kql_values::KText;
+use std::alloc::{AllocError, Global};
+use std::test::Fail;
+
+/// The sign that a piece is.
+fn sign_of(piece: &str) -> Option<TokenForm> {
+    Some(match piece {
+        "|" => TokenForm::Bar,
+        "(" => TokenForm::Open,
+        ")" => TokenForm::Close,
+        "[" => TokenForm::OpenSquare,
+        "]" => TokenForm::CloseSquare,
+        "," => TokenForm::Comma,
+        ";" => TokenForm::Semicolon,
+        ":" => TokenForm::Colon,
+        "." => TokenForm::Dot,
+        ".." => TokenForm::DotDot,
+        "=" => TokenForm::Assign,
+        "==" => TokenForm::Equal,
+        "!=" => TokenForm::NotEqual,
+        "=~" => TokenForm::Alike,
+        "!~" => TokenForm::NotAlike,
+        "<" => TokenForm::Less,
+        "<=" => TokenForm::LessEqual,
+        ">" => TokenForm::Greater,
+        ">=" => TokenForm::GreaterEqual,
+        "=>" => TokenForm::Arrow,
+        "+" => TokenForm::Plus,
+        "-" => TokenForm::Minus,
+        "*" => TokenForm::Star,
+        "/" => TokenForm::Slash,
+        "%" => TokenForm::Percent,
+        _ => return None,
+    })
+}
+
+/// The token that a piece without blanks is: a sign, `"text"`, `!word`, `#number`, `~ticks`, `@raw` for a dynamic
+/// literal, or a word.
+fn form_of(alloc: Global, piece: &str) -> Result<TokenForm, AllocError> {
+    if let Some(form) = sign_of(piece) {
+        return Ok(form);
+    }
+    if let Some(word) = piece.strip_prefix("!") {
+        return Ok(TokenForm::Negated(keyword_of(word)));
+    }
+    if let Some(digits) = piece.strip_prefix("#") {
+        return Ok(TokenForm::Number(digits.parse::<i64>().unwrap_or(0)));
+    }
+    if let Some(digits) = piece.strip_prefix("~") {
+        return Ok(TokenForm::Span(digits.parse::<i64>().unwrap_or(0)));
+    }
+    if let Some(raw) = piece.strip_prefix("@") {
+        return Ok(TokenForm::Typed(Keyword::Dynamic, KText::from_str(alloc, raw)?));
+    }
+    if let Some(text) = piece.strip_prefix("'") {
+        return Ok(TokenForm::Text(KText::from_str(alloc, text)?));
+    }
+    Ok(TokenForm::Word(keyword_of(piece), KText::from_str(alloc, piece)?))
+}
+
+/// The tokens of pieces with one blank between them; a column is the number of the piece, from 1.
+fn tokens(alloc: Global, text: &str) -> Result<Tokens, AllocError> {
+    let mut all = Items::new(alloc);
+    let mut column: u32 = 1;
+    for piece in text.split(' ') {
+        let place = Place {
+            line: 1,
+            column,
+            byte: 0,
+        };
+        let form = form_of(alloc, piece)?;
+        all.push(Token { place, form })?;
+        column = column.saturating_add(1);
+    }
+    let place = Place {
+        line: 1,
+        column,
+        byte: 0,
+    };
+    all.push(Token {
+        place,
+        form: TokenForm::End,
+    })?;
+    Ok(all)
+}
+
+/// How many terms an expression joins by `or`, the column of the first such word, and the same of `and` in its first term.
+fn joins(tree: &Expr) -> [usize; 4] {
+    let and = &tree.first;
+    [
+        tree.more.len(),
+        tree.more.get(0).map_or(0, |more| more.0.column as usize),
+        and.more.len(),
+        and.more.get(0).map_or(0, |more| more.0.column as usize),
+    ]
+}
+
+/// The kind of a comparison, the column of its sign, and how many expressions stand in its list.
+fn compared(cmp: &Cmp) -> [usize; 3] {
+    match cmp {
+        Cmp::Plain(_) => [0, 0, 0],
+        Cmp::Compared(_, sign, _) => [1, sign.place.column as usize, 0],
+        Cmp::In(_, sign, list) => [2, sign.place.column as usize, list.len()],
+        Cmp::Between(_, sign, _) => [3, sign.place.column as usize, 0],
+    }
+}
+
+/// The sum that an expression begins with.
+fn first_sum(tree: &Expr) -> &Sum {
+    match &tree.first.first {
+        Cmp::Plain(sum) => sum,
+        Cmp::Compared(sum, _, _) => sum,
+        Cmp::In(sum, _, _) => sum,
+        Cmp::Between(sum, _, _) => sum,
+    }
+}
+
+/// How many terms and factors stand behind the first, the column of its minus or 0, and how much stands behind it.
+fn counts(sum: &Sum) -> [usize; 4] {
+    let prod = &sum.first;
+    let (minus, post) = match &prod.first {
+        Sign::Plain(post) => (0, post),
+        Sign::Minus(place, post) => (place.column as usize, post),
+    };
+    [sum.more.len(), prod.more.len(), minus, post.more.len()]
+}
+
+/// The term that a sum begins with.
+fn first_term(sum: &Sum) -> &Term {
+    match &sum.first.first {
+        Sign::Plain(post) => &post.first,
+        Sign::Minus(_, post) => &post.first,
+    }
+}
+
+/// The kind of a term, its column, and how many arguments it has.
+fn kind_of(term: &Term) -> (&'static str, usize, usize) {
+    match term {
+        Term::Literal(Literal::Number(place, _)) => ("number", place.column as usize, 0),
+        Term::Literal(Literal::Span(place, _)) => ("span", place.column as usize, 0),
+        Term::Literal(Literal::Text(place, _)) => ("text", place.column as usize, 0),
+        Term::Literal(Literal::True(place)) => ("true", place.column as usize, 0),
+        Term::Literal(Literal::False(place)) => ("false", place.column as usize, 0),
+        Term::Literal(Literal::Typed(place, _, _)) => ("typed", place.column as usize, 0),
+        Term::Name(Name::Bare(word)) => ("name", word.place.column as usize, 0),
+        Term::Name(Name::Quoted(place, _)) => ("quoted", place.column as usize, 0),
+        Term::Call(word, args) => ("call", word.place.column as usize, args.len()),
+        Term::Group(place, _) => ("group", place.column as usize, 0),
+    }
+}
+
+/// Tokens without places but their number from 1, and the end mark.
+fn push_form(all: &mut Tokens, form: TokenForm) -> Result<(), AllocError> {
+    let column = u32::try_from(all.len()).unwrap_or(0).saturating_add(1);
+    let place = Place {
+        line: 1,
+        column,
+        byte: 0,
+    };
+    all.push(Token { place, form })
+}
+
+/// So many brackets, a number, and as many that close them.
+fn nested(alloc: Global, depth: usize) -> Result<Tokens, AllocError> {
+    let mut all = Items::new(alloc);
+    for _ in 0..depth {
+        push_form(&mut all, TokenForm::Open)?;
+    }
+    push_form(&mut all, TokenForm::Number(1))?;
+    for _ in 0..depth {
+        push_form(&mut all, TokenForm::Close)?;
+    }
+    push_form(&mut all, TokenForm::End)?;
+    Ok(all)
+}
+
+/// 64 brackets, and then the tokens of a text.
+fn behind_brackets(alloc: Global, text: &str) -> Result<Tokens, AllocError> {
+    let mut all = Items::new(alloc);
+    for _ in 0..64 {
+        push_form(&mut all, TokenForm::Open)?;
+    }
+    for piece in text.split(' ') {
+        push_form(&mut all, form_of(alloc, piece)?)?;
+    }
+    push_form(&mut all, TokenForm::End)?;
+    Ok(all)
+}
+
+/// The index of the token after an expression, or the code and the number of the token that is refused.
+fn outcome(alloc: Global, ts: &Tokens) -> (u32, usize) {
+    if ts.is_empty() {
+        return (0, 0);
+    }
+    match parse_expr(alloc, ts, 0) {
+        Ok((_tree, end)) => (0, end),
+        Err(SyntaxFault::Refused { code, place }) => (code, place.column as usize),
+        Err(SyntaxFault::OutOfMemory) => (1, 0),
+    }
+}
+
+/// What `parse_expr` answers on a text.
+fn parsed(alloc: Global, text: &str) -> Result<(Expr, usize), SyntaxFault> {
+    match tokens(alloc, text) {
+        Ok(ts) => {
+            if ts.is_empty() {
+                return Err(SyntaxFault::OutOfMemory);
+            }
+            parse_expr(alloc, &ts, 0)
+        }
+        Err(_) => Err(SyntaxFault::OutOfMemory),
+    }
+}
+
+/// What an expression joins, or nothing.
+fn joins_of(alloc: Global, text: &str) -> [usize; 4] {
+    match parsed(alloc, text) {
+        Ok((tree, _end)) => joins(&tree),
+        Err(_) => [9; 4],
+    }
+}
+
+#[test]
+fn chains(rt: HostRuntime) {
+    let rows = [
+        ("a", [0, 0, 0, 0]),
+        ("a or b and #1 or c", [2, 2, 0, 0]),
+        ("a and b and c or d", [1, 6, 2, 2]),
+    ];
+    for (text, want) in rows {
+        assert_eq!(rt; joins_of(rt.alloc(), text), want, "at {text}");
+    }
+}
+
+/// What an expression compares, or nothing.
+fn compared_of(alloc: Global, text: &str) -> [usize; 3] {
+    match parsed(alloc, text) {
+        Ok((tree, _end)) => compared(&tree.first.first),
+        Err(_) => [9; 3],
+    }
+}
+
+#[test]
+fn comparisons(rt: HostRuntime) {
+    let rows = [
+        ("a + b", [0, 0, 0]),
+        ("a == b", [1, 2, 0]),
+        ("a + b !~ c", [1, 4, 0]),
+        ("a has b", [1, 2, 0]),
+        ("a !startswith_cs b", [1, 2, 0]),
+        ("a in ( #1 , b or c )", [2, 2, 2]),
+        ("a in~ ( 'x )", [2, 2, 1]),
+        ("a !in ( #1 )", [2, 2, 1]),
+        ("a !in~ ( b )", [2, 2, 1]),
+        ("a between ( #1 .. b + #2 )", [3, 2, 0]),
+        ("a !between ( ~600 .. c )", [3, 2, 0]),
+    ];
+    for (text, want) in rows {
+        assert_eq!(rt; compared_of(rt.alloc(), text), want, "at {text}");
+    }
+}
+
+/// What stands in the first sum of an expression, or nothing.
+fn counts_of(alloc: Global, text: &str) -> [usize; 4] {
+    match parsed(alloc, text) {
+        Ok((tree, _end)) => counts(first_sum(&tree)),
+        Err(_) => [9; 4],
+    }
+}
+
+#[test]
+fn sums(rt: HostRuntime) {
+    let rows = [
+        ("a + b - c * d", [2, 0, 0, 0]),
+        ("a * b / c % #2", [0, 3, 0, 0]),
+        ("- a . b", [0, 0, 1, 1]),
+        ("a - - b", [1, 0, 0, 0]),
+        ("a . where . by [ #0 ] . or", [0, 0, 0, 4]),
+        ("[ 'by ] [ 'x ]", [0, 0, 0, 1]),
+    ];
+    for (text, want) in rows {
+        assert_eq!(rt; counts_of(rt.alloc(), text), want, "at {text}");
+    }
+}
+
+/// The kind of the first term of an expression, or nothing.
+fn kind_in(alloc: Global, text: &str) -> (&'static str, usize, usize) {
+    match parsed(alloc, text) {
+        Ok((tree, _end)) => kind_of(first_term(first_sum(&tree))),
+        Err(_) => ("none", 0, 0),
+    }
+}
+
+#[test]
+fn terms(rt: HostRuntime) {
+    let rows = [
+        ("#5", ("number", 1, 0)),
+        ("~600", ("span", 1, 0)),
+        ("- 'text", ("text", 2, 0)),
+        ("true", ("true", 1, 0)),
+        ("false", ("false", 1, 0)),
+        ("@[1]", ("typed", 1, 0)),
+        ("where", ("name", 1, 0)),
+        ("[ 'by ]", ("quoted", 1, 0)),
+        ("count ( )", ("call", 1, 0)),
+        ("- f ( a , * , g ( #1 ) )", ("call", 2, 3)),
+        ("( a or b )", ("group", 1, 0)),
+    ];
+    for (text, want) in rows {
+        assert_eq!(rt; kind_in(rt.alloc(), text), want, "at {text}");
+    }
+}
+
+/// The code and the column of the refusal, or 0 and the index of the token after the expression.
+fn end_of(alloc: Global, text: &str) -> (u32, usize) {
+    match parsed(alloc, text) {
+        Ok((_tree, end)) => (0, end),
+        Err(SyntaxFault::Refused { code, place }) => (code, place.column as usize),
+        Err(SyntaxFault::OutOfMemory) => (1, 0),
+    }
+}
+
+#[test]
+fn refusals(rt: HostRuntime) {
+    let rows = [
+        ("+ a", 1),
+        ("by", 1),
+        ("a ==", 3),
+        ("a == ) b", 3),
+        ("a !has", 3),
+        ("a or or b", 3),
+        ("- - a", 2),
+        ("( a", 3),
+        ("( a , b )", 3),
+        ("a between ( #1 #2 )", 5),
+        ("a between ( #1 .. #2", 7),
+        ("x in ( )", 4),
+        ("x in ( #1 , )", 6),
+        ("x in ( * )", 4),
+        ("f (", 3),
+        ("f ( , )", 3),
+        ("f ( a , )", 5),
+        ("f ( a b )", 4),
+        ("a . #5", 3),
+        ("a [ ]", 3),
+        ("[ a ]", 2),
+        ("[ 'a", 3),
+    ];
+    for (text, column) in rows {
+        assert_eq!(rt; end_of(rt.alloc(), text), (201, column), "at {text}");
+    }
+}
+
+#[test]
+fn ends(rt: HostRuntime) {
+    let rows = [
+        ("a b", 1),
+        ("a = b", 1),
+        ("a == b == c", 3),
+        ("a matches b", 1),
+        ("true ( )", 1),
+        ("f ( a ) ( b )", 4),
+        ("( a or b ) [ #1 ] )", 8),
+    ];
+    for (text, end) in rows {
+        assert_eq!(rt; end_of(rt.alloc(), text), (0, end), "at {text}");
+    }
+}
+
+#[test]
+fn brackets(rt: HostRuntime) -> Result<(), Fail> {
+    let alloc = rt.alloc();
+    let rows = [(64, (0, 129)), (65, (202, 65)), (80, (202, 65))];
+    for (depth, want) in rows {
+        let ts = nested(alloc, depth)?;
+        assert_eq!(rt; outcome(alloc, &ts), want);
+    }
+    let rows = [
+        ("a (", (202, 66)),
+        ("a [", (202, 66)),
+        ("[", (202, 65)),
+        ("#1 (", (201, 66)),
+        (")", (201, 65)),
+        ("#1 ) + (", (201, 69)),
+        ("#1 ) + ( (", (202, 69)),
+        ("a . b [ [ 'c ] ]", (202, 68)),
+    ];
+    for (text, want) in rows {
+        let ts = behind_brackets(alloc, text)?;
+        assert_eq!(rt; outcome(alloc, &ts), want, "at {text}");
+    }
+    Ok(())
+}
+
+#[test]
+fn lists(rt: HostRuntime) -> Result<(), Fail> {
+    let alloc = rt.alloc();
+    // a chain of 60,000 terms, of which each is in brackets
+    let mut ts = Items::new(alloc);
+    for i in 0..60_000 {
+        if i > 0 {
+            push_form(&mut ts, TokenForm::Plus)?;
+        }
+        push_form(&mut ts, TokenForm::Open)?;
+        push_form(&mut ts, TokenForm::Number(1))?;
+        push_form(&mut ts, TokenForm::Close)?;
+    }
+    push_form(&mut ts, TokenForm::End)?;
+    assert_eq!(rt; outcome(alloc, &ts), (0, 239_999));
+    // tokens that end before the expression does
+    let mut ts = Items::new(alloc);
+    push_form(&mut ts, TokenForm::Open)?;
+    push_form(&mut ts, TokenForm::Number(1))?;
+    assert_eq!(rt; outcome(alloc, &ts), (201, 2));
+    Ok(())
+}
