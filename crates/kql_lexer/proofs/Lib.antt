@@ -1,4 +1,5 @@
 pub mod FrontFacts
+pub mod ItemFacts
 pub mod LexFacts
 pub mod LiteralFacts
 pub mod NumberFacts

@@ -6,5 +6,6 @@ pub mod Numbers
 pub mod Pieces
 pub mod Places
 pub mod Shapes
+pub mod StringItems
 pub mod Strings
 pub mod Words

@@ -5,6 +5,7 @@ ghost use Rattle.kql_lexer.specs.Answers.{IsFaultAt, IsFirstFault};
 ghost use Rattle.kql_lexer.specs.Lexing.{IsReading, lexed, pieces, token_as, told_by};
 ghost use Rattle.kql_lexer.specs.Pieces.{Piece};
 ghost use Rattle.kql_lexer.specs.Places.{place_at};
+ghost use Rattle.kql_lexer.specs.StringItems.{ItemsAreRead, StringsAreItems};
 ghost use Rattle.kql_lexer.specs.Shapes.{Fits, IsFront, Reads, front_piece, halted, halted_as, piece_as, token_halt};
 
 use crate::forms::form;
@@ -178,13 +179,15 @@ pub fn lex(alloc: Global, text: &[u8]) -> Result<Tokens, LexFault>
 }
 
 /// The law of the definition: the longest pieces make up a text in exactly one way, and `lex` answers what that way
-/// tells. It calls `lex`.
+/// tells; and a string is its sign, items that are bytes or escapes, and its sign again. It calls `lex`.
 #[tactic(auto, using(crate::proofs::ReadingFacts::has_reading, crate::proofs::ReadingFacts::one_way))]
 pub fn one_reading(alloc: Global, text: &[u8]) -> Result<Tokens, LexFault>
     ensures covers { IsReading 0 text.now (pieces text.now) }
     ensures unique { (xs ys : List (ℕ × Piece)) → IsReading 0 text.now xs → IsReading 0 text.now ys → xs ≡ ys }
     ensures tokens { (parts : List (ℕ × Piece)) → IsReading 0 text.now parts → length text.now ≤ 262144 → IfOk result (λ tokens. told_by text.now parts ≡ Ok tokens) }
     ensures refused { (parts : List (ℕ × Piece)) → IsReading 0 text.now parts → length text.now ≤ 262144 → IfErr result (λ e. IsFirstFault e (told_by text.now parts)) }
+    ensures items { ItemsAreRead }
+    ensures strings { StringsAreItems }
 {
     lex(alloc, text)
 }
