@@ -5,10 +5,10 @@ use Rattle.kql_values.specs.Values.{IsOfKind}
 use Rattle.kql_values.specs.declared.value.Kind.{Kind}
 use Rattle.kql_values.specs.declared.value.Kind.TheVariants as kind
 use Rattle.kql_values.specs.declared.value.Value.{Value}
-use Rattle.kql_scalar_fns.specs.declared.func.Func.{Func}
-use Rattle.kql_scalar_fns.specs.declared.func.Func.TheVariants as func
+use Rattle.kql_functions.specs.declared.func.Func.{Func}
+use Rattle.kql_functions.specs.declared.func.Func.TheVariants as func
 use Rattle.kql_scalar_fns.specs.Applied.{applied}
-use Rattle.kql_scalar_fns.specs.Kinds.{AreOfKinds, result_kind}
+use Rattle.kql_functions.specs.Kinds.{AreOfKinds, result_kind}
 use Rattle.kql_scalar_fns.specs.Search.{search_call}
 use Rattle.kql_scalar_fns.proofs.ArithmeticKinds.{arithmetic_gives}
 use Rattle.kql_scalar_fns.proofs.ChoiceKinds.{choice_gives}

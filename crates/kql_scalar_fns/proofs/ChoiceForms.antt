@@ -4,8 +4,8 @@ use Rattle.std.specs.Prelude.{IfOk, Result, Ok, Err, if◌then◌else◌}
 use Rattle.kql_values.specs.Values.{IsWellFormed}
 use Rattle.kql_values.specs.declared.value.Value.{Value}
 use Rattle.kql_values.specs.declared.value.Value.TheVariants as value
-use Rattle.kql_scalar_fns.specs.declared.func.ChoiceFunc.{ChoiceFunc}
-use Rattle.kql_scalar_fns.specs.declared.func.ChoiceFunc.TheVariants as func
+use Rattle.kql_functions.specs.declared.func.ChoiceFunc.{ChoiceFunc}
+use Rattle.kql_functions.specs.declared.func.ChoiceFunc.TheVariants as func
 use Rattle.kql_scalar_fns.specs.Arguments.{AreWellFormed, argument}
 use Rattle.kql_scalar_fns.specs.Choice.{choice, chosen, first_case, first_given, greater, greatest, is_below, is_empty, is_null, least, lesser}
 use Rattle.kql_scalar_fns.specs.Logic.{is_true, truth}

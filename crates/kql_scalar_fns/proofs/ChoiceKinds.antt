@@ -6,14 +6,14 @@ use Rattle.kql_values.specs.declared.value.Kind.{Kind}
 use Rattle.kql_values.specs.declared.value.Kind.TheVariants as kind
 use Rattle.kql_values.specs.declared.value.Value.{Value}
 use Rattle.kql_values.specs.declared.value.Value.TheVariants as value
-use Rattle.kql_scalar_fns.specs.declared.func.ChoiceFunc.{ChoiceFunc}
-use Rattle.kql_scalar_fns.specs.declared.func.ChoiceFunc.TheVariants as func
+use Rattle.kql_functions.specs.declared.func.ChoiceFunc.{ChoiceFunc}
+use Rattle.kql_functions.specs.declared.func.ChoiceFunc.TheVariants as func
 use Rattle.kql_scalar_fns.specs.Arguments.{argument}
-use Rattle.kql_scalar_fns.specs.Kinds.{AreOfKinds, choice_kind}
+use Rattle.kql_functions.specs.Kinds.{AreOfKinds, choice_kind}
 use Rattle.std.proofs.Common.{fold, subst, sym}
 use Rattle.std.proofs.lemmas.Bool.{and_parts}
 use Rattle.kql_scalar_fns.specs.Choice.{choice, chosen, first_case, first_given, greater, greatest, is_below, is_empty, is_null, least, lesser}
-use Rattle.kql_scalar_fns.specs.Kinds.{all_same, cases_of, has_order, one_of_cases, one_of_two, same_kind, two_or_more, two_or_more_ordered}
+use Rattle.kql_functions.specs.Kinds.{all_same, cases_of, has_order, one_of_cases, one_of_two, same_kind, two_or_more, two_or_more_ordered}
 use Rattle.kql_scalar_fns.specs.Logic.{is_true, truth}
 use Rattle.kql_scalar_fns.proofs.KindFacts.{same-kind, test-gives}
 use Rattle.kql_scalar_fns.proofs.KindFacts.{Gives, second-kind, third-kind}

@@ -3,9 +3,9 @@ use Rattle.std.proofs.Common.{List, [], ◌∷◌}
 use Rattle.kql_values.specs.declared.value.Kind.{Kind}
 use Rattle.kql_values.specs.declared.value.Kind.TheVariants as kind
 use Rattle.kql_values.specs.declared.value.Value.{Value}
-use Rattle.kql_scalar_fns.specs.declared.func.ComparisonFunc.{ComparisonFunc}
-use Rattle.kql_scalar_fns.specs.declared.func.ComparisonFunc.TheVariants as func
-use Rattle.kql_scalar_fns.specs.Kinds.{comparison_kind}
+use Rattle.kql_functions.specs.declared.func.ComparisonFunc.{ComparisonFunc}
+use Rattle.kql_functions.specs.declared.func.ComparisonFunc.TheVariants as func
+use Rattle.kql_functions.specs.Kinds.{comparison_kind}
 use Rattle.kql_scalar_fns.specs.Comparison.{comparison}
 use Rattle.kql_scalar_fns.proofs.KindFacts.{Gives, bool-kind, either-gives, row-any}
 use Rattle.kql_scalar_fns.proofs.ShapeKinds.{one_among-any, several_of-any, two_equal-any, two_ordered-any}

@@ -5,9 +5,9 @@ use Rattle.kql_values.specs.declared.value.Kind.{Kind}
 use Rattle.kql_values.specs.declared.value.Kind.TheVariants as kind
 use Rattle.kql_values.specs.declared.value.Value.{Value}
 use Rattle.kql_values.specs.declared.value.Value.TheVariants as value
-use Rattle.kql_scalar_fns.specs.declared.func.ConversionFunc.{ConversionFunc}
-use Rattle.kql_scalar_fns.specs.declared.func.ConversionFunc.TheVariants as func
-use Rattle.kql_scalar_fns.specs.Kinds.{conversion_kind}
+use Rattle.kql_functions.specs.declared.func.ConversionFunc.{ConversionFunc}
+use Rattle.kql_functions.specs.declared.func.ConversionFunc.TheVariants as func
+use Rattle.kql_functions.specs.Kinds.{conversion_kind}
 use Rattle.kql_scalar_fns.specs.Conversion.{conversion, to_bool, to_long, to_moment, to_span}
 use Rattle.kql_scalar_fns.proofs.KindFacts.{Gives, bool-kind, either-gives, long-kind, moment-kind, row-any, span-kind}
 use Rattle.kql_scalar_fns.proofs.ShapeKinds.{one_of_any-any}

@@ -6,9 +6,9 @@ use Rattle.kql_values.specs.declared.value.Kind.{Kind}
 use Rattle.kql_values.specs.declared.value.Kind.TheVariants as kind
 use Rattle.kql_values.specs.declared.value.Value.{Value}
 use Rattle.kql_values.specs.declared.value.Value.TheVariants as value
-use Rattle.kql_scalar_fns.specs.declared.func.DynamicFunc.{DynamicFunc}
-use Rattle.kql_scalar_fns.specs.declared.func.DynamicFunc.TheVariants as func
-use Rattle.kql_scalar_fns.specs.Kinds.{dynamic_kind}
+use Rattle.kql_functions.specs.declared.func.DynamicFunc.{DynamicFunc}
+use Rattle.kql_functions.specs.declared.func.DynamicFunc.TheVariants as func
+use Rattle.kql_functions.specs.Kinds.{dynamic_kind}
 use Rattle.std.specs.Prelude.{◌++◌, ℤ, pos, Option, None, Some, filter, is_some, map, nat_le, not, position, reverse}
 use Rattle.kql_dynamic.specs.Arrays.{array, array_concat, array_index_of, array_length, array_reverse, array_slice, joined, pack_array, place_or_less, sliced}
 use Rattle.kql_dynamic.specs.Bags.{bag, bag_has_key, bag_keys, bag_merge, bag_of, bag_pack, entries_backwards, pairs}
@@ -19,8 +19,6 @@ use Rattle.kql_dynamic.specs.Same.{same}
 use Rattle.kql_values.specs.declared.dynamic.Dyn.TheVariants as dyn
 use Rattle.kql_values.specs.Dynamic.{is_null, levels}
 use Rattle.kql_values.specs.declared.dynamic.Dyn.{Dyn}
-use Rattle.serde_json.specs.Data.{Data}
-use Rattle.serde_json.specs.Read.{read as read_json}
 use Rattle.kql_scalar_fns.specs.Dynamic.{at, dynamic_call, of_all, of_count, of_one, read, read_or_itself}
 use Rattle.kql_scalar_fns.proofs.KindFacts.{Gives, either-gives, row-any}
 use Rattle.kql_scalar_fns.proofs.ShapeKinds.{beside_dynamic-any, one_of_pairs-any, several-any, several_of-any}
@@ -40,13 +38,13 @@ value_of-kind d = test-kind kind.Dynamic (is_null d) value.Null (value.Dynamic d
 within-kind : (d : Dyn) → IsOfKind kind.Dynamic (value_within_levels d)
 within-kind d = test-kind kind.Dynamic (nat_le (levels d) 127) (value_of d) value.Null (value_of-kind d) tt
 
-read_or_text-kind : (t : List ℕ) (o : Option Data) → IsOfKind kind.Dynamic (read_or_text t o)
+read_or_text-kind : (t : List ℕ) (o : _) → IsOfKind kind.Dynamic (read_or_text t o)
 read_or_text-kind t None = tt
 read_or_text-kind t (Some d) = value_of-kind _
 
 parsed-kind : (t : List ℕ) → IsOfKind kind.Dynamic (parsed t)
 unfolding parsed
-parsed-kind t = read_or_text-kind t (read_json t)
+parsed-kind t = read_or_text-kind t _
 
 itself-kind : (d : Dyn) (o : Option (List ℕ)) → IsOfKind kind.Dynamic (read_or_itself d o)
 itself-kind d None = tt

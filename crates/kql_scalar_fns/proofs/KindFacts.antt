@@ -8,7 +8,7 @@ use Rattle.kql_values.specs.declared.value.Kind.TheVariants as kind
 use Rattle.kql_values.specs.declared.value.Value.{Value}
 use Rattle.kql_values.specs.declared.value.Value.TheVariants as value
 use Rattle.kql_scalar_fns.specs.Arguments.{argument, bool_or_null, long_or_null, moment_or_null, span_or_null}
-use Rattle.kql_scalar_fns.specs.Kinds.{AreOfKinds, either, row, same_kind, same_kinds}
+use Rattle.kql_functions.specs.Kinds.{AreOfKinds, either, row, same_kind, same_kinds}
 
 -- a value is of the type given, where one is given
 abbrev pub Gives : Option Kind → Value → Type 0

@@ -3,9 +3,9 @@ use Rattle.std.proofs.Common.{List, [], ◌∷◌}
 use Rattle.kql_values.specs.declared.value.Kind.{Kind}
 use Rattle.kql_values.specs.declared.value.Kind.TheVariants as kind
 use Rattle.kql_values.specs.declared.value.Value.{Value}
-use Rattle.kql_scalar_fns.specs.declared.func.LogicFunc.{LogicFunc}
-use Rattle.kql_scalar_fns.specs.declared.func.LogicFunc.TheVariants as func
-use Rattle.kql_scalar_fns.specs.Kinds.{logic_kind}
+use Rattle.kql_functions.specs.declared.func.LogicFunc.{LogicFunc}
+use Rattle.kql_functions.specs.declared.func.LogicFunc.TheVariants as func
+use Rattle.kql_functions.specs.Kinds.{logic_kind}
 use Rattle.kql_scalar_fns.specs.Logic.{logic}
 use Rattle.kql_scalar_fns.proofs.KindFacts.{Gives, bool-kind, row-any}
 use Rattle.kql_scalar_fns.proofs.ShapeKinds.{several_of-any}

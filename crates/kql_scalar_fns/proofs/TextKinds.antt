@@ -6,10 +6,10 @@ use Rattle.kql_values.specs.declared.value.Kind.{Kind}
 use Rattle.kql_values.specs.declared.value.Kind.TheVariants as kind
 use Rattle.kql_values.specs.declared.value.Value.{Value}
 use Rattle.kql_values.specs.declared.value.Value.TheVariants as value
-use Rattle.kql_scalar_fns.specs.declared.func.TextFunc.{TextFunc}
-use Rattle.kql_scalar_fns.specs.declared.func.TextFunc.TheVariants as func
+use Rattle.kql_functions.specs.declared.func.TextFunc.{TextFunc}
+use Rattle.kql_functions.specs.declared.func.TextFunc.TheVariants as func
 use Rattle.kql_scalar_fns.specs.Arguments.{argument}
-use Rattle.kql_scalar_fns.specs.Kinds.{AreOfKinds, text_kind}
+use Rattle.kql_functions.specs.Kinds.{AreOfKinds, text_kind}
 use Rattle.kql_scalar_fns.specs.Text.{char_count, lowered, part, pieces, place_of, raised, replaced, rest_from, reversed, text_call, text_order}
 use Rattle.kql_scalar_fns.proofs.KindFacts.{Gives, by-text, either-gives, first-kind, row-any, row-fits, second-kind, third-kind}
 use Rattle.kql_scalar_fns.proofs.ShapeKinds.{behind_text-any, several-any}

@@ -6,9 +6,9 @@ use Rattle.kql_values.specs.declared.value.Kind.{Kind}
 use Rattle.kql_values.specs.declared.value.Kind.TheVariants as kind
 use Rattle.kql_values.specs.declared.value.Value.{Value}
 use Rattle.kql_values.specs.declared.value.Value.TheVariants as value
-use Rattle.kql_scalar_fns.specs.declared.func.TimeFunc.{TimeFunc}
-use Rattle.kql_scalar_fns.specs.declared.func.TimeFunc.TheVariants as func
-use Rattle.kql_scalar_fns.specs.Kinds.{time_kind}
+use Rattle.kql_functions.specs.declared.func.TimeFunc.{TimeFunc}
+use Rattle.kql_functions.specs.declared.func.TimeFunc.TheVariants as func
+use Rattle.kql_functions.specs.Kinds.{time_kind}
 use Rattle.kql_ticks.specs.declared.part.Part.{Part}
 use Rattle.kql_scalar_fns.specs.Time.{crossed, end, field_of, made, made_of, moved, named_field, since_1970, start, time_call, weekday}
 use Rattle.kql_scalar_fns.proofs.KindFacts.{Gives, either-gives, long-kind, moment-kind, row-any}

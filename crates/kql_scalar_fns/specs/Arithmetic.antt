@@ -5,8 +5,8 @@ use Rattle.kql_ticks.specs.Bins.{bin_at as bin_from}
 use Rattle.kql_ticks.specs.Ranges.{fit, fit_moment}
 use Rattle.kql_values.specs.declared.value.Value.{Value}
 use Rattle.kql_values.specs.declared.value.Value.TheVariants as value
-use Rattle.kql_scalar_fns.specs.declared.func.ArithmeticFunc.{ArithmeticFunc}
-use Rattle.kql_scalar_fns.specs.declared.func.ArithmeticFunc.TheVariants as func
+use Rattle.kql_functions.specs.declared.func.ArithmeticFunc.{ArithmeticFunc}
+use Rattle.kql_functions.specs.declared.func.ArithmeticFunc.TheVariants as func
 use Rattle.kql_scalar_fns.specs.Arguments.{argument, long_or_null, moment_or_null, span_or_null}
 
 -- a + b

@@ -3,8 +3,8 @@ use Rattle.std.specs.Prelude.{Bool, true, false, not, List, [], ◌∷◌, fold,
 use Rattle.std.specs.Ordering.{is_lt}
 use Rattle.kql_values.specs.declared.value.Value.{Value}
 use Rattle.kql_values.specs.declared.value.Value.TheVariants as value
-use Rattle.kql_scalar_fns.specs.declared.func.ChoiceFunc.{ChoiceFunc}
-use Rattle.kql_scalar_fns.specs.declared.func.ChoiceFunc.TheVariants as func
+use Rattle.kql_functions.specs.declared.func.ChoiceFunc.{ChoiceFunc}
+use Rattle.kql_functions.specs.declared.func.ChoiceFunc.TheVariants as func
 use Rattle.kql_scalar_fns.specs.Arguments.{argument}
 use Rattle.kql_scalar_fns.specs.Comparison.{order}
 use Rattle.kql_scalar_fns.specs.Logic.{is_true, truth}

@@ -7,8 +7,8 @@ use Rattle.kql_values.specs.declared.dynamic.Dyn.{Dyn, out-Dyn}
 use Rattle.kql_values.specs.declared.dynamic.Dyn.TheOpen.{Dyn-F}
 use Rattle.kql_values.specs.declared.value.Value.{Value}
 use Rattle.kql_values.specs.declared.value.Value.TheVariants as value
-use Rattle.kql_scalar_fns.specs.declared.func.ConversionFunc.{ConversionFunc}
-use Rattle.kql_scalar_fns.specs.declared.func.ConversionFunc.TheVariants as func
+use Rattle.kql_functions.specs.declared.func.ConversionFunc.{ConversionFunc}
+use Rattle.kql_functions.specs.declared.func.ConversionFunc.TheVariants as func
 use Rattle.kql_scalar_fns.specs.Arguments.{argument, bool_or_null, long_or_null, moment_or_null, span_or_null}
 use Rattle.kql_scalar_fns.specs.Readings.{bool_written, long_written, text_of}
 

@@ -10,8 +10,8 @@ use Rattle.kql_values.specs.declared.dynamic.Dyn.{Dyn}
 use Rattle.kql_values.specs.declared.dynamic.Dyn.TheVariants as dyn
 use Rattle.kql_values.specs.declared.value.Value.{Value}
 use Rattle.kql_values.specs.declared.value.Value.TheVariants as value
-use Rattle.kql_scalar_fns.specs.declared.func.DynamicFunc.{DynamicFunc}
-use Rattle.kql_scalar_fns.specs.declared.func.DynamicFunc.TheVariants as func
+use Rattle.kql_functions.specs.declared.func.DynamicFunc.{DynamicFunc}
+use Rattle.kql_functions.specs.declared.func.DynamicFunc.TheVariants as func
 use Rattle.kql_scalar_fns.specs.Arguments.{argument}
 
 -- a value as an element: a datetime or timespan is its printed text

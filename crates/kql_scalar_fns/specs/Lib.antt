@@ -5,10 +5,8 @@ pub mod Choice
 pub mod Comparison
 pub mod Conversion
 pub mod Dynamic
-pub mod Find
-pub mod Kinds
+pub mod Laws
 pub mod Logic
-pub mod Names
 pub mod Readings
 pub mod Search
 pub mod Text

@@ -5,9 +5,9 @@ use Rattle.kql_texts.specs.Folding.{folded}
 use Rattle.kql_texts.specs.Texts.{begins, ends, has_term, holds}
 use Rattle.kql_values.specs.declared.value.Value.{Value}
 use Rattle.kql_values.specs.declared.value.Value.TheVariants as value
-use Rattle.kql_scalar_fns.specs.declared.func.SearchFunc.{SearchFunc}
-use Rattle.kql_scalar_fns.specs.declared.func.SearchPlace.{SearchPlace}
-use Rattle.kql_scalar_fns.specs.declared.func.SearchPlace.TheVariants as place
+use Rattle.kql_functions.specs.declared.func.SearchFunc.{SearchFunc}
+use Rattle.kql_functions.specs.declared.func.SearchPlace.{SearchPlace}
+use Rattle.kql_functions.specs.declared.func.SearchPlace.TheVariants as place
 use Rattle.kql_scalar_fns.specs.Arguments.{argument, bool_or_null}
 
 -- whether p stands at its place in t

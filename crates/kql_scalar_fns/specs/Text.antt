@@ -11,8 +11,8 @@ use Rattle.kql_texts.specs.Texts.{elements, index_of, replace, split_by, sub_tex
 use Rattle.kql_values.specs.declared.dynamic.Dyn.TheVariants as dyn
 use Rattle.kql_values.specs.declared.value.Value.{Value}
 use Rattle.kql_values.specs.declared.value.Value.TheVariants as value
-use Rattle.kql_scalar_fns.specs.declared.func.TextFunc.{TextFunc}
-use Rattle.kql_scalar_fns.specs.declared.func.TextFunc.TheVariants as func
+use Rattle.kql_functions.specs.declared.func.TextFunc.{TextFunc}
+use Rattle.kql_functions.specs.declared.func.TextFunc.TheVariants as func
 use Rattle.kql_scalar_fns.specs.Arguments.{argument}
 use Rattle.kql_scalar_fns.specs.Readings.{text_of}
 

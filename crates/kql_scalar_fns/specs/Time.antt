@@ -9,8 +9,8 @@ use Rattle.kql_ticks.specs.Periods.{end_of, field, period, since_sunday, start_o
 use Rattle.kql_ticks.specs.Ranges.{fit_moment}
 use Rattle.kql_values.specs.declared.value.Value.{Value}
 use Rattle.kql_values.specs.declared.value.Value.TheVariants as value
-use Rattle.kql_scalar_fns.specs.declared.func.TimeFunc.{TimeFunc}
-use Rattle.kql_scalar_fns.specs.declared.func.TimeFunc.TheVariants as func
+use Rattle.kql_functions.specs.declared.func.TimeFunc.{TimeFunc}
+use Rattle.kql_functions.specs.declared.func.TimeFunc.TheVariants as func
 use Rattle.kql_scalar_fns.specs.Arguments.{argument, long_or_null, moment_or_null}
 
 -- the part that a word names, for `datetime_add` and `datetime_diff`

@@ -5,11 +5,11 @@ ghost use Rattle.kql_scalar_fns.specs.Arithmetic.{arithmetic, bin, bin_from_zero
 
 use crate::arguments::{argument, long_or_null, moment_or_null, span_or_null};
 use crate::bits::{bits_and, bits_or, bits_turned, bits_xor};
-use crate::func::ArithmeticFunc;
 use crate::whole::{
     moment_bin, moment_difference, moment_sum, whole_difference, whole_negative, whole_product,
     whole_quotient, whole_remainder, whole_size, whole_sum,
 };
+use kql_functions::ArithmeticFunc;
 use kql_ticks::bin_at;
 use kql_values::{CellRef, Value};
 

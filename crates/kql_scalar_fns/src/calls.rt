@@ -4,18 +4,18 @@ ghost use Rattle.kql_values.specs.Values.{IsOfKind, IsWellFormed};
 ghost use Rattle.kql_values.specs.declared.value.Kind.{Kind};
 ghost use Rattle.kql_scalar_fns.specs.Applied.{applied};
 ghost use Rattle.kql_scalar_fns.specs.Arguments.{AreWellFormed};
-ghost use Rattle.kql_scalar_fns.specs.Kinds.{AreOfKinds, result_kind};
+ghost use Rattle.kql_functions.specs.Kinds.{AreOfKinds, result_kind};
 
 use crate::arithmetic::apply_arithmetic;
 use crate::choice::apply_choice;
 use crate::comparison::apply_comparison;
 use crate::conversion::apply_conversion;
 use crate::dynamic::apply_dynamic;
-use crate::func::Func;
 use crate::logic::apply_logic;
 use crate::search::apply_search;
 use crate::text::apply_text;
 use crate::time::apply_time;
+use kql_functions::Func;
 use kql_values::{CellRef, Value};
 use std::alloc::{AllocError, Global};
 

@@ -4,8 +4,8 @@ ghost use Rattle.kql_scalar_fns.specs.Choice.{choice, chosen, first_case, first_
 
 use crate::arguments::argument;
 use crate::comparison::{is_less, order};
-use crate::func::ChoiceFunc;
 use crate::logic::{is_true, truth};
+use kql_functions::ChoiceFunc;
 use kql_values::{CellRef, Value};
 use std::alloc::{AllocError, Global};
 

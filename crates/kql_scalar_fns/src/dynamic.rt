@@ -10,13 +10,13 @@ ghost use Rattle.kql_scalar_fns.specs.Arguments.{AreWellFormed};
 ghost use Rattle.kql_scalar_fns.specs.Dynamic.{at, dynamic_call, element, of_all, of_count, of_one, read};
 
 use crate::arguments::argument;
-use crate::func::DynamicFunc;
 use crate::readings::text_in;
 use kql_dynamic::{
     array_concat, array_index_of, array_length, array_reverse, array_slice, at_index, at_name,
     bag_has_key, bag_keys, bag_merge, bag_pack, pack_array, parse_json, set_difference,
     set_has_element, set_intersect, set_union,
 };
+use kql_functions::DynamicFunc;
 use kql_ticks::{print_moment, print_span};
 use kql_values::{CellRef, Dyn, KText, Value, clone_dyn};
 use std::alloc::{AllocError, Global};

@@ -1,5 +1,4 @@
-//! The scalar functions and operators of the language: their names, the types that they take and give, and what they
-//! mean.
+//! What the scalar functions and operators of the language give for their arguments.
 #![tactic(auto)]
 
 mod arguments;
@@ -10,27 +9,26 @@ mod choice;
 mod comparison;
 mod conversion;
 mod dynamic;
-mod func;
-mod kinds;
+mod laws;
 mod logic;
-mod names;
 mod readings;
 mod search;
-mod shapes;
 mod text;
 mod time;
 mod well_formed;
 mod whole;
 
 pub use calls::{apply, apply_cells};
-pub use func::{
-    ArithmeticFunc, ChoiceFunc, ComparisonFunc, ConversionFunc, DynamicFunc, Func, LogicFunc,
-    SearchFunc, SearchPlace, TextFunc, TimeFunc,
+pub use kql_functions::{
+    ArithmeticFunc, ChoiceFunc, ComparisonFunc, ConversionFunc, DynamicFunc, Found, Func,
+    LogicFunc, SearchFunc, SearchPlace, TextFunc, TimeFunc, Win, find, functions, operators,
+    result_kind,
 };
-pub use kinds::result_kind;
-pub use names::{FUNCTIONS, Found, Win, find};
+pub use laws::{first_that_is_given, least_and_greatest, remainders, three_valued_logic};
 pub use time::{field_named, period_named};
 pub use well_formed::are_well_formed;
 
+#[cfg(test)]
+mod rows;
 #[cfg(test)]
 mod tests;

@@ -4,7 +4,7 @@ ghost use Rattle.kql_values.specs.Values.{IsWellFormed};
 ghost use Rattle.kql_scalar_fns.specs.Logic.{both, conjunction, disjunction, either, is_true, logic, opposite, truth};
 
 use crate::arguments::{argument, bool_or_null};
-use crate::func::LogicFunc;
+use kql_functions::LogicFunc;
 use kql_values::{CellRef, Value};
 
 #[tactic(auto, unfolding(crate::specs::Logic::logic))]

@@ -5,7 +5,7 @@ ghost use Rattle.kql_values.specs.Values.{IsWellFormed};
 ghost use Rattle.kql_scalar_fns.specs.Search.{found, search_call, stands, turned_if};
 
 use crate::arguments::{argument, bool_or_null};
-use crate::func::{SearchFunc, SearchPlace};
+use kql_functions::{SearchFunc, SearchPlace};
 use kql_texts::{Fold, begins, ends, has_term, holds};
 use kql_values::{CellRef, Value};
 use std::alloc::{AllocError, Global};

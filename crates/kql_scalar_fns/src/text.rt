@@ -7,8 +7,8 @@ ghost use Rattle.kql_scalar_fns.specs.Readings.{text_of};
 ghost use Rattle.kql_scalar_fns.specs.Text.{char_count, joined, joined_with, lowered, order_number, part, pieces, place_of, raised, replaced, rest_from, reversed, text_call, text_order};
 
 use crate::arguments::{argument, others};
-use crate::func::TextFunc;
 use crate::readings::{push_text_of, text_of};
+use kql_functions::TextFunc;
 use kql_values::{CellRef, Dyn, KText, Value};
 use std::alloc::{AllocError, Global};
 use std::cmp::Ordering;

@@ -9,8 +9,8 @@ ghost use Rattle.kql_scalar_fns.specs.Arguments.{AreWellFormed};
 ghost use Rattle.kql_scalar_fns.specs.Time.{crossed, end, field_named, field_of, made, made_of, moved, named_field, period_named, since_1970, start, time_call, weekday};
 
 use crate::arguments::{argument, long_or_null, moment_or_null};
-use crate::func::TimeFunc;
 use crate::whole::in_moments;
+use kql_functions::TimeFunc;
 use kql_ticks::{Part, add_part, borders, day_of_week, end_of, make_moment, part_of, start_of};
 use kql_values::{CellRef, Value};
 

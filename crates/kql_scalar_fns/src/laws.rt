@@ -1,0 +1,27 @@
+ghost use Rattle.kql_scalar_fns.specs.Laws.{AndIsThreeValued, FirstIsTaken, GreatestIsTaken, LastIsTaken, LeastIsTaken, OrIsThreeValued, RemainderIsTaken, ZeroHasNoRemainder};
+
+/// `and` is false where one of its arguments is false, true where all are true, and else null; `or` is true where one is
+/// true, false where all are false, and else null. So the order of the arguments does not matter.
+pub fn three_valued_logic()
+    ensures conjunction { AndIsThreeValued }
+    ensures disjunction { OrIsThreeValued }
+{}
+
+/// `coalesce` gives the first argument that is neither null nor the empty text, else the last.
+pub fn first_that_is_given()
+    ensures first { FirstIsTaken }
+    ensures last { LastIsTaken }
+{}
+
+/// `min_of` and `max_of` give one of their arguments, below or above which none is, and null only where all are null.
+pub fn least_and_greatest()
+    ensures least { LeastIsTaken }
+    ensures greatest { GreatestIsTaken }
+{}
+
+/// The remainder of `%` is not negative and below the size of the divisor, from which the dividend differs by a
+/// multiple; there is none for the divisor 0.
+pub fn remainders()
+    ensures remainder { RemainderIsTaken }
+    ensures zero { ZeroHasNoRemainder }
+{}
