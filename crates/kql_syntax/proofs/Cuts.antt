@@ -1,18 +1,17 @@
 -- A form read from tokens that are cut after the bracket that opens too deep.
-use Rattle.std.proofs.Common.{ℕ, zero, suc, ◌+◌, ◌-◌, ◌≤◌, ◌<◌, ◌≡◌, ◌⊎◌, inl, inr, Bool, true, false, List, [], ◌∷◌, take, drop, length, refl, sym, subst, ◌∙◌, arith, min}
+use Rattle.std.proofs.Common.{ℕ, zero, suc, ◌+◌, ◌-◌, ◌≤◌, ◌<◌, ◌≡◌, ◌⊎◌, inl, inr, Bool, true, false, List, [], ◌∷◌, take, drop, length, refl, sym, subst, ◌∙◌, arith}
 use native.Mathlib.Decide.{dec_le}
 use Rattle.std.specs.Prelude.{Option, Some, None, nat_le, if◌then◌else◌, slice_get}
 use Rattle.std.proofs.lemmas.Option.{slice_get_within}
-use Rattle.std.proofs.lemmas.List.{length-take, length-drop, take_all}
+use Rattle.std.proofs.lemmas.List.{length-drop, take_all}
 use Rattle.kql_lexer.specs.declared.place.Place.{Place}
 use Rattle.kql_lexer.specs.declared.token.Token.{Token}
 use Rattle.kql_syntax.specs.Classes.{has, apart}
 use Rattle.kql_syntax.specs.Forms.{Form, nullable}
-use Rattle.kql_syntax.specs.Derives.{Stands, Found, Refused, IsForm, BeginsForm}
+use Rattle.kql_syntax.specs.Derives.{Stands, Found, Refused, BeginsForm}
 use Rattle.kql_syntax.specs.Parsing.{too_deep, opening, closing, OpensTooDeep, Whole, Unexpected, TooDeep, PlaceOf, Refuses}
-use Rattle.kql_syntax.proofs.Laws.{is_of_begins}
 use Rattle.kql_syntax.proofs.Firsts.{stands_apart}
-use Rattle.kql_syntax.proofs.Lasts.{Last, final, form_ends}
+use Rattle.kql_syntax.proofs.Lasts.{final, form_ends}
 use Rattle.kql_syntax.proofs.Prefixes.{Agree, agree_take, form_local, begins_form_local, form_prefix}
 
 -- the steps of the scan

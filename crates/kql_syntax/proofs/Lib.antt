@@ -1,8 +1,10 @@
 pub mod Begun
+pub mod ClassFacts
 pub mod Cuts
 pub mod Firsts
 pub mod Lasts
 pub mod Laws
+pub mod LeafFacts
 pub mod NameFacts
 pub mod Prefixes
 pub mod Rules

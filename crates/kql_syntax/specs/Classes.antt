@@ -1,5 +1,5 @@
 -- Classes of tokens. Each token has a number, and a class has the tokens from one number to another.
-use Rattle.std.specs.Prelude.{ℕ, ◌+◌, Bool, true, false, ◌||◌, ◌&&◌, not, List, [], ◌∷◌, nat_le}
+use Rattle.std.specs.Prelude.{ℕ, ℤ, ◌+◌, ◌≡◌, Bool, true, false, ◌||◌, ◌&&◌, not, List, [], ◌∷◌, nat_le}
 use Rattle.kql_lexer.specs.Words.{is_reserved_keyword}
 use Rattle.kql_lexer.specs.declared.keyword.Keyword.{Keyword}
 use Rattle.kql_lexer.specs.declared.keyword.Keyword.TheVariants as word
@@ -222,3 +222,78 @@ among (c ∷ cs) ds = lies_in c ds && among cs ds
 unfoldable pub is_name : TokenForm → Bool
 is_name (form.Word k t) = not (is_reserved_keyword k)
 is_name _ = false
+
+-- a sign that can go on an expression
+unfoldable pub goes_on : TokenForm → Bool
+goes_on form.Open = true
+goes_on form.OpenSquare = true
+goes_on form.Dot = true
+goes_on form.Equal = true
+goes_on form.NotEqual = true
+goes_on form.Alike = true
+goes_on form.NotAlike = true
+goes_on form.Less = true
+goes_on form.LessEqual = true
+goes_on form.Greater = true
+goes_on form.GreaterEqual = true
+goes_on form.Plus = true
+goes_on form.Minus = true
+goes_on form.Star = true
+goes_on form.Slash = true
+goes_on form.Percent = true
+goes_on _ = false
+
+-- a word that compares
+unfoldable pub compares : Keyword → Bool
+compares word.In = true
+compares word.InTilde = true
+compares word.Between = true
+compares word.Contains = true
+compares word.ContainsCs = true
+compares word.Startswith = true
+compares word.StartswithCs = true
+compares word.Endswith = true
+compares word.EndswithCs = true
+compares word.Has = true
+compares word.HasCs = true
+compares _ = false
+
+-- what it means that a token is of a class
+unfoldable pub IsOf : Class → TokenForm → Type 0
+IsOf class.End f = f ≡ form.End
+IsOf class.Number f = (n : ℤ) × (f ≡ form.Number n)
+IsOf class.Span f = (n : ℤ) × (f ≡ form.Span n)
+IsOf class.Text f = (t : List ℕ) × (f ≡ form.Text t)
+IsOf class.Typed f = (k : Keyword) × (t : List ℕ) × (f ≡ form.Typed k t)
+IsOf class.Open f = f ≡ form.Open
+IsOf class.OpenSquare f = f ≡ form.OpenSquare
+IsOf class.Dot f = f ≡ form.Dot
+IsOf class.Equal f = f ≡ form.Equal
+IsOf class.NotEqual f = f ≡ form.NotEqual
+IsOf class.Alike f = f ≡ form.Alike
+IsOf class.NotAlike f = f ≡ form.NotAlike
+IsOf class.Less f = f ≡ form.Less
+IsOf class.LessEqual f = f ≡ form.LessEqual
+IsOf class.Greater f = f ≡ form.Greater
+IsOf class.GreaterEqual f = f ≡ form.GreaterEqual
+IsOf class.Plus f = f ≡ form.Plus
+IsOf class.Minus f = f ≡ form.Minus
+IsOf class.Star f = f ≡ form.Star
+IsOf class.Slash f = f ≡ form.Slash
+IsOf class.Percent f = f ≡ form.Percent
+IsOf class.Bar f = f ≡ form.Bar
+IsOf class.Close f = f ≡ form.Close
+IsOf class.CloseSquare f = f ≡ form.CloseSquare
+IsOf class.Comma f = f ≡ form.Comma
+IsOf class.Semicolon f = f ≡ form.Semicolon
+IsOf class.Colon f = f ≡ form.Colon
+IsOf class.DotDot f = f ≡ form.DotDot
+IsOf class.Assign f = f ≡ form.Assign
+IsOf class.Arrow f = f ≡ form.Arrow
+IsOf class.Name f = (k : Keyword) × (t : List ℕ) × (f ≡ form.Word k t) × (is_reserved_keyword k ≡ false)
+IsOf class.Word f = (k : Keyword) × (t : List ℕ) × (f ≡ form.Word k t)
+IsOf (class.Key k) f = (t : List ℕ) × (f ≡ form.Word k t)
+IsOf (class.Not k) f = f ≡ form.Negated k
+IsOf class.ExprSign f = goes_on f ≡ true
+IsOf class.CompareWord f = (k : Keyword) × (t : List ℕ) × (f ≡ form.Word k t) × (compares k ≡ true)
+IsOf class.Negated f = (k : Keyword) × (f ≡ form.Negated k)

@@ -27,7 +27,7 @@ use Rattle.kql_syntax.specs.declared.tree.Arg.{Arg}
 use Rattle.kql_syntax.specs.declared.tree.Arg.TheVariants as arg
 use Rattle.kql_syntax.specs.declared.tree.Name.{Name}
 use Rattle.kql_syntax.specs.declared.tree.Name.TheVariants as name
-use Rattle.kql_syntax.specs.declared.query.Pipe.{Pipe, roll-Pipe}
+use Rattle.kql_syntax.specs.declared.query.Pipe.{roll-Pipe}
 use Rattle.kql_syntax.specs.declared.query.Source.TheVariants as source
 use Rattle.kql_syntax.specs.declared.query.Range.{Range}
 use Rattle.kql_syntax.specs.declared.query.Op.TheVariants as op
@@ -48,6 +48,8 @@ use Rattle.kql_syntax.specs.declared.query.Distinct.TheVariants as distinct
 use Rattle.kql_syntax.specs.declared.query.Hint.{Hint}
 use Rattle.kql_syntax.specs.declared.query.HintValue.{HintValue}
 use Rattle.kql_syntax.specs.declared.query.Summarize.{Summarize}
+use Rattle.kql_syntax.specs.declared.query.Groups.{Groups}
+use Rattle.kql_syntax.specs.declared.query.Groups.TheVariants as groups_of
 use Rattle.kql_syntax.specs.declared.query.MakeSeries.{MakeSeries}
 use Rattle.kql_syntax.specs.declared.query.Series.{Series}
 use Rattle.kql_syntax.specs.declared.query.ExpandKind.{ExpandKind}
@@ -209,16 +211,16 @@ by_keys = after (class.Key word.By ∷ []) (commas key)
 abbrev pub distinct_columns : Form Distinct
 distinct_columns = either (makes distinct.Star (mark (class.Star ∷ []))) (makes distinct.Columns names)
 
-abbrev pub summarized : Form (List Hint → Summarize)
-summarized =
-    either (makes (λ p hs. record { hints = hs; items = p.0; keys = p.1 }) (pair items (maybe by_items)))
-    (makes (λ ks hs. record { hints = hs; items = []; keys = ks }) by_items)
+abbrev pub groups : Form Groups
+groups = either (makes (λ p. groups_of.Aggregates p.0 p.1) (pair items (maybe by_items))) (makes groups_of.Keys by_items)
 
 abbrev pub summarize : Form Summarize
-summarize = makes (λ p. p.1 p.0) (pair (many hint) summarized)
+summarize = makes (λ p. record { hints = p.0; groups = p.1 }) (pair (many hint) groups)
 
 abbrev pub series : Form Series
-series = makes (λ p. record { item = p.0; default = p.1 }) (pair (level Level.Item) (option (after (class.Key word.Default ∷ []) (level Level.Expr))))
+series =
+    makes (λ p. record { item = p.0; default = p.1 })
+    (pair (level Level.Item) (option (after (class.Key word.Default ∷ []) (after (class.Assign ∷ []) (level Level.Expr)))))
 
 abbrev pub make_series : Form MakeSeries
 make_series =

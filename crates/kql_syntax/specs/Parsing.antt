@@ -4,12 +4,10 @@ use Rattle.kql_lexer.specs.declared.place.Place.{Place}
 use Rattle.kql_lexer.specs.declared.token.Token.{Token}
 use Rattle.kql_syntax.specs.declared.class.Class.{Class}
 use Rattle.kql_syntax.specs.declared.class.Class.TheVariants as class
-use Rattle.kql_syntax.specs.declared.tree.Expr.{Expr}
 use Rattle.kql_syntax.specs.declared.parse.SyntaxFault.{SyntaxFault}
 use Rattle.kql_syntax.specs.declared.parse.SyntaxFault.TheVariants as fault
 use Rattle.kql_syntax.specs.Classes.{has}
-use Rattle.kql_syntax.specs.Levels.{Level}
-use Rattle.kql_syntax.specs.Forms.{Form, level}
+use Rattle.kql_syntax.specs.Forms.{Form}
 use Rattle.kql_syntax.specs.Derives.{IsForm, BeginsForm}
 
 abbrev pub opening : List Class

@@ -1,5 +1,5 @@
 -- What a reader answers.
-use Rattle.std.specs.Prelude.{ℕ, List, [], ◌∷◌, Result, Ok, Err}
+use Rattle.std.specs.Prelude.{ℕ, List, Result, Ok, Err}
 use Rattle.kql_lexer.specs.declared.token.Token.{Token}
 use Rattle.kql_syntax.specs.declared.reader.Fault.{Fault}
 use Rattle.kql_syntax.specs.declared.reader.Fault.TheVariants as fault

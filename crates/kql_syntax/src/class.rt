@@ -1,7 +1,7 @@
 //! Classes of tokens: what the grammar sees of a token.
 
-ghost use Rattle.std.specs.Prelude.{◌≡◌, ◌<◌, [], ◌∷◌};
-ghost use Rattle.kql_syntax.specs.Classes.{word_number, number, low, high, has, is_name};
+ghost use Rattle.std.specs.Prelude.{◌≡◌, ◌<◌, ◌↔◌, [], ◌∷◌, IsTrue};
+ghost use Rattle.kql_syntax.specs.Classes.{word_number, number, low, high, has, is_name, IsOf};
 
 use kql_lexer::{Keyword, TokenForm};
 
@@ -299,6 +299,14 @@ pub(crate) fn has(classes: &[Class], form: &TokenForm) -> bool
         left = rest;
     }
     false
+}
+
+/// Whether a token is of a class.
+pub fn is_of(form: &TokenForm, class: Class) -> bool
+    ensures meaning { IsTrue result ↔ IsOf class form.now }
+    ensures class { result ≡ has (class ∷ []) form.now }
+{
+    has(&[class], form)
 }
 
 /// Whether a token is a word that is not reserved.

@@ -8,12 +8,12 @@ mod query;
 pub mod reader;
 mod tree;
 
-pub use class::{Class, is_name};
+pub use class::{Class, is_name, is_of};
 pub use leaf::text_in;
 pub use parse::{SyntaxFault, parse_expr};
 pub use query::{
-    ColumnOp, Decl, Distinct, Expand, ExpandKind, GroupOp, Hint, HintValue, Item, Join, JoinKind,
-    JoinSign, Key, Let, LetBody, MakeSeries, NullsEnd, On, OnPair, Op, Output, ParseKind,
+    ColumnOp, Decl, Distinct, Expand, ExpandKind, GroupOp, Groups, Hint, HintValue, Item, Join,
+    JoinKind, JoinSign, Key, Let, LetBody, MakeSeries, NullsEnd, On, OnPair, Op, Output, ParseKind,
     Partition, Pat, Pipe, Query, Range, RowOp, Scan, Series, SortOrder, Source, Step, Summarize,
     TableArg, TableOp, Union, UnionKind,
 };

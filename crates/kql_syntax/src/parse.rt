@@ -1,3 +1,5 @@
+//! Expressions read from a list of tokens: where one ends, or where and why none stands there.
+
 ghost use Rattle.std.specs.Prelude.{◌≡◌, ◌+◌, ◌^◌, ◌<◌, ◌≤◌, length, IfSome};
 ghost use Rattle.kql_syntax.specs.Levels.{Level};
 ghost use Rattle.kql_syntax.specs.Forms.{level};
@@ -20,8 +22,8 @@ pub enum SyntaxFault {
     OutOfMemory,
 }
 
-#[tactic(auto, unfolding(crate::specs::Parsing::too_deep))]
 /// The first bracket that opens where 64 are open, in tokens that begin at index `at`.
+#[tactic(auto, unfolding(crate::specs::Parsing::too_deep))]
 fn too_deep(ts: &[Token], at: usize) -> Option<usize>
     requires { at + length ts.now < 2 ^ 64 }
     ensures deep { result ≡ too_deep at 0 ts.now }

@@ -124,20 +124,21 @@ pub struct Key {
     pub nulls: Option<NullsEnd>,
 }
 
+/// The order of a key, at the place of its word.
 #[derive(Clone, Copy)]
 pub enum SortOrder {
     Asc(Place),
     Desc(Place),
 }
 
-/// Where nulls stand.
+/// Where nulls stand, at the place of that word, and not of `nulls`.
 #[derive(Clone, Copy)]
 pub enum NullsEnd {
     First(Place),
     Last(Place),
 }
 
-/// All columns, or some.
+/// All columns, at the place of the star, or some.
 #[derive(Drop)]
 pub enum Distinct {
     Star(Place),
@@ -152,18 +153,27 @@ pub struct Hint {
     pub value: HintValue,
 }
 
+/// The value of a hint, at its own place.
 #[derive(Drop)]
 pub enum HintValue {
     Word(Word),
     Number(Place, i64),
 }
 
-/// Aggregates, and the keys of their groups.
+/// Hints, and what is summarized.
 #[derive(Drop)]
 pub struct Summarize {
     pub hints: Items<Hint>,
-    pub items: Items<Item>,
-    pub keys: Items<Item>,
+    pub groups: Groups,
+}
+
+/// What is summarized.
+#[derive(Drop)]
+pub enum Groups {
+    /// Aggregates, and the keys of their groups, if any.
+    Aggregates(Items<Item>, Items<Item>),
+    /// Keys alone.
+    Keys(Items<Item>),
 }
 
 /// Series over an axis.
@@ -184,6 +194,7 @@ pub struct Series {
     pub default: Option<Expr>,
 }
 
+/// The kind of an expansion, at the place of that word, and not of `kind`.
 #[derive(Clone, Copy)]
 pub enum ExpandKind {
     Bag(Place),
@@ -197,13 +208,15 @@ pub struct Expand {
     pub to: Option<Word>,
 }
 
+/// The kind of a pattern, at the place of that word, and not of `kind`.
 #[derive(Clone, Copy)]
 pub enum ParseKind {
     Simple(Place),
     Relaxed(Place),
 }
 
-/// A part of a pattern: anything, a text, or a column with the word of its type.
+/// A part of a pattern: anything, at the place of the star; a text, at its own place; or a column with the word of its
+/// type.
 #[derive(Drop)]
 pub enum Pat {
     Star(Place),
@@ -222,6 +235,7 @@ pub struct Join {
     pub on: Items<On>,
 }
 
+/// The kind of a join, at the place of that word, and not of `kind`.
 #[derive(Clone, Copy)]
 pub struct JoinSign {
     pub place: Place,
@@ -266,6 +280,7 @@ pub struct Union {
     pub tables: Items<TableArg>,
 }
 
+/// The kind of a union, at the place of that word, and not of `kind`.
 #[derive(Clone, Copy)]
 pub enum UnionKind {
     Outer(Place),
@@ -306,7 +321,7 @@ pub struct Step {
     pub sets: Items<(Name, Expr)>,
 }
 
-/// Which rows of a step are given out.
+/// Which rows of a step are given out, at the place of that word, and not of `output`.
 #[derive(Clone, Copy)]
 pub enum Output {
     All(Place),

@@ -73,10 +73,10 @@ const MEMBERSHIPS: [Class; 4] = [
 /// What asks whether a value is between bounds.
 const BETWEENS: [Class; 2] = [Class::Key(Keyword::Between), Class::Not(Keyword::Between)];
 
-/// Why nothing was read.
+/// Why nothing was read: the token that follows the longest tokens that begin what was to be read, or want of memory.
 #[derive(Clone, Copy, Debug, PartialEq, Eq)]
 pub enum Fault {
-    /// The index of the token that is refused.
+    /// The index of that token, or how many tokens there are where they end before it.
     Refused(usize),
     OutOfMemory,
 }

@@ -1,3 +1,8 @@
+//! Expressions: the shapes of trees, and where each text is refused.
+
+mod texts;
+mod words;
+
 use crate::parse::{SyntaxFault, parse_expr};
 use crate::tree::{Cmp, Expr, Literal, Name, Sign, Sum, Term};
 use kql_items::Items;
@@ -178,25 +183,40 @@ fn nested(alloc: Global, depth: usize) -> Result<Tokens, AllocError> {
     Ok(all)
 }
 
-/// 64 brackets, and then the tokens of a text.
-fn behind_brackets(alloc: Global, text: &str) -> Result<Tokens, AllocError> {
+/// Pieces with one blank between them, or none at all.
+fn push_pieces(alloc: Global, all: &mut Tokens, text: &str) -> Result<(), AllocError> {
+    for piece in text.split(' ') {
+        if !piece.is_empty() {
+            push_form(all, form_of(alloc, piece)?)?;
+        }
+    }
+    Ok(())
+}
+
+/// The tokens of a text, so many brackets, and the tokens of another text.
+fn with_brackets(
+    alloc: Global,
+    before: &str,
+    depth: usize,
+    after: &str,
+) -> Result<Tokens, AllocError> {
     let mut all = Items::new(alloc);
-    for _ in 0..64 {
+    push_pieces(alloc, &mut all, before)?;
+    for _ in 0..depth {
         push_form(&mut all, TokenForm::Open)?;
     }
-    for piece in text.split(' ') {
-        push_form(&mut all, form_of(alloc, piece)?)?;
-    }
+    push_pieces(alloc, &mut all, after)?;
     push_form(&mut all, TokenForm::End)?;
     Ok(all)
 }
 
-/// The index of the token after an expression, or the code and the number of the token that is refused.
-fn outcome(alloc: Global, ts: &Tokens) -> (u32, usize) {
-    if ts.is_empty() {
-        return (0, 0);
+/// 0 and the index of the token after the expression that stands here, or the code and the number of the token that is
+/// refused.
+fn outcome(alloc: Global, ts: &Tokens, at: usize) -> (u32, usize) {
+    if at >= ts.len() {
+        return (1, 0);
     }
-    match parse_expr(alloc, ts, 0) {
+    match parse_expr(alloc, ts, at) {
         Ok((_tree, end)) => (0, end),
         Err(SyntaxFault::Refused { code, place }) => (code, place.column as usize),
         Err(SyntaxFault::OutOfMemory) => (1, 0),
@@ -349,6 +369,9 @@ fn refusals(rt: HostRuntime) {
         ("a [ ]", 3),
         ("[ a ]", 2),
         ("[ 'a", 3),
+        ("f ( * + a )", 4),
+        ("( a ]", 3),
+        ("a between ( b == c .. d )", 5),
     ];
     for (text, column) in rows {
         assert_eq!(rt; end_of(rt.alloc(), text), (201, column), "at {text}");
@@ -365,56 +388,172 @@ fn ends(rt: HostRuntime) {
         ("true ( )", 1),
         ("f ( a ) ( b )", 4),
         ("( a or b ) [ #1 ] )", 8),
+        ("[ 'f ] ( )", 3),
     ];
     for (text, end) in rows {
         assert_eq!(rt; end_of(rt.alloc(), text), (0, end), "at {text}");
     }
 }
 
+/// Of the first product of an expression: how many factors stand behind the first, the column of the sign before the
+/// second, and that of the second's minus.
+fn factors(tree: &Expr) -> [usize; 3] {
+    let prod = &first_sum(tree).first;
+    match prod.more.get(0) {
+        Some(more) => {
+            let minus = match &more.1 {
+                Sign::Plain(_) => 0,
+                Sign::Minus(place, _) => place.column as usize,
+            };
+            [prod.more.len(), more.0.place.column as usize, minus]
+        }
+        None => [0; 3],
+    }
+}
+
+/// Of the right side of a comparison: the column of its sign, how many terms stand behind the first, and the column of
+/// the sign before the second.
+fn right_side(cmp: &Cmp) -> [usize; 3] {
+    match cmp {
+        Cmp::Compared(_, sign, right) => {
+            let sum = right.get();
+            [
+                sign.place.column as usize,
+                sum.more.len(),
+                sum.more
+                    .get(0)
+                    .map_or(0, |more| more.0.place.column as usize),
+            ]
+        }
+        _ => [0; 3],
+    }
+}
+
+/// The factors and the right side of a text, or nothing.
+fn parts_of(alloc: Global, text: &str) -> [[usize; 3]; 2] {
+    match parsed(alloc, text) {
+        Ok((tree, _end)) => [factors(&tree), right_side(&tree.first.first)],
+        Err(_) => [[9; 3]; 2],
+    }
+}
+
+#[test]
+fn parts(rt: HostRuntime) {
+    let rows = [
+        ("a * - b", [[1, 2, 3], [0, 0, 0]]),
+        ("- a % b", [[1, 3, 0], [0, 0, 0]]),
+        ("a == b + c", [[0, 0, 0], [2, 1, 4]]),
+        ("a + b < - c", [[0, 0, 0], [4, 0, 0]]),
+        ("a / b has c - d - e", [[1, 2, 0], [4, 2, 6]]),
+    ];
+    for (text, want) in rows {
+        assert_eq!(rt; parts_of(rt.alloc(), text), want, "at {text}");
+    }
+}
+
 #[test]
 fn brackets(rt: HostRuntime) -> Result<(), Fail> {
     let alloc = rt.alloc();
-    let rows = [(64, (0, 129)), (65, (202, 65)), (80, (202, 65))];
+    let rows = [
+        (64, (0, 129)),
+        (65, (202, 65)),
+        (80, (202, 65)),
+        (65_000, (202, 65)),
+    ];
     for (depth, want) in rows {
         let ts = nested(alloc, depth)?;
-        assert_eq!(rt; outcome(alloc, &ts), want);
+        assert_eq!(rt; outcome(alloc, &ts, 0), want);
     }
     let rows = [
-        ("a (", (202, 66)),
-        ("a [", (202, 66)),
-        ("[", (202, 65)),
-        ("#1 (", (201, 66)),
-        (")", (201, 65)),
-        ("#1 ) + (", (201, 69)),
-        ("#1 ) + ( (", (202, 69)),
-        ("a . b [ [ 'c ] ]", (202, 68)),
+        ("", 64, "a (", 0, (202, 66)),
+        ("", 64, "a [", 0, (202, 66)),
+        ("", 64, "[", 0, (202, 65)),
+        ("", 64, "#1 (", 0, (201, 66)),
+        ("", 64, ")", 0, (201, 65)),
+        ("", 64, "#1 ) + (", 0, (201, 69)),
+        ("", 64, "#1 ) + ( (", 0, (202, 69)),
+        ("", 64, "a . b [ [ 'c ] ]", 0, (202, 68)),
+        ("", 65, "#1 )", 64, (0, 67)),
+        ("", 66, "#1 )", 1, (202, 66)),
+        ("( ) a +", 65, "#1 )", 2, (202, 69)),
+        ("a b", 65, "", 0, (0, 1)),
+        ("a == )", 65, "", 0, (201, 3)),
     ];
-    for (text, want) in rows {
-        let ts = behind_brackets(alloc, text)?;
-        assert_eq!(rt; outcome(alloc, &ts), want, "at {text}");
+    for (before, depth, after, at, want) in rows {
+        let ts = with_brackets(alloc, before, depth, after)?;
+        assert_eq!(rt; outcome(alloc, &ts, at), want, "at {before} {after}");
     }
     Ok(())
 }
 
-#[test]
-fn lists(rt: HostRuntime) -> Result<(), Fail> {
-    let alloc = rt.alloc();
-    // a chain of 60,000 terms, of which each is in brackets
-    let mut ts = Items::new(alloc);
-    for i in 0..60_000 {
-        if i > 0 {
-            push_form(&mut ts, TokenForm::Plus)?;
-        }
-        push_form(&mut ts, TokenForm::Open)?;
-        push_form(&mut ts, TokenForm::Number(1))?;
-        push_form(&mut ts, TokenForm::Close)?;
+/// A text, 60,000 times a piece with another piece between them, and a text.
+fn chain(
+    alloc: Global,
+    before: &str,
+    item: &str,
+    between: &str,
+    after: &str,
+) -> Result<Tokens, AllocError> {
+    let mut all = Items::new(alloc);
+    push_pieces(alloc, &mut all, before)?;
+    push_pieces(alloc, &mut all, item)?;
+    for _ in 1..60_000 {
+        push_pieces(alloc, &mut all, between)?;
+        push_pieces(alloc, &mut all, item)?;
     }
-    push_form(&mut ts, TokenForm::End)?;
-    assert_eq!(rt; outcome(alloc, &ts), (0, 239_999));
-    // tokens that end before the expression does
+    push_pieces(alloc, &mut all, after)?;
+    push_form(&mut all, TokenForm::End)?;
+    Ok(all)
+}
+
+/// What is answered on such a text.
+fn chained(alloc: Global, before: &str, item: &str, between: &str, after: &str) -> (u32, usize) {
+    match chain(alloc, before, item, between, after) {
+        Ok(ts) => outcome(alloc, &ts, 0),
+        Err(_) => (1, 0),
+    }
+}
+
+#[test]
+fn or_chain(rt: HostRuntime) {
+    assert_eq!(rt; chained(rt.alloc(), "", "#1", "or", ""), (0, 119_999));
+}
+
+#[test]
+fn and_chain(rt: HostRuntime) {
+    assert_eq!(rt; chained(rt.alloc(), "", "#1", "and", ""), (0, 119_999));
+}
+
+#[test]
+fn sum_chain(rt: HostRuntime) {
+    assert_eq!(rt; chained(rt.alloc(), "", "( #1 )", "+", ""), (0, 239_999));
+}
+
+#[test]
+fn product_chain(rt: HostRuntime) {
+    assert_eq!(rt; chained(rt.alloc(), "", "#1", "*", ""), (0, 119_999));
+}
+
+#[test]
+fn entry_chain(rt: HostRuntime) {
+    assert_eq!(rt; chained(rt.alloc(), "a .", "x", ".", ""), (0, 120_001));
+}
+
+#[test]
+fn long_list(rt: HostRuntime) {
+    assert_eq!(rt; chained(rt.alloc(), "a in (", "#1", ",", ")"), (0, 120_003));
+}
+
+#[test]
+fn long_call(rt: HostRuntime) {
+    assert_eq!(rt; chained(rt.alloc(), "f (", "#1", ",", ")"), (0, 120_002));
+}
+
+#[test]
+fn no_end_mark(rt: HostRuntime) -> Result<(), Fail> {
+    let alloc = rt.alloc();
     let mut ts = Items::new(alloc);
-    push_form(&mut ts, TokenForm::Open)?;
-    push_form(&mut ts, TokenForm::Number(1))?;
-    assert_eq!(rt; outcome(alloc, &ts), (201, 2));
+    push_pieces(alloc, &mut ts, "( #1")?;
+    assert_eq!(rt; outcome(alloc, &ts, 0), (201, 2));
     Ok(())
 }
