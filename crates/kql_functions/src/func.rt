@@ -177,7 +177,7 @@ pub enum DynamicFunc {
 }
 
 impl Func {
-    /// The function's name, or the operator's sign: `and`, `or`, `neg` and `at` name the operators that have none.
+    /// The function's name, or the operator's sign or word. The minus sign before a value is `neg`, a step of a path `at`.
     pub fn name(self) -> &'static str
         ensures name { result.now ≡ func_name self }
 

@@ -92,10 +92,21 @@ in~ TT:B TTTT:B LL:-
 between LLL:B MMM:B SSS:B MMS:B TTT:- SMM:-
 !between LLL:B MMM:B SSS:B MMS:B
 contains TT:B TD:-
+!contains TT:B LL:-
+contains_cs TT:B
 !contains_cs TT:B
 startswith TT:B
+!startswith TT:B TL:-
+startswith_cs TT:B
+!startswith_cs TT:B
+endswith TT:B LT:-
+!endswith TT:B
+endswith_cs TT:B
 !endswith_cs TT:B
 has TT:B LL:-
+!has TT:B
+has_cs TT:B
+!has_cs TT:B DT:-
 and BB:B BBB:B B:- BL:-
 or BB:B BBBB:B
 not B:B
@@ -127,9 +138,19 @@ strcmp TT:L
 now :M S:M M:-
 ago S:M :-
 startofday M:M
+startofweek M:M L:-
+startofmonth M:M
+startofyear M:M
+endofday M:M ML:-
+endofweek M:M
+endofmonth M:M
 endofyear M:M
 dayofweek M:S
 dayofmonth M:L
+dayofyear M:L S:-
+getyear M:L
+getmonth M:L T:-
+monthofyear M:L
 hourofday M:L
 datetime_add TLM:M TLL:-
 datetime_diff TMM:L

@@ -13,7 +13,7 @@ pub fn first_that_is_given()
     ensures last { LastIsTaken }
 {}
 
-/// `min_of` and `max_of` give one of their arguments, below or above which none is, and null only where all are null.
+/// `min_of` gives an argument that no other is below, `max_of` one that no other is above; null only where all are null.
 pub fn least_and_greatest()
     ensures least { LeastIsTaken }
     ensures greatest { GreatestIsTaken }

@@ -193,6 +193,7 @@ between | 1; 2; 0 | false
 between | ~5; ~5; ~5 | true
 between | @9; @1; @9 | true
 between | @3155378975999999999; @3155378975999999999; ~1 | null
+between | @5; @3155378975999999999; ~1 | false
 between | @5; @10; ~-5 | false
 !between | 5; null; 6 | null
 !between | 4; 5; null | true

@@ -1,3 +1,4 @@
+pub mod Alone
 pub mod Classes
 pub mod Derives
 pub mod Forms
