@@ -23,211 +23,239 @@ fn forms_of(alloc: Global, table: &Table) -> Result<String, AllocError> {
     Ok(forms)
 }
 
+// Whether a table has these cells and prints as this text.
+fn is_shown(alloc: Global, table: &Table, forms: &str, text: &str) -> Result<bool, AllocError> {
+    let found = forms_of(alloc, table)?;
+    if found.as_str() != forms {
+        return Ok(false);
+    }
+    let printed = table_text(alloc, table)?;
+    Ok(printed.as_slice() == text.as_bytes())
+}
+
+// The first file that is not a table of its cells, which prints as its text; nothing where each is.
+fn wrong_table(
+    alloc: Global,
+    rows: &[(&'static str, &str, &str)],
+) -> Result<&'static str, DataFault> {
+    for (file, forms, text) in rows {
+        let table = load(alloc, file.as_bytes())?;
+        if !is_shown(alloc, &table, forms, text)? {
+            return Ok(*file);
+        }
+    }
+    Ok("")
+}
+
+// Files, a letter for each of their cells, and what their tables print as.
+const TABLES: &[(&str, &str, &str)] = &[
+    ("k,x:long\n", "", "k,x\n"),
+    ("k:long,v\n2,a\n,b\n1,c\n", "lt-tlt", "k,v\n2,a\n,b\n1,c\n"),
+    ("x:long\n1\n\"\"\n2\n", "l-l", "x\n1\n\"\"\n2\n"),
+    ("v\n\"\"\nw\n", "tt", "v\n\"\"\nw\n"),
+    (
+        "Ts:datetime,Note\n2024-01-01,\"two\nlines\"\n",
+        "mt",
+        "Ts,Note\n2024-01-01T00:00:00.0000000Z,\"two\nlines\"\n",
+    ),
+    (
+        "a:datetime,b:timespan\n2024-03-01 10:05,36h\n,\n2024-03-01T10:07:30.5Z,-1.5h\n",
+        "ms--ms",
+        "a,b\n2024-03-01T10:05:00.0000000Z,1.12:00:00\n,\n2024-03-01T10:07:30.5000000Z,-01:30:00\n",
+    ),
+    (
+        "a:dynamic,b:dynamic\n\"[1,2]\",\"[7,8,9]\"\n[],[]\n,5\n",
+        "dddd-d",
+        "a,b\n\"[1,2]\",\"[7,8,9]\"\n[],[]\n,5\n",
+    ),
+    (
+        "d:dynamic\n\"{\"\"b\"\":[1,2.5],\"\"a\"\":true}\"\nnope\nnull\n\"\"\n",
+        "dd--",
+        "d\n\"{\"\"a\"\":true,\"\"b\"\":[1,null]}\"\n\"\"\"nope\"\"\"\n\"\"\n\"\"\n",
+    ),
+    ("a:datetime,b:timespan,c:dynamic\n", "", "a,b,c\n"),
+    (
+        "t\n\"a\"\"b\"\n\"c,d\"\n e \na\"b\n\"a\"b\n",
+        "ttttt",
+        "t\n\"a\"\"b\"\n\"c,d\"\n e \n\"a\"\"b\"\nab\n",
+    ),
+    ("\u{feff}a\n1\n", "t", "a\n1\n"),
+    ("\u{feff}\u{feff}a\n1\n", "t", "\u{feff}a\n1\n"),
+    ("a,b\r\n1,2\r\n3,4\r\n", "tttt", "a,b\n1,2\n3,4\n"),
+    ("a,b\r1,2\r", "tt", "a,b\n1,2\n"),
+    ("a,b\n1,2", "tt", "a,b\n1,2\n"),
+    ("a,b\n1,\"2", "tt", "a,b\n1,2\n"),
+    ("\n\na:long\n\n1\n\n", "l", "a\n1\n"),
+    ("a", "", "a\n"),
+    ("a:", "", "a:\n"),
+    ("a:l", "", "a:l\n"),
+    ("a:lo", "", "a:lo\n"),
+    ("a:lon", "", "a:lon\n"),
+    ("a:long", "", "a\n"),
+    ("a:long,b", "", "a,b\n"),
+    ("a:long,b\n", "", "a,b\n"),
+    ("a:long,b\n1,", "lt", "a,b\n1,\n"),
+    ("a:long,b\n1,p", "lt", "a,b\n1,p\n"),
+    ("a:long,b\n1,p\n", "lt", "a,b\n1,p\n"),
+    (
+        "a:Long,a:b:long,c:string,long,:x,d:\nu,1,v,w,,z\n",
+        "tltttt",
+        "a:Long,a:b,c,long,:x,d:\nu,1,v,w,,z\n",
+    ),
+    ("a,A,\"b\":long\n1,2,3\n", "ttl", "a,A,b\n1,2,3\n"),
+    (
+        "a:int:long,a:long:string,:,a:long \n1,2,3,4\n",
+        "lttt",
+        "a:int,a:long,:,a:long \n1,2,3,4\n",
+    ),
+    ("\u{feff}a:long\n5\n", "l", "a\n5\n"),
+    ("\u{feff}\"a\",b\n1,2\n", "tt", "a,b\n1,2\n"),
+    ("a:long,b\r\n\r\n1,2\r\n", "lt", "a,b\n1,2\n"),
+    ("t\n\"a\rb\"\nc\u{feff}\n", "tt", "t\n\"a\rb\"\nc\u{feff}\n"),
+    (
+        "d:dynamic\n2.5\n [1] \n\"{\"\"a\"\":1,\"\"a\"\":2}\"\n",
+        "-dd",
+        "d\n\"\"\n[1]\n\"{\"\"a\"\":2}\"\n",
+    ),
+    (
+        "b:bool\nTRUE\nfalse\nTrUe\nFALSE\n\"\"\n",
+        "bbbb-",
+        "b\ntrue\nfalse\ntrue\nfalse\n\"\"\n",
+    ),
+    (
+        "x:long\n-9223372036854775808\n9223372036854775807\n007\n-0\n-007\n00000000000000000000001\n",
+        "llllll",
+        "x\n-9223372036854775808\n9223372036854775807\n7\n0\n-7\n1\n",
+    ),
+];
+
 #[test]
 fn files_that_are_tables(rt: HostRuntime) -> Result<(), Fail> {
-    let alloc = rt.alloc();
-    for (file, forms, text) in [
-        ("k,x:long\n", "", "k,x\n"),
-        ("k:long,v\n2,a\n,b\n1,c\n", "lt-tlt", "k,v\n2,a\n,b\n1,c\n"),
-        ("x:long\n1\n\"\"\n2\n", "l-l", "x\n1\n\"\"\n2\n"),
-        ("v\n\"\"\nw\n", "tt", "v\n\"\"\nw\n"),
-        (
-            "Ts:datetime,Note\n2024-01-01,\"two\nlines\"\n",
-            "mt",
-            "Ts,Note\n2024-01-01T00:00:00.0000000Z,\"two\nlines\"\n",
-        ),
-        (
-            "a:datetime,b:timespan\n2024-03-01 10:05,36h\n,\n2024-03-01T10:07:30.5Z,-1.5h\n",
-            "ms--ms",
-            "a,b\n2024-03-01T10:05:00.0000000Z,1.12:00:00\n,\n2024-03-01T10:07:30.5000000Z,-01:30:00\n",
-        ),
-        (
-            "a:dynamic,b:dynamic\n\"[1,2]\",\"[7,8,9]\"\n[],[]\n,5\n",
-            "dddd-d",
-            "a,b\n\"[1,2]\",\"[7,8,9]\"\n[],[]\n,5\n",
-        ),
-        (
-            "d:dynamic\n\"{\"\"b\"\":[1,2.5],\"\"a\"\":true}\"\nnope\nnull\n\"\"\n",
-            "dd--",
-            "d\n\"{\"\"a\"\":true,\"\"b\"\":[1,null]}\"\n\"\"\"nope\"\"\"\n\"\"\n\"\"\n",
-        ),
-        ("a:datetime,b:timespan,c:dynamic\n", "", "a,b,c\n"),
-        (
-            "t\n\"a\"\"b\"\n\"c,d\"\n e \na\"b\n\"a\"b\n",
-            "ttttt",
-            "t\n\"a\"\"b\"\n\"c,d\"\n e \n\"a\"\"b\"\nab\n",
-        ),
-        ("\u{feff}a\n1\n", "t", "a\n1\n"),
-        ("\u{feff}\u{feff}a\n1\n", "t", "\u{feff}a\n1\n"),
-        ("a,b\r\n1,2\r\n3,4\r\n", "tttt", "a,b\n1,2\n3,4\n"),
-        ("a,b\r1,2\r", "tt", "a,b\n1,2\n"),
-        ("a,b\n1,2", "tt", "a,b\n1,2\n"),
-        ("a,b\n1,\"2", "tt", "a,b\n1,2\n"),
-        ("\n\na:long\n\n1\n\n", "l", "a\n1\n"),
-        ("a", "", "a\n"),
-        ("a:", "", "a:\n"),
-        ("a:l", "", "a:l\n"),
-        ("a:lo", "", "a:lo\n"),
-        ("a:lon", "", "a:lon\n"),
-        ("a:long", "", "a\n"),
-        ("a:long,b", "", "a,b\n"),
-        ("a:long,b\n", "", "a,b\n"),
-        ("a:long,b\n1,", "lt", "a,b\n1,\n"),
-        ("a:long,b\n1,p", "lt", "a,b\n1,p\n"),
-        ("a:long,b\n1,p\n", "lt", "a,b\n1,p\n"),
-        (
-            "a:Long,a:b:long,c:string,long,:x,d:\nu,1,v,w,,z\n",
-            "tltttt",
-            "a:Long,a:b,c,long,:x,d:\nu,1,v,w,,z\n",
-        ),
-        ("a,A,\"b\":long\n1,2,3\n", "ttl", "a,A,b\n1,2,3\n"),
-        (
-            "a:int:long,a:long:string,:,a:long \n1,2,3,4\n",
-            "lttt",
-            "a:int,a:long,:,a:long \n1,2,3,4\n",
-        ),
-        ("\u{feff}a:long\n5\n", "l", "a\n5\n"),
-        ("\u{feff}\"a\",b\n1,2\n", "tt", "a,b\n1,2\n"),
-        ("a:long,b\r\n\r\n1,2\r\n", "lt", "a,b\n1,2\n"),
-        ("t\n\"a\rb\"\nc\u{feff}\n", "tt", "t\n\"a\rb\"\nc\u{feff}\n"),
-        (
-            "d:dynamic\n2.5\n [1] \n\"{\"\"a\"\":1,\"\"a\"\":2}\"\n",
-            "-dd",
-            "d\n\"\"\n[1]\n\"{\"\"a\"\":2}\"\n",
-        ),
-        (
-            "b:bool\nTRUE\nfalse\nTrUe\nFALSE\n\"\"\n",
-            "bbbb-",
-            "b\ntrue\nfalse\ntrue\nfalse\n\"\"\n",
-        ),
-        (
-            "x:long\n-9223372036854775808\n9223372036854775807\n007\n-0\n-007\n00000000000000000000001\n",
-            "llllll",
-            "x\n-9223372036854775808\n9223372036854775807\n7\n0\n-7\n1\n",
-        ),
-    ] {
-        let table = load(alloc, file.as_bytes())?;
-        let found = forms_of(alloc, &table)?;
-        assert_eq!(rt; found.as_str(), forms, "{file:?}");
-        let printed = table_text(alloc, &table)?;
-        assert_eq!(rt; printed.as_slice(), text.as_bytes(), "{file:?}");
-    }
+    let wrong = wrong_table(rt.alloc(), TABLES)?;
+    assert_eq!(rt; wrong, "");
     Ok(())
 }
 
-#[test]
-fn headers_that_are_refused(rt: HostRuntime) {
-    for (file, code, column) in [
-        ("", 302, 0),
-        ("\n\r\n", 302, 0),
-        ("\u{feff}", 302, 0),
-        (":long\n", 303, 1),
-        ("a,,b\n", 303, 2),
-        ("\"\"\n", 303, 1),
-        ("\"\"", 303, 1),
-        ("a:int\n", 303, 1),
-        ("a,b:real\n", 303, 2),
-        ("a:double\n", 303, 1),
-        ("a:decimal\n", 303, 1),
-        ("a:guid\n", 303, 1),
-        ("a:date\n", 303, 1),
-        ("a:b:time\n", 303, 1),
-        (":datetime\n", 303, 1),
-        ("a:long,", 303, 2),
-        ("a:datetime,a:dynamic\n", 304, 2),
-        ("a,a:long\n", 304, 2),
-        ("a:b:long,a:b\n", 304, 2),
-        ("a:Long,a:Long\n", 304, 2),
-        ("\u{feff}a,a\n", 304, 2),
-        ("a,b,a,c:int\n", 304, 3),
-        ("a:int,b,b\n", 303, 1),
-        ("a,b:int\n1\n", 303, 2),
-    ] {
-        match load(rt.alloc(), file.as_bytes()) {
-            Ok(_) => assert!(rt; false, "{file:?} was taken"),
-            Err(e) => assert_eq!(rt;
-                e,
-                DataFault::Refused {
-                    code,
-                    row: 0,
-                    column
-                },
-                "{file:?}"
-            ),
-        }
+// The code, the row and the column of a file's refusal, or zeros.
+fn refusal(alloc: Global, file: &[u8]) -> (u32, u64, u64) {
+    match load(alloc, file) {
+        Ok(_table) => (0, 0, 0),
+        Err(DataFault::Refused { code, row, column }) => (code, row, column),
+        Err(DataFault::OutOfMemory) => (1, 0, 0),
     }
 }
 
-#[test]
-fn rows_that_are_refused(rt: HostRuntime) {
-    for (file, code, row, column) in [
-        ("a,b\n1,2\n3\n", 305, 2, 1),
-        ("a\n1,2\n", 305, 1, 2),
-        ("a,b\n1", 305, 1, 1),
-        ("a:long,b\n1", 305, 1, 1),
-        ("a:long,b\n1\nx,1\n", 305, 1, 1),
-        ("a:long,b\nx,1\n1\n", 306, 1, 1),
-        (
-            "a:long,t:datetime\n1,2024-01-01\n2,\n3,2024-13-01\n",
-            306,
-            3,
-            2,
-        ),
-        ("t:datetime\n2024-01-01T10\n", 306, 1, 1),
-        ("t:timespan\n10:00\n", 306, 1, 1),
-        ("a:dynamic,b:timespan\n{,5\n", 306, 1, 2),
-        ("a:long,b\nx\n", 305, 1, 1),
-        ("a:long\nx\n1,2\n", 306, 1, 1),
-        ("a:long,b:bool\n1,true\nx,maybe\n", 306, 2, 1),
-        ("a:long,b:bool\n1,yes\n", 306, 1, 2),
-        ("a:long\n\n5\n\nabc\n", 306, 2, 1),
-        ("a:long\n+5\n", 306, 1, 1),
-        ("a:long\n1.5\n", 306, 1, 1),
-        ("a:long\n 5\n", 306, 1, 1),
-        ("a:long\n-\n", 306, 1, 1),
-        ("a:long\n--5\n", 306, 1, 1),
-        ("a:long\n5-\n", 306, 1, 1),
-        ("a:long\n-+5\n", 306, 1, 1),
-        ("a:long\n5 \n", 306, 1, 1),
-        ("a:long\n1_0\n", 306, 1, 1),
-        ("a:long\n0x1\n", 306, 1, 1),
-        ("a:long\n9223372036854775808\n", 306, 1, 1),
-        ("a:long\n-9223372036854775809\n", 306, 1, 1),
-        ("a:bool\n1\n", 306, 1, 1),
-        ("a:bool\ntrue \n", 306, 1, 1),
-    ] {
-        match load(rt.alloc(), file.as_bytes()) {
-            Ok(_) => assert!(rt; false, "{file:?} was taken"),
-            Err(e) => assert_eq!(rt; e, DataFault::Refused { code, row, column }, "{file:?}"),
+// The first file that is refused otherwise than with this code, in this row and column; nothing where each is refused so.
+fn wrong_refusal(alloc: Global, rows: &[(&'static str, u32, u64, u64)]) -> &'static str {
+    for (file, code, row, column) in rows {
+        if refusal(alloc, file.as_bytes()) != (*code, *row, *column) {
+            return *file;
         }
     }
+    ""
+}
+
+// Headers, with the code and the column of their refusals.
+const HEADERS: &[(&str, u32, u64, u64)] = &[
+    ("", 302, 0, 0),
+    ("\n\r\n", 302, 0, 0),
+    ("\u{feff}", 302, 0, 0),
+    (":long\n", 303, 0, 1),
+    ("a,,b\n", 303, 0, 2),
+    ("\"\"\n", 303, 0, 1),
+    ("\"\"", 303, 0, 1),
+    ("a:int\n", 303, 0, 1),
+    ("a,b:real\n", 303, 0, 2),
+    ("a:double\n", 303, 0, 1),
+    ("a:decimal\n", 303, 0, 1),
+    ("a:guid\n", 303, 0, 1),
+    ("a:date\n", 303, 0, 1),
+    ("a:b:time\n", 303, 0, 1),
+    (":datetime\n", 303, 0, 1),
+    ("a:long,", 303, 0, 2),
+    ("a:datetime,a:dynamic\n", 304, 0, 2),
+    ("a,a:long\n", 304, 0, 2),
+    ("a:b:long,a:b\n", 304, 0, 2),
+    ("a:Long,a:Long\n", 304, 0, 2),
+    ("\u{feff}a,a\n", 304, 0, 2),
+    ("a,b,a,c:int\n", 304, 0, 3),
+    ("a:int,b,b\n", 303, 0, 1),
+    ("a,b:int\n1\n", 303, 0, 2),
+];
+
+#[test]
+fn headers_that_are_refused(rt: HostRuntime) {
+    assert_eq!(rt; wrong_refusal(rt.alloc(), HEADERS), "");
+}
+
+// Files, with the code, the row and the column of their refusals.
+const ROWS: &[(&str, u32, u64, u64)] = &[
+    ("a,b\n1,2\n3\n", 305, 2, 1),
+    ("a\n1,2\n", 305, 1, 2),
+    ("a,b\n1", 305, 1, 1),
+    ("a:long,b\n1", 305, 1, 1),
+    ("a:long,b\n1\nx,1\n", 305, 1, 1),
+    ("a:long,b\nx,1\n1\n", 306, 1, 1),
+    (
+        "a:long,t:datetime\n1,2024-01-01\n2,\n3,2024-13-01\n",
+        306,
+        3,
+        2,
+    ),
+    ("t:datetime\n2024-01-01T10\n", 306, 1, 1),
+    ("t:timespan\n10:00\n", 306, 1, 1),
+    ("a:dynamic,b:timespan\n{,5\n", 306, 1, 2),
+    ("a:long,b\nx\n", 305, 1, 1),
+    ("a:long\nx\n1,2\n", 306, 1, 1),
+    ("a:long,b:bool\n1,true\nx,maybe\n", 306, 2, 1),
+    ("a:long,b:bool\n1,yes\n", 306, 1, 2),
+    ("a:long\n\n5\n\nabc\n", 306, 2, 1),
+    ("a:long\n+5\n", 306, 1, 1),
+    ("a:long\n1.5\n", 306, 1, 1),
+    ("a:long\n 5\n", 306, 1, 1),
+    ("a:long\n-\n", 306, 1, 1),
+    ("a:long\n--5\n", 306, 1, 1),
+    ("a:long\n5-\n", 306, 1, 1),
+    ("a:long\n-+5\n", 306, 1, 1),
+    ("a:long\n5 \n", 306, 1, 1),
+    ("a:long\n1_0\n", 306, 1, 1),
+    ("a:long\n0x1\n", 306, 1, 1),
+    ("a:long\n9223372036854775808\n", 306, 1, 1),
+    ("a:long\n-9223372036854775809\n", 306, 1, 1),
+    ("a:bool\n1\n", 306, 1, 1),
+    ("a:bool\ntrue \n", 306, 1, 1),
+];
+
+#[test]
+fn rows_that_are_refused(rt: HostRuntime) {
+    assert_eq!(rt; wrong_refusal(rt.alloc(), ROWS), "");
+}
+
+// Bytes that are no text, with how many of them are.
+const BYTES: &[(&[u8], u64)] = &[
+    (b"a\xff", 1),
+    (b"\xef\xbb\xbfa\nb\xc3", 6),
+    (b":long\n\xff", 6),
+    (b"\xed\xa0\x80", 0),
+    (b"a\xe2\x82", 1),
+    (b"\xc0\x80", 0),
+    (b"\xf4\x90\x80\x80", 0),
+    (b"a,b\n1\n\xff", 6),
+];
+
+// The place of the first file that is refused otherwise; how many there are where each is refused so.
+fn wrong_bytes(alloc: Global, rows: &[(&[u8], u64)]) -> usize {
+    for (i, (file, column)) in rows.iter().enumerate() {
+        if refusal(alloc, file) != (301, 0, *column) {
+            return i;
+        }
+    }
+    rows.len()
 }
 
 #[test]
 fn files_that_are_no_text(rt: HostRuntime) {
-    for (file, column) in [
-        (b"a\xff".as_slice(), 1),
-        (b"\xef\xbb\xbfa\nb\xc3".as_slice(), 6),
-        (b":long\n\xff".as_slice(), 6),
-        (b"\xed\xa0\x80".as_slice(), 0),
-        (b"a\xe2\x82".as_slice(), 1),
-        (b"\xc0\x80".as_slice(), 0),
-        (b"\xf4\x90\x80\x80".as_slice(), 0),
-        (b"a,b\n1\n\xff".as_slice(), 6),
-    ] {
-        match load(rt.alloc(), file) {
-            Ok(_) => assert!(rt; false, "{file:?} was taken"),
-            Err(e) => assert_eq!(rt;
-                e,
-                DataFault::Refused {
-                    code: 301,
-                    row: 0,
-                    column
-                },
-                "{file:?}"
-            ),
-        }
-    }
+    assert_eq!(rt; wrong_bytes(rt.alloc(), BYTES), 8);
 }
 
 // A header of so many columns.
@@ -248,17 +276,7 @@ fn the_widest_header(rt: HostRuntime) -> Result<(), Fail> {
     let printed = table_text(rt.alloc(), &table)?;
     assert_eq!(rt; printed.as_slice(), header.as_bytes());
     let header = wide(rt.alloc(), 256)?;
-    match load(rt.alloc(), header.as_bytes()) {
-        Ok(_) => assert!(rt; false, "257 columns were taken"),
-        Err(e) => assert_eq!(rt;
-            e,
-            DataFault::Refused {
-                code: 303,
-                row: 0,
-                column: 257
-            }
-        ),
-    }
+    assert_eq!(rt; refusal(rt.alloc(), header.as_bytes()), (303, 0, 257));
     Ok(())
 }
 

@@ -177,7 +177,7 @@ pub enum DynamicFunc {
 }
 
 impl Func {
-    /// The function's name, or the operator's sign or word. The minus sign before a value is `neg`, a step of a path `at`.
+    /// The name of a function, or the sign or word of an operator: of the minus before a value `neg`, of a path's step `at`.
     pub fn name(self) -> &'static str
         ensures name { result.now ≡ func_name self }
 

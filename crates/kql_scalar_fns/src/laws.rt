@@ -19,8 +19,8 @@ pub fn least_and_greatest()
     ensures greatest { GreatestIsTaken }
 {}
 
-/// The remainder of `%` is not negative and below the size of the divisor, from which the dividend differs by a
-/// multiple; there is none for the divisor 0.
+/// The remainder of `%` is not negative, is below the size of the divisor, and differs from the dividend by a multiple of
+/// the divisor; for the divisor 0 there is none.
 pub fn remainders()
     ensures remainder { RemainderIsTaken }
     ensures zero { ZeroHasNoRemainder }

@@ -27,8 +27,3 @@ pub use kql_functions::{
 pub use laws::{first_that_is_given, least_and_greatest, remainders, three_valued_logic};
 pub use time::{field_named, period_named};
 pub use well_formed::are_well_formed;
-
-#[cfg(test)]
-mod rows;
-#[cfg(test)]
-mod tests;

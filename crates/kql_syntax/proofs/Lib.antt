@@ -8,3 +8,4 @@ pub mod LeafFacts
 pub mod NameFacts
 pub mod Prefixes
 pub mod Rules
+pub mod WordFacts

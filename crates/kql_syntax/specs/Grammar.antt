@@ -132,8 +132,14 @@ within_list = makes (λ p a. cmp.In a p.0 p.1) (pair membership (round (commas (
 abbrev pub betweenness : Form BetweenSign
 betweenness = makes between_sign (token betweens)
 
+abbrev pub low_sum : Form Sum
+low_sum = before (level Level.Sum) (class.DotDot ∷ [])
+
+abbrev pub two_sums : Form (Sum × Sum)
+two_sums = pair low_sum (level Level.Sum)
+
 abbrev pub bounds : Form (Sum × Sum)
-bounds = round (pair (before (level Level.Sum) (class.DotDot ∷ [])) (level Level.Sum))
+bounds = round two_sums
 
 abbrev pub within_bounds : Form (Sum → Cmp)
 within_bounds = makes (λ p a. cmp.Between a p.0 p.1) (pair betweenness bounds)

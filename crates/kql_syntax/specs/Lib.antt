@@ -7,4 +7,5 @@ pub mod Leaves
 pub mod Levels
 pub mod Parsing
 pub mod Reading
+pub mod Spelled
 pub mod Trees

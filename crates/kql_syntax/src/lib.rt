@@ -1,6 +1,7 @@
 //! The trees of the query language, its grammar, and the reader of expressions.
 #![tactic(auto)]
 
+mod choices;
 mod class;
 mod leaf;
 mod parse;
@@ -8,6 +9,7 @@ mod query;
 pub mod reader;
 mod tree;
 
+pub use choices::choices_are_spelled;
 pub use class::{Class, is_name, is_of};
 pub use leaf::text_in;
 pub use parse::{SyntaxFault, parse_expr};
@@ -21,6 +23,3 @@ pub use tree::{
     Access, And, Arg, BetweenOp, BetweenSign, Cmp, CompareOp, CompareSign, Expr, InOp, InSign,
     Literal, Name, Post, Prod, ProdOp, ProdSign, Sign, Sum, SumOp, SumSign, Term, Word,
 };
-
-#[cfg(test)]
-mod tests;

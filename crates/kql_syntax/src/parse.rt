@@ -15,7 +15,8 @@ use thiserror::Error;
 /// Why tokens are refused.
 #[derive(Clone, Copy, Debug, PartialEq, Eq, Error)]
 pub enum SyntaxFault {
-    /// 201 at the token that follows the longest beginning of what was to be read, 202 at the 65th bracket that is open.
+    /// 201 at the token that follows the longest beginning of what was to be read, 202 at the 65th bracket that is open, and of a
+    /// query 203 at the name of the 257th operator.
     #[error("{code} at line {}, column {}", .place.line, .place.column)]
     Refused { code: u32, place: Place },
     #[error("out of memory")]

@@ -2,13 +2,16 @@
 //!
 //! A reader tells the tree of the longest tokens that begin its form and the index after them, or the index of the token
 //! at which they are refused. They recur with each open bracket: look for one that opens too deep first, as `parse_expr` does.
+//!
+//! A reader that holds a part of an expression by itself while it reads on names the fault and lets go of the part by `drop`, which is
+//! proved once for all types. With `?` the part's own drop would stand in the reader, and in its proof.
 
 ghost use Rattle.std.specs.Prelude.{◌≡◌, ◌+◌, ◌<◌, ◌≤◌, ℕ, [], ◌∷◌, length, IfOk, IfSome, IfNone, OnSome};
 ghost use Rattle.kql_syntax.specs.Leaves.{word_of};
 ghost use Rattle.kql_syntax.specs.Levels.{Level, comparisons, memberships, betweens};
 ghost use Rattle.kql_syntax.specs.Forms.{token, level, many, makes, mark};
 ghost use Rattle.kql_syntax.specs.Derives.{Found, Missing};
-ghost use Rattle.kql_syntax.specs.Grammar.{or_more, and_more, sum_more, prod_more, comparison, membership, betweenness, plus_or_minus, times_or_over, bounds, arguments, commas, round, string};
+ghost use Rattle.kql_syntax.specs.Grammar.{or_more, and_more, sum_more, prod_more, comparison, membership, betweenness, plus_or_minus, times_or_over, low_sum, two_sums, bounds, arguments, commas, round, string};
 ghost use Rattle.kql_syntax.specs.Reading.{Reads};
 
 use crate::class::{Class, has};
@@ -211,8 +214,24 @@ pub fn expr(alloc: Global, ts: &[Token], at: usize) -> Result<(Expr, usize), Fau
     ensures read { Reads (level Level.Expr) ts.now at result }
 {
     let (first, start) = and(alloc, ts, at)?;
-    let (more, end) = or_more(alloc, ts, start)?;
-    Ok((Expr { first, more }, end))
+    match or_more(alloc, ts, start) {
+        Ok((more, end)) => Ok((Expr { first, more }, end)),
+        Err(fault) => {
+            drop(first);
+            Err(fault)
+        }
+    }
+}
+
+/// Reads an expression into a box.
+#[cycle(read)]
+fn boxed_expr(alloc: Global, ts: &[Token], at: usize) -> Result<(Boxed<Expr>, usize), Fault>
+    requires { at ≤ length ts.now }
+    ensures within { IfOk result (λ r. (at < r.1) × (r.1 ≤ length ts.now)) }
+    ensures read { Reads (level Level.Expr) ts.now at result }
+{
+    let (tree, end) = expr(alloc, ts, at)?;
+    Ok((Boxed::new(alloc, tree)?, end))
 }
 
 /// Reads further terms of an `or`.
@@ -240,8 +259,13 @@ fn and(alloc: Global, ts: &[Token], at: usize) -> Result<(And, usize), Fault>
     ensures read { Reads (level Level.And) ts.now at result }
 {
     let (first, start) = cmp(alloc, ts, at)?;
-    let (more, end) = and_more(alloc, ts, start)?;
-    Ok((And { first, more }, end))
+    match and_more(alloc, ts, start) {
+        Ok((more, end)) => Ok((And { first, more }, end)),
+        Err(fault) => {
+            drop(first);
+            Err(fault)
+        }
+    }
 }
 
 /// Reads further terms of an `and`.
@@ -270,18 +294,31 @@ fn cmp(alloc: Global, ts: &[Token], at: usize) -> Result<(Cmp, usize), Fault>
 {
     let (left, start) = sum(alloc, ts, at)?;
     if let Some(sign) = comparison(ts, start) {
-        let (right, end) = sum(alloc, ts, start + 1)?;
-        let right = Boxed::new(alloc, right)?;
-        return Ok((Cmp::Compared(left, sign, right), end));
+        return match boxed_sum(alloc, ts, start + 1) {
+            Ok((right, end)) => Ok((Cmp::Compared(left, sign, right), end)),
+            Err(fault) => {
+                drop(left);
+                Err(fault)
+            }
+        };
     }
     if let Some(sign) = membership(ts, start) {
-        let (list, end) = round_exprs(alloc, ts, start + 1)?;
-        return Ok((Cmp::In(left, sign, list), end));
+        return match round_exprs(alloc, ts, start + 1) {
+            Ok((list, end)) => Ok((Cmp::In(left, sign, list), end)),
+            Err(fault) => {
+                drop(left);
+                Err(fault)
+            }
+        };
     }
     if let Some(sign) = betweenness(ts, start) {
-        let (both, end) = bounds(alloc, ts, start + 1)?;
-        let both = Boxed::new(alloc, both)?;
-        return Ok((Cmp::Between(left, sign, both), end));
+        return match bounds(alloc, ts, start + 1) {
+            Ok((both, end)) => Ok((Cmp::Between(left, sign, both), end)),
+            Err(fault) => {
+                drop(left);
+                Err(fault)
+            }
+        };
     }
     Ok((Cmp::Plain(left), start))
 }
@@ -320,17 +357,49 @@ fn exprs(alloc: Global, ts: &[Token], at: usize) -> Result<(Items<Expr>, usize),
 
 /// Reads two sums in brackets.
 #[cycle(read)]
-fn bounds(alloc: Global, ts: &[Token], at: usize) -> Result<((Sum, Sum), usize), Fault>
+fn bounds(alloc: Global, ts: &[Token], at: usize) -> Result<(Boxed<(Sum, Sum)>, usize), Fault>
     requires { at ≤ length ts.now }
     ensures within { IfOk result (λ r. (at < r.1) × (r.1 ≤ length ts.now)) }
     ensures read { Reads (bounds) ts.now at result }
 {
     let (_open, start) = expect(ts, at, &[Class::Open])?;
-    let (low, k) = sum(alloc, ts, start)?;
-    let (_dots, m) = expect(ts, k, &[Class::DotDot])?;
-    let (high, n) = sum(alloc, ts, m)?;
-    let (_close, end) = expect(ts, n, &[Class::Close])?;
-    Ok(((low, high), end))
+    let (both, k) = two_sums(alloc, ts, start)?;
+    let (_close, end) = expect(ts, k, &[Class::Close])?;
+    Ok((both, end))
+}
+
+/// Reads two sums with `..` between them.
+#[cycle(read)]
+fn two_sums(alloc: Global, ts: &[Token], at: usize) -> Result<(Boxed<(Sum, Sum)>, usize), Fault>
+    requires { at ≤ length ts.now }
+    ensures within { IfOk result (λ r. (at < r.1) × (r.1 ≤ length ts.now)) }
+    ensures read { Reads (two_sums) ts.now at result }
+{
+    let (low, start) = low_sum(alloc, ts, at)?;
+    match sum(alloc, ts, start) {
+        Ok((high, end)) => Ok((Boxed::new(alloc, (low, high))?, end)),
+        Err(fault) => {
+            drop(low);
+            Err(fault)
+        }
+    }
+}
+
+/// Reads a sum and a `..`.
+#[cycle(read)]
+fn low_sum(alloc: Global, ts: &[Token], at: usize) -> Result<(Sum, usize), Fault>
+    requires { at ≤ length ts.now }
+    ensures within { IfOk result (λ r. (at < r.1) × (r.1 ≤ length ts.now)) }
+    ensures read { Reads (low_sum) ts.now at result }
+{
+    let (low, k) = sum(alloc, ts, at)?;
+    match expect(ts, k, &[Class::DotDot]) {
+        Ok((_dots, end)) => Ok((low, end)),
+        Err(fault) => {
+            drop(low);
+            Err(fault)
+        }
+    }
 }
 
 /// Reads a sum.
@@ -341,8 +410,24 @@ fn sum(alloc: Global, ts: &[Token], at: usize) -> Result<(Sum, usize), Fault>
     ensures read { Reads (level Level.Sum) ts.now at result }
 {
     let (first, start) = prod(alloc, ts, at)?;
-    let (more, end) = sum_more(alloc, ts, start)?;
-    Ok((Sum { first, more }, end))
+    match sum_more(alloc, ts, start) {
+        Ok((more, end)) => Ok((Sum { first, more }, end)),
+        Err(fault) => {
+            drop(first);
+            Err(fault)
+        }
+    }
+}
+
+/// Reads a sum into a box.
+#[cycle(read)]
+fn boxed_sum(alloc: Global, ts: &[Token], at: usize) -> Result<(Boxed<Sum>, usize), Fault>
+    requires { at ≤ length ts.now }
+    ensures within { IfOk result (λ r. (at < r.1) × (r.1 ≤ length ts.now)) }
+    ensures read { Reads (level Level.Sum) ts.now at result }
+{
+    let (tree, end) = sum(alloc, ts, at)?;
+    Ok((Boxed::new(alloc, tree)?, end))
 }
 
 /// Reads further terms of a sum.
@@ -374,8 +459,13 @@ fn prod(alloc: Global, ts: &[Token], at: usize) -> Result<(Prod, usize), Fault>
     ensures read { Reads (level Level.Prod) ts.now at result }
 {
     let (first, start) = sign(alloc, ts, at)?;
-    let (more, end) = prod_more(alloc, ts, start)?;
-    Ok((Prod { first, more }, end))
+    match prod_more(alloc, ts, start) {
+        Ok((more, end)) => Ok((Prod { first, more }, end)),
+        Err(fault) => {
+            drop(first);
+            Err(fault)
+        }
+    }
 }
 
 /// Reads further factors.
@@ -455,9 +545,9 @@ fn access(alloc: Global, ts: &[Token], at: usize) -> Result<(Access, usize), Fau
         return Ok((Access::Entry(dot, entry), end));
     }
     let (open, start) = expect(ts, at, &[Class::OpenSquare])?;
-    let (index, k) = expr(alloc, ts, start)?;
+    let (index, k) = boxed_expr(alloc, ts, start)?;
     let (_close, end) = expect(ts, k, &[Class::CloseSquare])?;
-    Ok((Access::Element(open, Boxed::new(alloc, index)?), end))
+    Ok((Access::Element(open, index), end))
 }
 
 /// Reads a term.
@@ -483,9 +573,9 @@ fn term(alloc: Global, ts: &[Token], at: usize) -> Result<(Term, usize), Fault>
         return Ok((Term::Name(name), end));
     }
     let (open, start) = expect(ts, at, &[Class::Open])?;
-    let (inner, k) = expr(alloc, ts, start)?;
+    let (inner, k) = boxed_expr(alloc, ts, start)?;
     let (_close, end) = expect(ts, k, &[Class::Close])?;
-    Ok((Term::Group(open, Boxed::new(alloc, inner)?), end))
+    Ok((Term::Group(open, inner), end))
 }
 
 /// Reads arguments in brackets.

@@ -1,44 +1,20 @@
 use Rattle.std.proofs.Common.{refl, arith}
 use Rattle.kql_syntax.specs.Levels.{Level}
-use Rattle.kql_syntax.proofs.Rules.{level_found, level_refused, makes_found, makes_refused, pair_found, pair_refused, pair_refused_late, after_found, after_refused, after_none, before_found, before_refused, before_none, either_left, either_right, either_refused_left, either_refused_right, option_none, option_some, option_refused, found_starts, found_other, missing_both, none_starts, raises, ahead_more, ahead_end, ahead_refused, listed_start, listed_more, listed_end, listed_refused, listed_refused_first, optional_refused, refused_after, level_found_in, level_refused_in, in_found, in_refused, in_left, in_right, in_refused_right, in_left_none, in_right_none, in_refused_left_none, in_refused_right_none, under_none, under_found, under_refused, under_either}
+use Rattle.kql_syntax.proofs.Rules.{level_found, level_refused, makes_found, makes_refused, pair_found, pair_refused, pair_refused_late, after_found, after_refused, after_none, before_found, before_refused, before_none, either_left, either_right, either_refused_left, either_refused_right, option_none, option_some, option_refused, found_starts, found_other, missing_both, none_starts, passes, raises, ahead_more, ahead_end, ahead_refused, listed_start, listed_more, listed_end, listed_refused, listed_refused_first, optional_refused, refused_after, level_found_in, level_refused_in, in_found, in_refused, in_left, in_right, in_refused_right, in_left_none, in_right_none, in_refused_left_none, in_refused_right_none, under_none, under_found, under_refused, under_either}
 use Rattle.kql_syntax.proofs.Begun.{access_begins, arguments_begins}
 use Rattle.kql_syntax.proofs.reader.+read.Goals as goal
 
 pub expr-returns-in_err-first-clause-read : goal.expr-returns-in_err-first-clause-read
 expr-returns-in_err-first-clause-read t c = raises _ c.from_residual.ensures.1 c.in_err-first.ensures.read (λ e r. level_refused Level.Expr (makes_refused (pair_refused r refl)))
 
-pub expr-returns-in_err-more-clause-read : goal.expr-returns-in_err-more-clause-read
-expr-returns-in_err-more-clause-read t c = raises _ c.from_residual-in_err-more.ensures.1 c.in_err-more.ensures.read (λ e r. level_refused Level.Expr (makes_refused (pair_refused_late c.in_ok-first.ensures.read r refl)))
-
-pub expr-returns-clause-read : goal.expr-returns-clause-read
-expr-returns-clause-read t c = level_found Level.Expr (makes_found (pair_found c.in_ok-first.ensures.read c.in_ok-more.ensures.read refl))
-
 pub and-returns-in_err-first-clause-read : goal.and-returns-in_err-first-clause-read
 and-returns-in_err-first-clause-read t c = raises _ c.from_residual.ensures.1 c.in_err-first.ensures.read (λ e r. level_refused Level.And (makes_refused (pair_refused r refl)))
-
-pub and-returns-in_err-more-clause-read : goal.and-returns-in_err-more-clause-read
-and-returns-in_err-more-clause-read t c = raises _ c.from_residual-in_err-more.ensures.1 c.in_err-more.ensures.read (λ e r. level_refused Level.And (makes_refused (pair_refused_late c.in_ok-first.ensures.read r refl)))
-
-pub and-returns-clause-read : goal.and-returns-clause-read
-and-returns-clause-read t c = level_found Level.And (makes_found (pair_found c.in_ok-first.ensures.read c.in_ok-more.ensures.read refl))
 
 pub sum-returns-in_err-first-clause-read : goal.sum-returns-in_err-first-clause-read
 sum-returns-in_err-first-clause-read t c = raises _ c.from_residual.ensures.1 c.in_err-first.ensures.read (λ e r. level_refused Level.Sum (makes_refused (pair_refused r refl)))
 
-pub sum-returns-in_err-more-clause-read : goal.sum-returns-in_err-more-clause-read
-sum-returns-in_err-more-clause-read t c = raises _ c.from_residual-in_err-more.ensures.1 c.in_err-more.ensures.read (λ e r. level_refused Level.Sum (makes_refused (pair_refused_late c.in_ok-first.ensures.read r refl)))
-
-pub sum-returns-clause-read : goal.sum-returns-clause-read
-sum-returns-clause-read t c = level_found Level.Sum (makes_found (pair_found c.in_ok-first.ensures.read c.in_ok-more.ensures.read refl))
-
 pub prod-returns-in_err-first-clause-read : goal.prod-returns-in_err-first-clause-read
 prod-returns-in_err-first-clause-read t c = raises _ c.from_residual.ensures.1 c.in_err-first.ensures.read (λ e r. level_refused Level.Prod (makes_refused (pair_refused r refl)))
-
-pub prod-returns-in_err-more-clause-read : goal.prod-returns-in_err-more-clause-read
-prod-returns-in_err-more-clause-read t c = raises _ c.from_residual-in_err-more.ensures.1 c.in_err-more.ensures.read (λ e r. level_refused Level.Prod (makes_refused (pair_refused_late c.in_ok-first.ensures.read r refl)))
-
-pub prod-returns-clause-read : goal.prod-returns-clause-read
-prod-returns-clause-read t c = level_found Level.Prod (makes_found (pair_found c.in_ok-first.ensures.read c.in_ok-more.ensures.read refl))
 
 pub post-returns-in_err-first-clause-read : goal.post-returns-in_err-first-clause-read
 post-returns-in_err-first-clause-read t c = raises _ c.from_residual.ensures.1 c.in_err-first.ensures.read (λ e r. level_refused Level.Post (makes_refused (pair_refused r refl)))
@@ -148,44 +124,8 @@ round_exprs-returns-in_err-_close-clause-read t c = raises _ c.from_residual-in_
 pub round_exprs-returns-clause-read : goal.round_exprs-returns-clause-read
 round_exprs-returns-clause-read t c = after_found c.in_ok-_open.ensures.read (before_found c.in_ok-list.ensures.read c.in_ok-_close.ensures.read refl)
 
-pub bounds-returns-in_err-_open-clause-read : goal.bounds-returns-in_err-_open-clause-read
-bounds-returns-in_err-_open-clause-read t c = raises _ c.from_residual.ensures.1 c.in_err-_open.ensures.read (λ e r. after_none r)
-
-pub bounds-returns-in_err-low-clause-read : goal.bounds-returns-in_err-low-clause-read
-bounds-returns-in_err-low-clause-read t c = raises _ c.from_residual-in_err-low.ensures.1 c.in_err-low.ensures.read (λ e r. after_refused c.in_ok-_open.ensures.read (before_refused (pair_refused (before_refused r refl) refl) refl))
-
-pub bounds-returns-in_err-_dots-clause-read : goal.bounds-returns-in_err-_dots-clause-read
-bounds-returns-in_err-_dots-clause-read t c = raises _ c.from_residual-in_err-_dots.ensures.1 c.in_err-_dots.ensures.read (λ e r. after_refused c.in_ok-_open.ensures.read (before_refused (pair_refused (before_none c.in_ok-low.ensures.read r refl) refl) refl))
-
-pub bounds-returns-in_err-high-clause-read : goal.bounds-returns-in_err-high-clause-read
-bounds-returns-in_err-high-clause-read t c = raises _ c.from_residual-in_err-high.ensures.1 c.in_err-high.ensures.read (λ e r. after_refused c.in_ok-_open.ensures.read (before_refused (pair_refused_late (before_found c.in_ok-low.ensures.read c.in_ok-_dots.ensures.read refl) r refl) refl))
-
-pub bounds-returns-in_err-_close-clause-read : goal.bounds-returns-in_err-_close-clause-read
-bounds-returns-in_err-_close-clause-read t c = raises _ c.from_residual-in_err-_close.ensures.1 c.in_err-_close.ensures.read (λ e r. after_refused c.in_ok-_open.ensures.read (before_none (pair_found (before_found c.in_ok-low.ensures.read c.in_ok-_dots.ensures.read refl) c.in_ok-high.ensures.read refl) r refl))
-
-pub bounds-returns-clause-read : goal.bounds-returns-clause-read
-bounds-returns-clause-read t c = after_found c.in_ok-_open.ensures.read (before_found (pair_found (before_found c.in_ok-low.ensures.read c.in_ok-_dots.ensures.read refl) c.in_ok-high.ensures.read refl) c.in_ok-_close.ensures.read refl)
-
 pub cmp-returns-in_err-left-clause-read : goal.cmp-returns-in_err-left-clause-read
 cmp-returns-in_err-left-clause-read t c = raises _ c.from_residual.ensures.1 c.in_err-left.ensures.read (λ e r. level_refused Level.Cmp (makes_refused (pair_refused r refl)))
-
-pub cmp-returns-in_err-right-clause-read : goal.cmp-returns-in_err-right-clause-read
-cmp-returns-in_err-right-clause-read t c = raises _ c.from_residual-in_err-right.ensures.1 c.in_err-right.ensures.read (λ e r. level_refused Level.Cmp (makes_refused (pair_refused_late c.in_ok-left.ensures.read (option_refused (refused_after r) (either_refused_left (makes_refused (pair_refused_late c.in-Some.ensures.some r refl)) (found_other c.in-Some.ensures.some refl refl) refl)) refl)))
-
-pub cmp-returns-in-Some-clause-read : goal.cmp-returns-in-Some-clause-read
-cmp-returns-in-Some-clause-read t c = rw c.in_ok-right-2.ensures.value (level_found Level.Cmp (makes_found (pair_found c.in_ok-left.ensures.read (option_some (either_left (makes_found (pair_found c.in-Some.ensures.some c.in_ok-right.ensures.read refl)) (found_other c.in-Some.ensures.some refl refl) refl) refl) refl)))
-
-pub cmp-returns-in_err-list-clause-read : goal.cmp-returns-in_err-list-clause-read
-cmp-returns-in_err-list-clause-read t c = raises _ c.from_residual-in_err-list.ensures.1 c.in_err-list.ensures.read (λ e r. level_refused Level.Cmp (makes_refused (pair_refused_late c.in_ok-left.ensures.read (option_refused (refused_after r) (either_refused_right (either_refused_left (makes_refused (pair_refused_late c.in-Some-membership.ensures.some r refl)) (found_other c.in-Some-membership.ensures.some refl refl) refl) (found_other c.in-Some-membership.ensures.some refl refl) refl)) refl)))
-
-pub cmp-returns-in-Some-membership-clause-read : goal.cmp-returns-in-Some-membership-clause-read
-cmp-returns-in-Some-membership-clause-read t c = level_found Level.Cmp (makes_found (pair_found c.in_ok-left.ensures.read (option_some (either_right (either_left (makes_found (pair_found c.in-Some-membership.ensures.some c.in_ok-list.ensures.read refl)) (found_other c.in-Some-membership.ensures.some refl refl) refl) (found_other c.in-Some-membership.ensures.some refl refl) refl) refl) refl))
-
-pub cmp-returns-in_err-both-clause-read : goal.cmp-returns-in_err-both-clause-read
-cmp-returns-in_err-both-clause-read t c = raises _ c.from_residual-in_err-both.ensures.1 c.in_err-both.ensures.read (λ e r. level_refused Level.Cmp (makes_refused (pair_refused_late c.in_ok-left.ensures.read (option_refused (refused_after r) (either_refused_right (either_refused_right (makes_refused (pair_refused_late c.in-Some-betweenness.ensures.some r refl)) (found_other c.in-Some-betweenness.ensures.some refl refl) refl) (found_other c.in-Some-betweenness.ensures.some refl refl) refl)) refl)))
-
-pub cmp-returns-in-Some-betweenness-clause-read : goal.cmp-returns-in-Some-betweenness-clause-read
-cmp-returns-in-Some-betweenness-clause-read t c = rw c.in_ok-both-2.ensures.value (level_found Level.Cmp (makes_found (pair_found c.in_ok-left.ensures.read (option_some (either_right (either_right (makes_found (pair_found c.in-Some-betweenness.ensures.some c.in_ok-both.ensures.read refl)) (found_other c.in-Some-betweenness.ensures.some refl refl) refl) (found_other c.in-Some-betweenness.ensures.some refl refl) refl) refl) refl)))
 
 pub cmp-returns-clause-read : goal.cmp-returns-clause-read
 cmp-returns-clause-read t c = level_found Level.Cmp (makes_found (pair_found c.in_ok-left.ensures.read (option_none (missing_both c.in_default.ensures.none (missing_both c.in_default-membership.ensures.none c.in_default-betweenness.ensures.none)) refl) refl))
@@ -229,9 +169,6 @@ access-returns-in_err-index-clause-read t c = raises _ c.from_residual-in_err-in
 pub access-returns-in_err-_close-clause-read : goal.access-returns-in_err-_close-clause-read
 access-returns-in_err-_close-clause-read t c = raises _ c.from_residual-in_err-_close.ensures.1 c.in_err-_close.ensures.read (λ e r. level_refused Level.Access (either_refused_right (makes_refused (pair_refused_late c.in_ok-open.ensures.read (before_none c.in_ok-index.ensures.read r refl) refl)) c.in_default.ensures.none refl))
 
-pub access-returns-clause-read : goal.access-returns-clause-read
-access-returns-clause-read t c = rw c.in_ok-new.ensures.value (level_found Level.Access (either_right (makes_found (pair_found c.in_ok-open.ensures.read (before_found c.in_ok-index.ensures.read c.in_ok-_close.ensures.read refl) refl)) c.in_default.ensures.none refl))
-
 pub term-returns-in-Some-clause-read : goal.term-returns-in-Some-clause-read
 term-returns-in-Some-clause-read t c = rw c.in_ok-literal_of.ensures.literal (level_found Level.Term (either_left (makes_found (makes_found c.in-Some.ensures.some)) (found_other c.in-Some.ensures.some refl refl) refl))
 
@@ -259,5 +196,80 @@ term-returns-in_err-inner-clause-read t c = raises _ c.from_residual-in_err-inne
 pub term-returns-in_err-_close-clause-read : goal.term-returns-in_err-_close-clause-read
 term-returns-in_err-_close-clause-read t c = raises _ c.from_residual-in_err-_close.ensures.1 c.in_err-_close.ensures.read (λ e r. level_refused Level.Term (either_refused_right (either_refused_right (either_refused_right (makes_refused (pair_refused_late c.in_ok-open.ensures.read (before_none c.in_ok-inner.ensures.read r refl) refl)) (found_other c.in_ok-open.ensures.read refl refl) refl) (found_other c.in_ok-open.ensures.read refl refl) refl) (found_other c.in_ok-open.ensures.read refl refl) refl))
 
+pub expr-returns-in-Ok-clause-read : goal.expr-returns-in-Ok-clause-read
+expr-returns-in-Ok-clause-read t c = level_found Level.Expr (makes_found (pair_found c.in_ok-first.ensures.read c.in-Ok.ensures.read refl))
+
+pub expr-returns-in-Err-clause-read : goal.expr-returns-in-Err-clause-read
+expr-returns-in-Err-clause-read t c = passes (λ e r. level_refused Level.Expr (makes_refused (pair_refused_late c.in_ok-first.ensures.read r refl))) c.in-Err.ensures.read
+
+pub and-returns-in-Ok-clause-read : goal.and-returns-in-Ok-clause-read
+and-returns-in-Ok-clause-read t c = level_found Level.And (makes_found (pair_found c.in_ok-first.ensures.read c.in-Ok.ensures.read refl))
+
+pub and-returns-in-Err-clause-read : goal.and-returns-in-Err-clause-read
+and-returns-in-Err-clause-read t c = passes (λ e r. level_refused Level.And (makes_refused (pair_refused_late c.in_ok-first.ensures.read r refl))) c.in-Err.ensures.read
+
+pub sum-returns-in-Ok-clause-read : goal.sum-returns-in-Ok-clause-read
+sum-returns-in-Ok-clause-read t c = level_found Level.Sum (makes_found (pair_found c.in_ok-first.ensures.read c.in-Ok.ensures.read refl))
+
+pub sum-returns-in-Err-clause-read : goal.sum-returns-in-Err-clause-read
+sum-returns-in-Err-clause-read t c = passes (λ e r. level_refused Level.Sum (makes_refused (pair_refused_late c.in_ok-first.ensures.read r refl))) c.in-Err.ensures.read
+
+pub prod-returns-in-Ok-clause-read : goal.prod-returns-in-Ok-clause-read
+prod-returns-in-Ok-clause-read t c = level_found Level.Prod (makes_found (pair_found c.in_ok-first.ensures.read c.in-Ok.ensures.read refl))
+
+pub prod-returns-in-Err-clause-read : goal.prod-returns-in-Err-clause-read
+prod-returns-in-Err-clause-read t c = passes (λ e r. level_refused Level.Prod (makes_refused (pair_refused_late c.in_ok-first.ensures.read r refl))) c.in-Err.ensures.read
+
+pub bounds-returns-in_err-_open-clause-read : goal.bounds-returns-in_err-_open-clause-read
+bounds-returns-in_err-_open-clause-read t c = raises _ c.from_residual.ensures.1 c.in_err-_open.ensures.read (λ e r. after_none r)
+
+pub bounds-returns-in_err-both-clause-read : goal.bounds-returns-in_err-both-clause-read
+bounds-returns-in_err-both-clause-read t c = raises _ c.from_residual-in_err-both.ensures.1 c.in_err-both.ensures.read (λ e r. after_refused c.in_ok-_open.ensures.read (before_refused r refl))
+
+pub bounds-returns-in_err-_close-clause-read : goal.bounds-returns-in_err-_close-clause-read
+bounds-returns-in_err-_close-clause-read t c = raises _ c.from_residual-in_err-_close.ensures.1 c.in_err-_close.ensures.read (λ e r. after_refused c.in_ok-_open.ensures.read (before_none c.in_ok-both.ensures.read r refl))
+
+pub bounds-returns-clause-read : goal.bounds-returns-clause-read
+bounds-returns-clause-read t c = after_found c.in_ok-_open.ensures.read (before_found c.in_ok-both.ensures.read c.in_ok-_close.ensures.read refl)
+
+pub two_sums-returns-in_err-low-clause-read : goal.two_sums-returns-in_err-low-clause-read
+two_sums-returns-in_err-low-clause-read t c = raises _ c.from_residual.ensures.1 c.in_err-low.ensures.read (λ e r. pair_refused r refl)
+
+pub two_sums-returns-in_ok-new-in-Ok-clause-read : goal.two_sums-returns-in_ok-new-in-Ok-clause-read
+two_sums-returns-in_ok-new-in-Ok-clause-read t c = rw c.in_ok-new-in-Ok.ensures.value (pair_found c.in_ok-low.ensures.read c.in-Ok.ensures.read refl)
+
+pub two_sums-returns-in-Err-clause-read : goal.two_sums-returns-in-Err-clause-read
+two_sums-returns-in-Err-clause-read t c = passes (λ e r. pair_refused_late c.in_ok-low.ensures.read r refl) c.in-Err.ensures.read
+
+pub low_sum-returns-in_err-low-clause-read : goal.low_sum-returns-in_err-low-clause-read
+low_sum-returns-in_err-low-clause-read t c = raises _ c.from_residual.ensures.1 c.in_err-low.ensures.read (λ e r. before_refused r refl)
+
+pub low_sum-returns-in-Ok-clause-read : goal.low_sum-returns-in-Ok-clause-read
+low_sum-returns-in-Ok-clause-read t c = before_found c.in_ok-low.ensures.read c.in-Ok.ensures.read refl
+
+pub low_sum-returns-in-Err-clause-read : goal.low_sum-returns-in-Err-clause-read
+low_sum-returns-in-Err-clause-read t c = passes (λ e r. before_none c.in_ok-low.ensures.read r refl) c.in-Err.ensures.read
+
+pub cmp-returns-in-Ok-clause-read : goal.cmp-returns-in-Ok-clause-read
+cmp-returns-in-Ok-clause-read t c = level_found Level.Cmp (makes_found (pair_found c.in_ok-left.ensures.read (option_some (either_left (makes_found (pair_found c.in-Some.ensures.some c.in-Ok.ensures.read refl)) (found_other c.in-Some.ensures.some refl refl) refl) refl) refl))
+
+pub cmp-returns-in-Err-clause-read : goal.cmp-returns-in-Err-clause-read
+cmp-returns-in-Err-clause-read t c = passes (λ e r. level_refused Level.Cmp (makes_refused (pair_refused_late c.in_ok-left.ensures.read (option_refused (refused_after r) (either_refused_left (makes_refused (pair_refused_late c.in-Some.ensures.some r refl)) (found_other c.in-Some.ensures.some refl refl) refl)) refl))) c.in-Err.ensures.read
+
+pub cmp-returns-in-Ok-round_exprs-clause-read : goal.cmp-returns-in-Ok-round_exprs-clause-read
+cmp-returns-in-Ok-round_exprs-clause-read t c = level_found Level.Cmp (makes_found (pair_found c.in_ok-left.ensures.read (option_some (either_right (either_left (makes_found (pair_found c.in-Some-membership.ensures.some c.in-Ok-round_exprs.ensures.read refl)) (found_other c.in-Some-membership.ensures.some refl refl) refl) (found_other c.in-Some-membership.ensures.some refl refl) refl) refl) refl))
+
+pub cmp-returns-in-Err-round_exprs-clause-read : goal.cmp-returns-in-Err-round_exprs-clause-read
+cmp-returns-in-Err-round_exprs-clause-read t c = passes (λ e r. level_refused Level.Cmp (makes_refused (pair_refused_late c.in_ok-left.ensures.read (option_refused (refused_after r) (either_refused_right (either_refused_left (makes_refused (pair_refused_late c.in-Some-membership.ensures.some r refl)) (found_other c.in-Some-membership.ensures.some refl refl) refl) (found_other c.in-Some-membership.ensures.some refl refl) refl)) refl))) c.in-Err-round_exprs.ensures.read
+
+pub cmp-returns-in-Ok-bounds-clause-read : goal.cmp-returns-in-Ok-bounds-clause-read
+cmp-returns-in-Ok-bounds-clause-read t c = level_found Level.Cmp (makes_found (pair_found c.in_ok-left.ensures.read (option_some (either_right (either_right (makes_found (pair_found c.in-Some-betweenness.ensures.some c.in-Ok-bounds.ensures.read refl)) (found_other c.in-Some-betweenness.ensures.some refl refl) refl) (found_other c.in-Some-betweenness.ensures.some refl refl) refl) refl) refl))
+
+pub cmp-returns-in-Err-bounds-clause-read : goal.cmp-returns-in-Err-bounds-clause-read
+cmp-returns-in-Err-bounds-clause-read t c = passes (λ e r. level_refused Level.Cmp (makes_refused (pair_refused_late c.in_ok-left.ensures.read (option_refused (refused_after r) (either_refused_right (either_refused_right (makes_refused (pair_refused_late c.in-Some-betweenness.ensures.some r refl)) (found_other c.in-Some-betweenness.ensures.some refl refl) refl) (found_other c.in-Some-betweenness.ensures.some refl refl) refl)) refl))) c.in-Err-bounds.ensures.read
+
+pub access-returns-clause-read : goal.access-returns-clause-read
+access-returns-clause-read t c = level_found Level.Access (either_right (makes_found (pair_found c.in_ok-open.ensures.read (before_found c.in_ok-index.ensures.read c.in_ok-_close.ensures.read refl) refl)) c.in_default.ensures.none refl)
+
 pub term-returns-clause-read : goal.term-returns-clause-read
-term-returns-clause-read t c = rw c.in_ok-new.ensures.value (level_found Level.Term (either_right (either_right (either_right (makes_found (pair_found c.in_ok-open.ensures.read (before_found c.in_ok-inner.ensures.read c.in_ok-_close.ensures.read refl) refl)) (found_other c.in_ok-open.ensures.read refl refl) refl) (found_other c.in_ok-open.ensures.read refl refl) refl) (found_other c.in_ok-open.ensures.read refl refl) refl))
+term-returns-clause-read t c = level_found Level.Term (either_right (either_right (either_right (makes_found (pair_found c.in_ok-open.ensures.read (before_found c.in_ok-inner.ensures.read c.in_ok-_close.ensures.read refl) refl)) (found_other c.in_ok-open.ensures.read refl refl) refl) (found_other c.in_ok-open.ensures.read refl refl) refl) (found_other c.in_ok-open.ensures.read refl refl) refl)

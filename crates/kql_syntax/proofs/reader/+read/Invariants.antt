@@ -9,6 +9,18 @@ use Rattle.kql_syntax.proofs.reader.+read.Given as goal
 abbrev pub decreases-expr : goal.decreases-expr
 decreases-expr l = 16 * (length l.ts.now - l.at) + 11
 
+abbrev pub decreases-boxed_expr : goal.decreases-boxed_expr
+decreases-boxed_expr l = 16 * (length l.ts.now - l.at) + 12
+
+abbrev pub decreases-boxed_sum : goal.decreases-boxed_sum
+decreases-boxed_sum l = 16 * (length l.ts.now - l.at) + 9
+
+abbrev pub decreases-low_sum : goal.decreases-low_sum
+decreases-low_sum l = 16 * (length l.ts.now - l.at) + 9
+
+abbrev pub decreases-two_sums : goal.decreases-two_sums
+decreases-two_sums l = 16 * (length l.ts.now - l.at) + 10
+
 abbrev pub decreases-and : goal.decreases-and
 decreases-and l = 16 * (length l.ts.now - l.at) + 10
 

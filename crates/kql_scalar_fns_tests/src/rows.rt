@@ -109,7 +109,15 @@ binary_xor | null; null | null
 binary_xor | -1; -1 | 0
 binary_or | -9223372036854775808; 9223372036854775807 | -1
 binary_not | null | null
-binary_not | -9223372036854775808 | 9223372036854775807"#;
+binary_not | -9223372036854775808 | 9223372036854775807
++ | null; 1 | null
+- | null; ~1 | null
+* | 2; null | null
++ | @638448480000000000; ~36000000000 | @638448516000000000
+- | @638448480000000000; ~864000000000 | @638447616000000000
+floor | 5; null | null
+binary_and | 1; null | null
+binary_or | null; 1 | null"#;
 
 pub(crate) const COMPARISON: &str = r#"== | 1; 1 | true
 == | null; null | null
@@ -232,7 +240,13 @@ has | 'ab1; 'b1 | false
 has_cs | 'Error-42; 'error | false
 has_cs | 'xbc bc; 'bc | true
 !has_cs | 'Error-42; 'error | true
-!has_cs | 'a bc; 'bc | false"#;
+!has_cs | 'a bc; 'bc | false
+< | 2; null | null
+<= | 3; null | null
+> | null; 1 | null
+>= | 3; 2 | true
+!in | 1; 2; null | true
+!between | null; 1; 2 | null"#;
 
 pub(crate) const CHOICE: &str = r#"isnull | null | true
 isnull | ' | false
@@ -392,7 +406,24 @@ replace_string | '; 'a; 'b | '
 strcmp | '; 'a | -1
 strcmp | 'Z; 'a | -1
 strcmp | 'é; 'z | 1
-strcmp | 'ab; 'a | 1"#;
+strcmp | 'ab; 'a | 1
+case | null; 1; 2 | 2
+case | false; 1; true; null; 3 | null
+case | false; 1; false; 2; null | null
+strlen | null | null
+substring | null; 0 | null
+substring | null; 0; 1 | null
+indexof | null; 'a | null
+indexof | 'a; null | null
+toupper | null | null
+tolower | null | null
+reverse | null | null
+strcat_delim | null; 'a; 'b | 'ab
+replace_string | null; 'a; 'b | null
+replace_string | 'a; null; 'b | null
+replace_string | 'a; 'a; null | null
+strcmp | null; 'a | null
+strcmp | 'a; null | null"#;
 
 pub(crate) const TIME: &str = r#"startofweek | @638448480000000000 | @638444160000000000
 startofday | @638448663600000000 | @638448480000000000
@@ -533,7 +564,12 @@ unixtime_milliseconds_todatetime | -62135596800000 | @0
 unixtime_milliseconds_todatetime | -62135596800001 | null
 unixtime_milliseconds_todatetime | null | null
 now | ~1 | null
-ago | ~1 | null"#;
+ago | ~1 | null
+now | null | null
+ago | null | null
+make_datetime | 2024; null; 1 | null
+make_datetime | 2024; 1; null | null
+make_datetime | 2024; 1; 1; null; 0 | null"#;
 
 pub(crate) const DYNAMIC: &str = r#"tolong | ="-7" | -7
 tolong | =true | 1
@@ -679,4 +715,15 @@ split | 'abc; 'abc | ["",""]
 split | 'abc; 'x | ["abc"]
 split | 'aaa; 'aa | ["","a"]
 coalesce | {}; [2] | {}
-coalesce | null; null; [2] | [2]"#;
+coalesce | null; null; [2] | [2]
+todynamic | null | null
+array_concat | [1]; null | null
+array_slice | [1]; null; 0 | null
+array_slice | [1]; 0; null | null
+bag_merge | null; {} | null
+set_union | [1]; null | null
+set_intersect | null; [1] | null
+set_intersect | [1]; null | null
+set_difference | null; [1] | null
+split | null; '- | null
+split | 'a; null | null"#;

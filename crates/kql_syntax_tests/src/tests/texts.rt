@@ -1,7 +1,7 @@
 //! Expressions of query texts, by their lines and columns.
 
-use crate::parse::{SyntaxFault, parse_expr};
 use kql_lexer::lex;
+use kql_syntax::{SyntaxFault, parse_expr};
 use std::alloc::Global;
 
 /// 0 and the index of the token after the expression that a text begins with, or the code, the line and the column of
@@ -14,7 +14,11 @@ fn answer_on(alloc: Global, text: &str) -> (u32, usize, u32) {
         return (2, 0, 0);
     }
     match parse_expr(alloc, &ts, 0) {
-        Ok((_tree, end)) => (0, end, 0),
+        Ok((tree, end)) => {
+            let found = (0, end, 0);
+            drop(tree);
+            found
+        }
         Err(SyntaxFault::Refused { code, place }) => (code, place.line as usize, place.column),
         Err(SyntaxFault::OutOfMemory) => (3, 0, 0),
     }

@@ -1,11 +1,12 @@
 //! Words and signs, each once.
 
-use crate::class::{Class, is_name, is_of};
-use crate::parse::{SyntaxFault, parse_expr};
 use crate::tests::{form_of, outcome, push_form, push_pieces};
-use crate::tree::{BetweenOp, Cmp, CompareOp, Expr, InOp, ProdOp, SumOp};
 use kql_items::Items;
 use kql_lexer::{KEYWORDS, Keyword, TokenForm, Tokens};
+use kql_syntax::{
+    BetweenOp, Class, Cmp, CompareOp, Expr, InOp, ProdOp, SumOp, SyntaxFault, is_name, is_of,
+    parse_expr,
+};
 use kql_values::KText;
 use std::alloc::{AllocError, Global};
 use std::test::Fail;
@@ -182,7 +183,11 @@ fn is_read(alloc: Global, sign: &str, after: &str) -> bool {
         return false;
     }
     match parse_expr(alloc, &ts, 0) {
-        Ok((tree, end)) => ts.len().checked_sub(1) == Some(end) && has_sign(&tree, sign),
+        Ok((tree, end)) => {
+            let found = ts.len().checked_sub(1) == Some(end) && has_sign(&tree, sign);
+            drop(tree);
+            found
+        }
         Err(SyntaxFault::Refused { .. }) => false,
         Err(SyntaxFault::OutOfMemory) => false,
     }

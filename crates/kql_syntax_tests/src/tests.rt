@@ -1,12 +1,14 @@
 //! Expressions: the shapes of trees, and where each text is refused.
+//!
+//! A tree is let go of by `drop`: its own drop in each function would take most of the proof's time.
 
+mod places;
 mod texts;
 mod words;
 
-use crate::parse::{SyntaxFault, parse_expr};
-use crate::tree::{Cmp, Expr, Literal, Name, Sign, Sum, Term};
 use kql_items::Items;
 use kql_lexer::{Keyword, Place, Token, TokenForm, Tokens, keyword_of};
+use kql_syntax::{Cmp, Expr, Literal, Name, Sign, Sum, SyntaxFault, Term, parse_expr};
 use kql_values::KText;
 use std::alloc::{AllocError, Global};
 use std::test::Fail;
@@ -217,7 +219,11 @@ fn outcome(alloc: Global, ts: &Tokens, at: usize) -> (u32, usize) {
         return (1, 0);
     }
     match parse_expr(alloc, ts, at) {
-        Ok((_tree, end)) => (0, end),
+        Ok((tree, end)) => {
+            let found = (0, end);
+            drop(tree);
+            found
+        }
         Err(SyntaxFault::Refused { code, place }) => (code, place.column as usize),
         Err(SyntaxFault::OutOfMemory) => (1, 0),
     }
@@ -239,7 +245,11 @@ fn parsed(alloc: Global, text: &str) -> Result<(Expr, usize), SyntaxFault> {
 /// What an expression joins, or nothing.
 fn joins_of(alloc: Global, text: &str) -> [usize; 4] {
     match parsed(alloc, text) {
-        Ok((tree, _end)) => joins(&tree),
+        Ok((tree, _end)) => {
+            let found = joins(&tree);
+            drop(tree);
+            found
+        }
         Err(_) => [9; 4],
     }
 }
@@ -259,7 +269,11 @@ fn chains(rt: HostRuntime) {
 /// What an expression compares, or nothing.
 fn compared_of(alloc: Global, text: &str) -> [usize; 3] {
     match parsed(alloc, text) {
-        Ok((tree, _end)) => compared(&tree.first.first),
+        Ok((tree, _end)) => {
+            let found = compared(&tree.first.first);
+            drop(tree);
+            found
+        }
         Err(_) => [9; 3],
     }
 }
@@ -287,7 +301,11 @@ fn comparisons(rt: HostRuntime) {
 /// What stands in the first sum of an expression, or nothing.
 fn counts_of(alloc: Global, text: &str) -> [usize; 4] {
     match parsed(alloc, text) {
-        Ok((tree, _end)) => counts(first_sum(&tree)),
+        Ok((tree, _end)) => {
+            let found = counts(first_sum(&tree));
+            drop(tree);
+            found
+        }
         Err(_) => [9; 4],
     }
 }
@@ -310,7 +328,11 @@ fn sums(rt: HostRuntime) {
 /// The kind of the first term of an expression, or nothing.
 fn kind_in(alloc: Global, text: &str) -> (&'static str, usize, usize) {
     match parsed(alloc, text) {
-        Ok((tree, _end)) => kind_of(first_term(first_sum(&tree))),
+        Ok((tree, _end)) => {
+            let found = kind_of(first_term(first_sum(&tree)));
+            drop(tree);
+            found
+        }
         Err(_) => ("none", 0, 0),
     }
 }
@@ -338,7 +360,11 @@ fn terms(rt: HostRuntime) {
 /// The code and the column of the refusal, or 0 and the index of the token after the expression.
 fn end_of(alloc: Global, text: &str) -> (u32, usize) {
     match parsed(alloc, text) {
-        Ok((_tree, end)) => (0, end),
+        Ok((tree, end)) => {
+            let found = (0, end);
+            drop(tree);
+            found
+        }
         Err(SyntaxFault::Refused { code, place }) => (code, place.column as usize),
         Err(SyntaxFault::OutOfMemory) => (1, 0),
     }
@@ -432,7 +458,11 @@ fn right_side(cmp: &Cmp) -> [usize; 3] {
 /// The factors and the right side of a text, or nothing.
 fn parts_of(alloc: Global, text: &str) -> [[usize; 3]; 2] {
     match parsed(alloc, text) {
-        Ok((tree, _end)) => [factors(&tree), right_side(&tree.first.first)],
+        Ok((tree, _end)) => {
+            let found = [factors(&tree), right_side(&tree.first.first)];
+            drop(tree);
+            found
+        }
         Err(_) => [[9; 3]; 2],
     }
 }
