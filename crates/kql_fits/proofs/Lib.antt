@@ -1,0 +1,4 @@
+pub mod FitSteps
+pub mod FitsSteps
+pub mod LiteralFacts
+pub mod RangeSteps

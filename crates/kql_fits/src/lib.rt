@@ -1,0 +1,17 @@
+//! When a bound program fits the schemas of the tables that it reads.
+//!
+//! The definitions are those of `kql_meaning`: `Fits.antt`, `FittingOperators.antt` and `FittingExpressions.antt` in its specs.
+#![tactic(auto)]
+
+mod fit_aggregates;
+mod fit_calls;
+mod fit_expressions;
+mod fit_operators;
+mod fit_plans;
+mod fit_programs;
+mod fit_scan;
+mod kind_tests;
+mod literals;
+mod scope;
+
+pub use fit_programs::fits;
