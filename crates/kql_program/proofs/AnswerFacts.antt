@@ -1,7 +1,7 @@
 -- How answers follow one another.
-use Rattle.std.proofs.Common.{◌≡◌, List, [], ◌∷◌, refl, subst, sym}
+use Rattle.std.proofs.Common.{◌≡◌, List, [], ◌∷◌, ◌++◌, ap, append_assoc, refl, subst, sym}
 use Rattle.std.specs.Prelude.{Result, Ok, Err, IsErrAnd}
-use Rattle.kql_program.specs.Refusals.{Answer, Computes, Gives, ◌>>=◌, unless}
+use Rattle.kql_program.specs.Refusals.{Answer, Computes, Gives, Reaches, ◌>>=◌, after, unless, with_first}
 use Rattle.kql_program.specs.declared.refusal.Refusal.{Refusal}
 use Rattle.kql_program.specs.declared.refusal.Stop.{Stop}
 use Rattle.kql_program.specs.declared.refusal.Stop.TheVariants as stop
@@ -65,3 +65,13 @@ raised-refusal a (Err e) q i h = rw i (sym h)
 pub raised-gives : {X : Type 0} (a : Answer X) (r : Result X Stop) (s : Stop) → IsErrAnd r (λ e. e ≡ s) → Gives a (Err s) → Gives a r
 raised-gives a (Ok x) s i h = absurd i
 raised-gives a (Err e) s i h = rw i h
+
+-- the same of a step that may come to one of several answers
+pub raised-reaches : {X : Type 0} (Is : Answer X → Type 0) (r : Result X Stop) (s : Stop) → IsErrAnd r (λ e. e ≡ s) → Reaches Is (Err s) → Reaches Is r
+raised-reaches Is (Ok x) s i h = absurd i
+raised-reaches Is (Err e) s i h = rw i h
+
+-- one more value, behind those before it
+pub after-first : {X : Type 0} (before : List X) (x : X) (rest : Answer (List X)) → after before (with_first x rest) ≡ after (before ++ x ∷ []) rest
+after-first before x (Ok xs) = ap Ok (sym (append_assoc before (x ∷ []) xs))
+after-first before x (Err r) = refl

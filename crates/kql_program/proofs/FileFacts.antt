@@ -15,10 +15,7 @@ use Rattle.kql_lexer.specs.declared.lexer.LexFault.TheVariants as lex
 use Rattle.kql_lexer.specs.declared.token.Token.{Token}
 use Rattle.kql_outside.specs.Told.{file_of}
 use Rattle.kql_values.specs.Table.{Grid}
-use Rattle.kql_program.specs.Answer.{query_read}
-use Rattle.kql_program.specs.Form.{filter_of}
-use Rattle.kql_program.specs.declared.query.Filter.{Filter}
-use Rattle.kql_program.specs.Files.{Files, ReadsFront, ReadsTable, bytes_top, file_bytes, found_as, lexed_as, loaded_as, query_tokens, table_in, table_of}
+use Rattle.kql_program.specs.Files.{Files, ReadsFront, ReadsTable, bytes_top, file_bytes, file_tokens, found_as, lexed_as, loaded_as, query_tokens, table_in, table_of}
 use Rattle.kql_program.specs.Refusals.{Answer, Computes, Gives, ◌>>=◌}
 use Rattle.kql_program.specs.Stops.{lex_stop}
 use Rattle.kql_program.proofs.AnswerFacts.{computes, gives-along, goes_on, raised, stops}
@@ -158,29 +155,17 @@ unfolding query_tokens
 tokens-front text = ap lexed_as (lexed-front text)
 
 -- the query file can't be read
-pub query-unread : (told : Option Files) (path : List ℕ) (r : Result Filter Stop) (s : Stop) → IfSome told (λ files. ReadsFront (MAX_BYTES + 1) (file_bytes 0 files path) (Err s)) → IsErrAnd r (λ e. e ≡ s)
-    → IfSome told (λ files. Computes (query_read files path) r)
-unfolding query_read
+pub query-unread : (told : Option Files) (path : List ℕ) (r : Result (List Token) Stop) (s : Stop) → IfSome told (λ files. ReadsFront (MAX_BYTES + 1) (file_bytes 0 files path) (Err s)) → IsErrAnd r (λ e. e ≡ s)
+    → IfSome told (λ files. Computes (file_tokens files path) r)
+unfolding file_tokens
 query-unread None path r s h i = tt
-query-unread (Some files) path r s h i = raised (query_read files path) r s i (stops (file_bytes 0 files path) (λ bytes. query_tokens bytes >>= λ tokens. filter_of tokens) s h)
+query-unread (Some files) path r s h i = raised (file_tokens files path) r s i (stops (file_bytes 0 files path) (λ bytes. query_tokens bytes) s h)
 
--- or has no tokens
-pub query-unlexed : (told : Option Files) (path bytes : List ℕ) (r : Result Filter Stop) (s : Stop) → IfSome told (λ files. ReadsFront (MAX_BYTES + 1) (file_bytes 0 files path) (Ok bytes))
-    → Gives (query_tokens bytes) (Err s) → IsErrAnd r (λ e. e ≡ s) → IfSome told (λ files. Computes (query_read files path) r)
-unfolding query_read
-query-unlexed None path bytes r s h g i = tt
-query-unlexed (Some files) path bytes r s h g i =
+-- the tokens of the query file's bytes
+pub query-lexed : (told : Option Files) (path bytes : List ℕ) (r : Result (List Token) Stop) → IfSome told (λ files. ReadsFront (MAX_BYTES + 1) (file_bytes 0 files path) (Ok bytes))
+    → Gives (query_tokens bytes) r → IfSome told (λ files. Computes (file_tokens files path) r)
+unfolding file_tokens
+query-lexed None path bytes r h g = tt
+query-lexed (Some files) path bytes r h g =
     let same : query_tokens bytes ≡ query_tokens h.0 = ap query_tokens h.2 ∙ tokens-front h.0 in
-    let g' = gives-along (query_tokens bytes) (query_tokens h.0) (Err s) same g in
-    raised (query_read files path) r s i (goes_on (file_bytes 0 files path) (λ bytes. query_tokens bytes >>= λ tokens. filter_of tokens) h.0 (Err s) h.1
-    (stops (query_tokens h.0) (λ tokens. filter_of tokens) s (computes (query_tokens h.0) (Err s) g')))
-
--- the filter of the query file's tokens
-pub query-filter : (told : Option Files) (path bytes : List ℕ) (tokens : List Token) (r : Result Filter Stop) → IfSome told (λ files. ReadsFront (MAX_BYTES + 1) (file_bytes 0 files path) (Ok bytes))
-    → query_tokens bytes ≡ Ok tokens → Gives (filter_of tokens) r → IfSome told (λ files. Computes (query_read files path) r)
-unfolding query_read
-query-filter None path bytes tokens r h e g = tt
-query-filter (Some files) path bytes tokens r h e g =
-    let e' : query_tokens h.0 ≡ Ok tokens = rw (h.2, tokens-front h.0) at e in
-    goes_on (file_bytes 0 files path) (λ bytes. query_tokens bytes >>= λ tokens. filter_of tokens) h.0 r h.1
-    (goes_on (query_tokens h.0) (λ tokens. filter_of tokens) tokens r e' (computes (filter_of tokens) r g))
+    goes_on (file_bytes 0 files path) (λ bytes. query_tokens bytes) h.0 r h.1 (computes (query_tokens h.0) r (gives-along (query_tokens bytes) (query_tokens h.0) r same g))

@@ -6,4 +6,5 @@ pub mod OutcomeFacts
 pub mod RowFacts
 pub mod TableFacts
 pub mod TopFacts
+pub mod VerdictFacts
 pub mod WordFacts

@@ -13,11 +13,12 @@ use Rattle.kql_values.specs.Catalogues.{table_name}
 use Rattle.kql_values.specs.Named.{IsAbsent}
 use Rattle.kql_values.specs.declared.catalogue.Named.{Named}
 use Rattle.kql_program.specs.Command.{name_in, names_table, path_in, table_faults, tables_faults, texts}
-use Rattle.kql_program.specs.Files.{AddsTable, Files, file_bytes, named_as, table_in, tables_after, tables_from, with_first}
-use Rattle.kql_program.specs.Refusals.{Answer, Computes, ◌>>=◌}
+use Rattle.kql_program.specs.Files.{AddsTable, Files, file_bytes, named_as, table_in, tables_from}
+use Rattle.kql_program.specs.Refusals.{Answer, Computes, ◌>>=◌, after, with_first}
 use Rattle.kql_program.specs.declared.refusal.Refusal.{Refusal}
 use Rattle.kql_program.specs.declared.refusal.Stop.{Stop}
 use Rattle.kql_program.specs.declared.refusal.Stop.TheVariants as stop
+use Rattle.kql_program.proofs.AnswerFacts.{after-first}
 use Rattle.kql_program.proofs.CommandFacts.{words-at}
 
 both-empty : {X : Type 0} (a b : List X) → a ++ b ≡ [] → (a ≡ []) × (b ≡ [])
@@ -89,15 +90,11 @@ absent tables name e k d lt same =
     let found = list_any_at (bytes_eq name) (map table_name tables) k [] within ((bytes_eq-Decides name (get_or (map table_name tables) k [])).1 here) in
     cc
 
-after-first : (before : List Named) (t : Named) (rest : Answer (List Named)) → tables_after before (with_first t rest) ≡ tables_after (before ++ t ∷ []) rest
-after-first before t (Ok ts) = ap Ok (sym (append_assoc before (t ∷ []) ts))
-after-first before t (Err r) = refl
-
 -- one more table
 pub tables-next : (files : Files) (i used more : ℕ) (words : List (String Global)) (d : String Global) (word : List ℕ) (before now : List Named) (all : Answer (List Named)) → i < length words
     → word ≡ string_bytes (get_or words i d) → AddsTable files (i + 1) used word before now (Ok more)
-    → tables_after before (tables_from files (i + 1) used (drop i (texts words))) ≡ all
-    → tables_after now (tables_from files (i + 1 + 1) more (drop (i + 1) (texts words))) ≡ all
+    → after before (tables_from files (i + 1) used (drop i (texts words))) ≡ all
+    → after now (tables_from files (i + 1 + 1) more (drop (i + 1) (texts words))) ≡ all
 unfolding tables_from
 tables-next files i used more words d word before now all lt w (bytes, grid, found, loads, m, n) h =
     let at = words-at words i d lt in
@@ -112,7 +109,7 @@ stops-three (Err r) f g q e = cc
 -- the first table that can't be had
 pub tables-stop : (files : Files) (i used : ℕ) (words : List (String Global)) (d : String Global) (word : List ℕ) (before now : List Named) (all : Answer (List Named)) (r : Result (List Named) Stop) (s : Stop) → i < length words
     → word ≡ string_bytes (get_or words i d) → AddsTable files (i + 1) used word before now (Err s)
-    → tables_after before (tables_from files (i + 1) used (drop i (texts words))) ≡ all → IsErrAnd r (λ e. e ≡ s) → Computes all r
+    → after before (tables_from files (i + 1) used (drop i (texts words))) ≡ all → IsErrAnd r (λ e. e ≡ s) → Computes all r
 unfolding tables_from
 tables-stop files i used words d word before now all (Ok x) s lt w a h q = absurd q
 tables-stop files i used words d word before now all (Err e) stop.ReadFault lt w a h q = rw q tt
@@ -122,11 +119,11 @@ tables-stop files i used words d word before now all (Err e) (stop.Refused refus
     let three = stops-three (file_bytes (i + 1) files (path_in word)) (table_in (i + 1) used)
     (λ bytes grid. with_first (named_as (name_in word) grid) (tables_from files (i + 1 + 1) (used + length bytes) (drop (i + 1) (texts words)))) refusal a in
     let none : tables_from files (i + 1) used (drop i (texts words)) ≡ Err refusal = rw (at, ← w) three in
-    rw q (sym h ∙ ap (tables_after before) none)
+    rw q (sym h ∙ ap (after before) none)
 
 -- and the end of the words
 pub tables-end : (files : Files) (i used : ℕ) (words : List (String Global)) (tables : List Named) (all : Answer (List Named)) → length words ≤ i
-    → tables_after tables (tables_from files (i + 1) used (drop i (texts words))) ≡ all → Computes all (Ok tables)
+    → after tables (tables_from files (i + 1) used (drop i (texts words))) ≡ all → Computes all (Ok tables)
 unfolding tables_from
 tables-end files i used words tables all le h =
     let size = length-map words string_bytes in
@@ -136,22 +133,22 @@ tables-end files i used words tables all le h =
 -- the same where the files are told or not
 pub told-next : (now-told told : Option Files) (i used more : ℕ) (words : List (String Global)) (d : String Global) (word : List ℕ) (before now : List Named) → i < length words
     → word ≡ string_bytes (get_or words i d) → now-told ≡ told → IfSome now-told (λ files. AddsTable files (i + 1) used word before now (Ok more))
-    → IfSome told (λ files. tables_after before (tables_from files (i + 1) used (drop i (texts words))) ≡ tables_from files 1 0 (texts words))
-    → IfSome told (λ files. tables_after now (tables_from files (i + 1 + 1) more (drop (i + 1) (texts words))) ≡ tables_from files 1 0 (texts words))
+    → IfSome told (λ files. after before (tables_from files (i + 1) used (drop i (texts words))) ≡ tables_from files 1 0 (texts words))
+    → IfSome told (λ files. after now (tables_from files (i + 1 + 1) more (drop (i + 1) (texts words))) ≡ tables_from files 1 0 (texts words))
 told-next now-told None i used more words d word before now lt w e a h = tt
 told-next now-told (Some files) i used more words d word before now lt w e a h =
     tables-next files i used more words d word before now (tables_from files 1 0 (texts words)) lt w (rw e at a) h
 
 pub told-stop : (now-told told : Option Files) (i used : ℕ) (words : List (String Global)) (d : String Global) (word : List ℕ) (before now : List Named) (r : Result (List Named) Stop) (s : Stop) → i < length words
     → word ≡ string_bytes (get_or words i d) → now-told ≡ told → IfSome now-told (λ files. AddsTable files (i + 1) used word before now (Err s))
-    → IfSome told (λ files. tables_after before (tables_from files (i + 1) used (drop i (texts words))) ≡ tables_from files 1 0 (texts words)) → IsErrAnd r (λ e. e ≡ s)
+    → IfSome told (λ files. after before (tables_from files (i + 1) used (drop i (texts words))) ≡ tables_from files 1 0 (texts words)) → IsErrAnd r (λ e. e ≡ s)
     → IfSome told (λ files. Computes (tables_from files 1 0 (texts words)) r)
 told-stop now-told None i used words d word before now r s lt w e a h q = tt
 told-stop now-told (Some files) i used words d word before now r s lt w e a h q =
     tables-stop files i used words d word before now (tables_from files 1 0 (texts words)) r s lt w (rw e at a) h q
 
 pub told-end : (told : Option Files) (i used : ℕ) (words : List (String Global)) (tables : List Named) → length words ≤ i
-    → IfSome told (λ files. tables_after tables (tables_from files (i + 1) used (drop i (texts words))) ≡ tables_from files 1 0 (texts words))
+    → IfSome told (λ files. after tables (tables_from files (i + 1) used (drop i (texts words))) ≡ tables_from files 1 0 (texts words))
     → IfSome told (λ files. Computes (tables_from files 1 0 (texts words)) (Ok tables))
 told-end None i used words tables le h = tt
 told-end (Some files) i used words tables le h = tables-end files i used words tables (tables_from files 1 0 (texts words)) le h

@@ -11,7 +11,7 @@ use Rattle.kql_values.specs.declared.catalogue.Named.{Named}
 use Rattle.kql_program.specs.Command.{name_in, path_in}
 use Rattle.kql_program.specs.declared.refusal.Refusal.TheVariants.{Data, Query}
 use Rattle.kql_program.specs.declared.refusal.Stop.{Stop}
-use Rattle.kql_program.specs.Refusals.{Answer, Computes, ◌>>=◌}
+use Rattle.kql_program.specs.Refusals.{Answer, Computes, with_first, ◌>>=◌}
 
 -- files by their path: the first of a path counts
 abbrev pub Files : Type 0
@@ -33,6 +33,12 @@ lexed_as (Err fault) = Err (Query fault.code fault.place)
 unfoldable pub query_tokens : List ℕ → Answer (List Token)
 query_tokens bytes = lexed_as (lexed bytes)
 
+-- the tokens of the query file of this path
+unfoldable pub file_tokens : Files → List ℕ → Answer (List Token)
+file_tokens files path = do
+  bytes ← file_bytes 0 files path
+  query_tokens bytes
+
 -- how many bytes the table files may have together
 abbrev pub bytes_top : ℕ
 bytes_top = 67108864
@@ -48,9 +54,6 @@ table_in number used bytes = if nat_le (used + length bytes) bytes_top then load
 abbrev pub named_as : List ℕ → Grid → Named
 named_as name grid = record { name = name; table = grid }
 
-abbrev pub with_first : Named → Answer (List Named) → Answer (List Named)
-with_first table rest = rest >>= λ tables. Ok (table ∷ tables)
-
 -- the table of a file, behind so many bytes of table files
 abbrev pub table_of : Files → ℕ → ℕ → List ℕ → Answer Grid
 table_of files number used path = file_bytes number files path >>= table_in number used
@@ -62,10 +65,6 @@ tables_from files number used (word ∷ words) =
     file_bytes number files (path_in word) >>= λ bytes.
     table_in number used bytes >>= λ grid.
     with_first (named_as (name_in word) grid) (tables_from files (number + 1) (used + length bytes) words)
-
--- these tables, and then the others
-abbrev pub tables_after : List Named → Answer (List Named) → Answer (List Named)
-tables_after tables rest = rest >>= λ more. Ok (tables ++ more)
 
 -- a call gave a front of so many bytes of what the answer is
 abbrev pub ReadsFront : ℕ → Answer (List ℕ) → Result (List ℕ) Stop → Type 0

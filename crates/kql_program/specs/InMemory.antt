@@ -1,9 +1,11 @@
 -- The top call over sinks in memory.
 use Rattle.std.specs.Prelude.{◌≡◌, ◌≤◌, ℕ, List, [], ◌++◌, length, Some, Ok, Err}
 use Rattle.kql_outside.specs.Memory.{SinkState, room_left}
+use Rattle.kql_program.specs.Answer.{Answers}
 use Rattle.kql_program.specs.declared.ended.Ended.{Ended}
 use Rattle.kql_program.specs.declared.ended.Ended.TheVariants.{OutOfMemory}
 use Rattle.kql_program.specs.Endings.{ending_of}
+use Rattle.kql_program.specs.Files.{Files}
 use Rattle.kql_program.specs.Lines.{line_of, memory_line}
 use Rattle.kql_program.specs.Outcomes.{SinkNow, sink_now}
 use Rattle.kql_program.specs.Refusals.{Answer}
@@ -22,17 +24,23 @@ abbrev pub error_text : Answer (List ℕ) → List ℕ
 error_text (Ok text) = []
 error_text (Err r) = line_of r
 
--- there is room for what the answer writes, and for the line of want of memory
+-- there is room for what the answer writes
 pub record HaveRoom (a : Answer (List ℕ)) (out err : SinkState) : Type 0 where
   pub output : length (output_text a) ≤ room_left out
   pub error : length (error_text a) ≤ room_left err
+
+-- there is room for what the answer to the words and files writes, and for the line of want of memory
+pub record HaveRoomFor (words : List (List ℕ)) (files : Files) (out err : SinkState) : Type 0 where
+  pub answer : (a : Answer (List ℕ)) → Answers words files a → HaveRoom a out err
   pub memory : length memory_line ≤ room_left err
 
--- the ending and the bytes of the answer
-pub record Answers (a : Answer (List ℕ)) (out out_new err err_new : SinkState) (e : Ended) : Type 0 where
-  pub ending : e ≡ ending_of a
-  pub output : out_new.bytes ≡ out.bytes ++ output_text a
-  pub error : err_new.bytes ≡ err.bytes ++ error_text a
+-- the ending and the bytes of the answer to the words and files
+pub record Answered (words : List (List ℕ)) (files : Files) (out out_new err err_new : SinkState) (e : Ended) : Type 0 where
+  pub to : Answer (List ℕ)
+  pub is : Answers words files to
+  pub ending : e ≡ ending_of to
+  pub output : out_new.bytes ≡ out.bytes ++ output_text to
+  pub error : err_new.bytes ≡ err.bytes ++ error_text to
 
 -- want of memory: its line, and nothing on the output
 pub record RunsOut (out out_new err err_new : SinkState) (e : Ended) : Type 0 where

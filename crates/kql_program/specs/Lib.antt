@@ -9,3 +9,4 @@ pub mod Lines
 pub mod Outcomes
 pub mod Refusals
 pub mod Stops
+pub mod Syntax

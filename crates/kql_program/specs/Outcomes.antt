@@ -8,7 +8,7 @@ use Rattle.kql_program.specs.declared.refusal.Refusal.{Refusal}
 use Rattle.kql_program.specs.declared.refusal.Refusal.TheVariants as refusal
 use Rattle.kql_program.specs.declared.refusal.Stop.{Stop}
 use Rattle.kql_program.specs.declared.refusal.Stop.TheVariants as stop
-use Rattle.kql_program.specs.Answer.{answer}
+use Rattle.kql_program.specs.Answer.{Answers}
 use Rattle.kql_program.specs.Command.{words_faults}
 use Rattle.kql_program.specs.Endings.{IsQuiet, ending_of, refused_as}
 use Rattle.kql_program.specs.Files.{Files}
@@ -20,11 +20,15 @@ pub record RefusesWords (words : List (List ℕ)) (a : Answer (List ℕ)) : Type
   pub first : (r : Refusal) → unless (words_faults words) (tt {0}) ≡ Err r → a ≡ Err r
   pub no_other : (word code : ℕ) → a ≡ Err (refusal.Usage word code) → unless (words_faults words) (tt {0}) ≡ Err (refusal.Usage word code)
 
+-- what an answer is
+abbrev pub OfAnswers : Type 1
+OfAnswers = Answer (List ℕ) → Type 0
+
 -- this is what the program answers to the words, where the shelf tells its files; where it does not, still a word is
 -- refused exactly where it is the first fault of the words
-abbrev pub IsAnswer : List (List ℕ) → Option Files → Answer (List ℕ) → Type 0
+abbrev pub IsAnswer : List (List ℕ) → Option Files → OfAnswers
 IsAnswer words None a = RefusesWords words a
-IsAnswer words (Some files) a = a ≡ answer words files
+IsAnswer words (Some files) a = Answers words files a
 
 -- no word is refused
 abbrev pub RefusesNoWord : {X : Type 0} → Result X Stop → Type 0
@@ -67,15 +71,15 @@ pub record IsUnfinished (before now : SinkNow) (text : List ℕ) : Type 0 where
   pub full : IfSome before.room (λ left. left < length text)
 
 -- a refusal: its line, and nothing on the output
-pub record IsRefused (a : Answer (List ℕ)) (before now : Outside) (r : Refusal) : Type 0 where
-  pub is : a ≡ Err r
+pub record IsRefused (Is : OfAnswers) (before now : Outside) (r : Refusal) : Type 0 where
+  pub is : Is (Err r)
   pub quiet : IsSame before.out now.out
   pub line : Adds before.err now.err (line_of r)
 
 -- the text of the table, and nothing for errors
-pub record IsTable (a : Answer (List ℕ)) (before now : Outside) : Type 0 where
+pub record IsTable (Is : OfAnswers) (before now : Outside) : Type 0 where
   pub text : List ℕ
-  pub is : a ≡ Ok text
+  pub is : Is (Ok text)
   pub whole : Adds before.out now.out text
   pub quiet : IsSame before.err now.err
 
@@ -91,34 +95,34 @@ pub record IsOutOfMemory (before now : Outside) : Type 0 where
   pub line : Adds before.err now.err memory_line
 
 -- the table's text was left unfinished, and nothing was written for errors
-pub record IsCutText (a : Answer (List ℕ)) (before now : Outside) : Type 0 where
+pub record IsCutText (Is : OfAnswers) (before now : Outside) : Type 0 where
   pub text : List ℕ
-  pub is : a ≡ Ok text
+  pub is : Is (Ok text)
   pub cut : IsUnfinished before.out now.out text
   pub quiet : IsSame before.err now.err
 
 -- a line that may be written for errors: that of the refusal, of want of memory, or, where the shelf's count of faults
 -- rose, of a read fault
-abbrev pub IsErrorLine : Answer (List ℕ) → Outside → Outside → List ℕ → Type 0
-IsErrorLine a before now line =
-    ((r : Refusal) × (a ≡ Err r) × (line ≡ line_of r)) ⊎ (line ≡ memory_line) ⊎ ((line ≡ read_fault_line) × Rose before.shelf_faults now.shelf_faults)
+abbrev pub IsErrorLine : OfAnswers → Outside → Outside → List ℕ → Type 0
+IsErrorLine Is before now line =
+    ((r : Refusal) × Is (Err r) × (line ≡ line_of r)) ⊎ (line ≡ memory_line) ⊎ ((line ≡ read_fault_line) × Rose before.shelf_faults now.shelf_faults)
 
 -- a line for errors was left unfinished, and nothing was written to the output
-pub record IsCutLine (a : Answer (List ℕ)) (before now : Outside) : Type 0 where
+pub record IsCutLine (Is : OfAnswers) (before now : Outside) : Type 0 where
   pub text : List ℕ
-  pub is : IsErrorLine a before now text
+  pub is : IsErrorLine Is before now text
   pub cut : IsUnfinished before.err now.err text
   pub quiet : IsSame before.out now.out
 
 -- what each ending says of the answer and of the outside
-abbrev pub Ends : Answer (List ℕ) → Outside → Outside → Ended → Type 0
-Ends a before now ended.Table = IsTable a before now
-Ends a before now (ended.QueryRefused code place) = IsRefused a before now (refusal.Query code place)
-Ends a before now (ended.Usage word code) = IsRefused a before now (refusal.Usage word code)
-Ends a before now (ended.DataRefused file code row column) = IsRefused a before now (refusal.Data file code row column)
-Ends a before now ended.ReadFault = IsReadFault before now
-Ends a before now ended.OutOfMemory = IsOutOfMemory before now
-Ends a before now ended.WriteFault = IsCutText a before now ⊎ IsCutLine a before now
+abbrev pub Ends : OfAnswers → Outside → Outside → Ended → Type 0
+Ends Is before now ended.Table = IsTable Is before now
+Ends Is before now (ended.QueryRefused code place) = IsRefused Is before now (refusal.Query code place)
+Ends Is before now (ended.Usage word code) = IsRefused Is before now (refusal.Usage word code)
+Ends Is before now (ended.DataRefused file code row column) = IsRefused Is before now (refusal.Data file code row column)
+Ends Is before now ended.ReadFault = IsReadFault before now
+Ends Is before now ended.OutOfMemory = IsOutOfMemory before now
+Ends Is before now ended.WriteFault = IsCutText Is before now ⊎ IsCutLine Is before now
 
 -- a text was written to its end, and the call ends so, or it was left unfinished
 abbrev pub Writes : SinkNow → SinkNow → List ℕ → Ended → Ended → Type 0
@@ -143,15 +147,19 @@ pub record IsFaultless (before now : Outside) : Type 0 where
   pub out : Rose before.out.faults now.out.faults → ⊥
   pub err : Rose before.err.faults now.err.faults → ⊥
 
+-- the ending is that of the answer
+pub record EndsAsAnswered (words : List (List ℕ)) (files : Files) (e : Ended) : Type 0 where
+  pub to : Answer (List ℕ)
+  pub is : Answers words files to
+  pub ending : e ≡ ending_of to
+
 -- The outcome of a call: what its ending says of the answer and of what was written, and what follows from it.
 pub record HasOutcome (words : List (List ℕ)) (files : Option Files) (before now : Outside) (e : Ended) : Type 0 where
-  pub to : Answer (List ℕ)
-  pub is : IsAnswer words files to
-  pub ends : Ends to before now e
+  pub ends : Ends (IsAnswer words files) before now e
   -- a read or write fault is answered only where the count of an object that was handed in rose in this call
   pub read : e ≡ ended.ReadFault → Rose before.shelf_faults now.shelf_faults
   pub write : e ≡ ended.WriteFault → Rose before.out.faults now.out.faults ⊎ Rose before.err.faults now.err.faults
   -- after a refusal, a read fault or want of memory nothing was written to the output
   pub quiet : IsQuiet e → IsSame before.out now.out
   -- where no count rose the ending is that of the answer, or want of memory
-  pub complete : IsFaultless before now → IfSome files (λ told. (e ≡ ending_of (answer words told)) ⊎ (e ≡ ended.OutOfMemory))
+  pub complete : IsFaultless before now → IfSome files (λ told. EndsAsAnswered words told e ⊎ (e ≡ ended.OutOfMemory))

@@ -3,6 +3,8 @@ use Rattle.kql_outside.specs.declared.transfers.ReadError.{ReadError}
 use Rattle.kql_outside.specs.declared.transfers.ReadError.TheVariants as read
 use Rattle.kql_lexer.specs.declared.lexer.LexFault.{LexFault}
 use Rattle.kql_lexer.specs.declared.lexer.LexFault.TheVariants as lex
+use Rattle.kql_syntax.specs.declared.parse.SyntaxFault.{SyntaxFault}
+use Rattle.kql_syntax.specs.declared.parse.SyntaxFault.TheVariants as syntax
 use Rattle.kql_program.specs.declared.refusal.Refusal.TheVariants as refusal
 use Rattle.kql_program.specs.declared.refusal.Stop.{Stop}
 use Rattle.kql_program.specs.declared.refusal.Stop.TheVariants as stop
@@ -14,3 +16,7 @@ read_stop read.OutOfMemory = stop.OutOfMemory
 abbrev pub lex_stop : LexFault → Stop
 lex_stop (lex.Refused code place) = stop.Refused (refusal.Query code place)
 lex_stop lex.OutOfMemory = stop.OutOfMemory
+
+abbrev pub syntax_stop : SyntaxFault → Stop
+syntax_stop (syntax.Refused code place) = stop.Refused (refusal.Query code place)
+syntax_stop syntax.OutOfMemory = stop.OutOfMemory

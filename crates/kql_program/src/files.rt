@@ -3,15 +3,13 @@ ghost use Rattle.kql_outside.specs.Causes.{Rose};
 ghost use Rattle.kql_values.specs.Named.{IsAbsent};
 ghost use Rattle.kql_values.specs.Catalogues.{table_name};
 ghost use Rattle.kql_program.specs.Command.{name_in, names_table, tables_faults, texts};
-ghost use Rattle.kql_program.specs.Answer.{query_read};
-ghost use Rattle.kql_program.specs.Files.{AddsTable, ReadsFront, ReadsTable, bytes_top, file_bytes, loaded_as, query_tokens, tables_from};
+ghost use Rattle.kql_program.specs.Files.{AddsTable, ReadsFront, ReadsTable, bytes_top, file_bytes, file_tokens, loaded_as, query_tokens, tables_from};
 ghost use Rattle.kql_program.specs.Outcomes.{RefusesNoWord};
 ghost use Rattle.kql_program.specs.Refusals.{Computes, Gives};
 ghost use Rattle.csv_io.specs.Load.{loaded};
 ghost use Rattle.kql_program.specs.declared.refusal.Stop.TheVariants as stop;
 
 use crate::command::table_parts;
-use crate::query::{Filter, read_filter};
 use crate::refusal::{Refusal, Stop};
 use csv_io::{DataFault, load};
 use kql_items::Items;
@@ -50,17 +48,16 @@ fn read_file<F: Shelf>(
     }
 }
 
-/// The filter that the query file of this path holds.
-pub(crate) fn read_query<F: Shelf>(alloc: Global, shelf: &mut F, path: &str) -> Result<Filter, Stop>
+/// The tokens of the query file of this path.
+pub(crate) fn read_query<F: Shelf>(alloc: Global, shelf: &mut F, path: &str) -> Result<Tokens, Stop>
     ensures files { F.files shelf.new ≡ F.files shelf.old }
     ensures later { F.faults shelf.old ≤ F.faults shelf.new }
     ensures failed { result ≡ Err stop.ReadFault → Rose (F.faults shelf.old) (F.faults shelf.new) }
-    ensures query { IfSome (F.files shelf.old) (λ files. Computes (query_read files path.now) result) }
+    ensures tokens { IfSome (F.files shelf.old) (λ files. Computes (file_tokens files path.now) result) }
     ensures words { RefusesNoWord result }
 {
     let bytes = read_file(alloc, shelf, path, 0, MAX_BYTES + 1)?;
-    let tokens = read_tokens(alloc, bytes.as_slice())?;
-    read_filter(alloc, tokens.as_slice())
+    read_tokens(alloc, bytes.as_slice())
 }
 
 fn read_tokens(alloc: Global, text: &[u8]) -> Result<Tokens, Stop>

@@ -9,12 +9,10 @@ mod memory;
 mod query;
 mod refusal;
 mod rows;
+mod syntax;
 mod top;
 
 pub use ended::{Ended, status};
 pub use memory::kql_in_memory;
 pub use refusal::Refusal;
 pub use top::kql;
-
-#[cfg(test)]
-mod tests;

@@ -1,7 +1,7 @@
 ghost use Rattle.std.specs.Prelude.{◌≡◌, ◌⊎◌, Some};
-ghost use Rattle.kql_program.specs.Answer.{answer};
+ghost use Rattle.kql_program.specs.Answer.{HasOneAnswer};
 ghost use Rattle.kql_program.specs.Command.{texts};
-ghost use Rattle.kql_program.specs.InMemory.{Answers, HaveRoom, RunsOut, in_memory};
+ghost use Rattle.kql_program.specs.InMemory.{Answered, HaveRoomFor, RunsOut, in_memory};
 ghost use Rattle.kql_program.specs.Outcomes.{HasOutcome, outside};
 
 use crate::ended::Ended;
@@ -11,7 +11,7 @@ use std::alloc::Global;
 use std::thread::Threads;
 
 /// The top call over files and sinks in memory. Where the sinks have room for the texts, its ending and its bytes are
-/// those of the answer, or of want of memory.
+/// those of the answer, of which there is one, or of want of memory.
 pub fn kql_in_memory<R: Threads + Sync, G: Gate + Sync>(
     rt: &R,
     alloc: Global,
@@ -28,8 +28,10 @@ pub fn kql_in_memory<R: Threads + Sync, G: Gate + Sync>(
         (outside 0 (in_memory out.old) (in_memory err.old))
         (outside 0 (in_memory out.new) (in_memory err.new)) result }
 
-    ensures answers { HaveRoom (answer (texts words.now) shelf.old.files) out.old err.old →
-        Answers (answer (texts words.now) shelf.old.files) out.old out.new err.old err.new result ⊎ RunsOut out.old out.new err.old err.new result }
+    ensures answers { HaveRoomFor (texts words.now) shelf.old.files out.old err.old →
+        Answered (texts words.now) shelf.old.files out.old out.new err.old err.new result ⊎ RunsOut out.old out.new err.old err.new result }
+
+    ensures one { HasOneAnswer (texts words.now) shelf.old.files }
 {
     kql(rt, alloc, words, shelf, out, err, gate)
 }

@@ -1,68 +1,78 @@
-ghost use Rattle.std.specs.Prelude.{◌≡◌, IfOk};
-ghost use Rattle.kql_program.specs.Form.{filter_in, filter_of, is_part, is_where, number_at, number_value, place_at, strays, text_at, word_text};
+ghost use Rattle.std.specs.Prelude.{◌≡◌, ◌≤◌, IfOk};
+ghost use Rattle.kql_program.specs.Form.{behind, filter_in, filters_in, is_bar, is_open, label_at, label_end, number_at, number_in, opens_at, place_at, request_in, request_of, strays, text_at, text_in, unless_reserved};
 ghost use Rattle.kql_program.specs.Refusals.{Gives, unless};
+ghost use Rattle.kql_program.specs.declared.query.Slot.TheVariants as slot;
 ghost use Rattle.kql_program.specs.declared.refusal.Refusal.TheVariants as refusal;
 
 use crate::refusal::{Refusal, Stop};
+use kql_items::Items;
 use kql_lexer::{Keyword, Place, Token, TokenForm};
 use kql_values::KText;
 use std::alloc::{AllocError, Global};
 
-/// A part of the form of a query.
+/// What has to stand next in a query of the form.
 #[derive(Clone, Copy, Debug, PartialEq, Eq)]
-pub(crate) enum Part {
-    Name,
-    Bar,
+pub(crate) enum Slot {
+    /// The table's name, or the bracket before it.
+    Table,
+    /// The table's name in brackets, and the bracket behind it.
+    TableText,
+    TableClose,
+    /// A bar, or the end mark.
+    Operator,
     Where,
-    Equal,
+    /// The column's name, or the bracket before it.
+    Column,
+    /// The column's name in brackets, and the bracket behind it.
+    ColumnText,
+    ColumnClose,
+    Sign,
     Number,
-    End,
+    Nothing,
 }
 
-/// The rows of a table whose cell in a column is a number, with the places of what names them.
+/// A name, at the place of its first token.
+#[derive(Debug, Drop)]
+pub(crate) struct Label {
+    pub text: KText,
+    pub place: Place,
+}
+
+/// The rows whose cell in a column is a number.
 #[derive(Debug, Drop)]
 pub(crate) struct Filter {
-    pub table: KText,
-    pub table_place: Place,
-    pub column: KText,
-    pub column_place: Place,
+    pub column: Label,
     pub sign_place: Place,
     pub number: i64,
 }
 
-/// The parts of the form, in order.
-const FORM: [Part; 7] = [
-    Part::Name,
-    Part::Bar,
-    Part::Where,
-    Part::Name,
-    Part::Equal,
-    Part::Number,
-    Part::End,
-];
-
-/// The filter that the tokens are, or 204 at the first token that leaves the form.
-pub(crate) fn read_filter(alloc: Global, tokens: &[Token]) -> Result<Filter, Stop>
-    ensures filter { Gives (filter_of tokens.now) result }
-{
-    check_form(&FORM, tokens)?;
-    Ok(filter_in(alloc, tokens)?)
+/// The rows of a table that pass all filters.
+#[derive(Debug, Drop)]
+pub(crate) struct Request {
+    pub table: Label,
+    pub filters: Items<Filter>,
 }
 
-// Refuses the first token that is not the part that has to stand there.
-fn check_form(parts: &[Part], tokens: &[Token]) -> Result<(), Refusal>
-    ensures { result ≡ unless (strays parts.now tokens.now) tt }
+/// What the tokens ask for, or 204 at the first token that leaves the form.
+pub(crate) fn read_request(alloc: Global, tokens: &[Token]) -> Result<Request, Stop>
+    ensures request { Gives (request_of tokens.now) result }
 {
-    let mut parts_left = parts;
+    check_form(tokens)?;
+    Ok(request_in(alloc, tokens)?)
+}
+
+// Refuses the first token that leaves the form.
+#[tactic(auto, unfolding(crate::specs::Form::strays))]
+fn check_form(tokens: &[Token]) -> Result<(), Refusal>
+    ensures { result ≡ unless (strays slot.Table tokens.now) tt }
+{
+    let mut slot = Slot::Table;
     let mut left = tokens;
-    'parts: while let Some((part, more_parts)) = parts_left.split_first() {
-        let Some((token, more)) = left.split_first() else {
-            return Ok(());
-        };
-        if !is_part(*part, &token.form) {
+    'tokens: while let Some((token, more)) = left.split_first() {
+        let Some(next) = behind(slot, &token.form) else {
             return Err(not_built(token));
-        }
-        parts_left = more_parts;
+        };
+        slot = next;
         left = more;
     }
     Ok(())
@@ -77,60 +87,149 @@ fn not_built(token: &Token) -> Refusal
     }
 }
 
-fn is_part(part: Part, form: &TokenForm) -> bool
-    ensures { result ≡ is_part part form.now }
+// What has to stand behind a token that stands here; none where it leaves the form.
+#[tactic(auto, unfolding(crate::specs::Form::behind))]
+fn behind(slot: Slot, form: &TokenForm) -> Option<Slot>
+    ensures { result ≡ behind slot form.now }
 {
-    match (part, form) {
-        (Part::Name, TokenForm::Word(keyword, _)) => !keyword.is_reserved(),
-        (Part::Bar, TokenForm::Bar) => true,
-        (Part::Where, TokenForm::Word(keyword, _)) => is_where(*keyword),
-        (Part::Equal, TokenForm::Equal) => true,
-        (Part::Number, TokenForm::Number(_)) => true,
-        (Part::End, TokenForm::End) => true,
-        _ => false,
+    match (slot, form) {
+        (Slot::Table, TokenForm::Word(keyword, _)) => unless_reserved(*keyword, Slot::Operator),
+        (Slot::Table, TokenForm::OpenSquare) => Some(Slot::TableText),
+        (Slot::TableText, TokenForm::Text(_)) => Some(Slot::TableClose),
+        (Slot::TableClose, TokenForm::CloseSquare) => Some(Slot::Operator),
+        (Slot::Operator, TokenForm::Bar) => Some(Slot::Where),
+        (Slot::Operator, TokenForm::End) => Some(Slot::Nothing),
+        (Slot::Where, TokenForm::Word(Keyword::Where, _)) => Some(Slot::Column),
+        (Slot::Column, TokenForm::Word(keyword, _)) => unless_reserved(*keyword, Slot::Sign),
+        (Slot::Column, TokenForm::OpenSquare) => Some(Slot::ColumnText),
+        (Slot::ColumnText, TokenForm::Text(_)) => Some(Slot::ColumnClose),
+        (Slot::ColumnClose, TokenForm::CloseSquare) => Some(Slot::Sign),
+        (Slot::Sign, TokenForm::Equal) => Some(Slot::Number),
+        (Slot::Number, TokenForm::Number(_)) => Some(Slot::Operator),
+        _ => None,
     }
 }
 
-fn is_where(keyword: Keyword) -> bool
-    ensures { result ≡ is_where keyword }
+// What stands behind a word as a name.
+fn unless_reserved(keyword: Keyword, next: Slot) -> Option<Slot>
+    ensures { result ≡ unless_reserved keyword next }
 {
-    match keyword {
-        Keyword::Where => true,
-        _ => false,
+    if keyword.is_reserved() {
+        None
+    } else {
+        Some(next)
     }
 }
 
-// What the tokens of the form filter by.
+// What the tokens of the form ask for.
+fn request_in(alloc: Global, tokens: &[Token]) -> Result<Request, AllocError>
+    ensures { IfOk result (λ request. request ≡ request_in tokens.now) }
+{
+    let table = label_at(alloc, tokens, 0)?;
+    let filters = filters_in(alloc, tokens)?;
+    Ok(Request { table, filters })
+}
+
+// The filters, one behind each bar.
+#[tactic(auto, unfolding(crate::specs::Form::filters_in))]
+fn filters_in(alloc: Global, tokens: &[Token]) -> Result<Items<Filter>, AllocError>
+    ensures { IfOk result (λ filters. filters ≡ filters_in tokens.now) }
+{
+    let mut filters = Items::new(alloc);
+    let mut left = tokens;
+    'tokens: while let Some((token, more)) = left.split_first() {
+        if is_bar(&token.form) {
+            filters.push(filter_in(alloc, more)?)?;
+        }
+        left = more;
+    }
+    Ok(filters)
+}
+
+// The filter of `where Name == Number`.
+#[tactic(auto, unfolding(crate::specs::Form::filter_in))]
 fn filter_in(alloc: Global, tokens: &[Token]) -> Result<Filter, AllocError>
     ensures { IfOk result (λ filter. filter ≡ filter_in tokens.now) }
 {
-    let table = KText::from_str(alloc, text_at(tokens, 0))?;
-    let column = KText::from_str(alloc, text_at(tokens, 3))?;
+    let column = label_at(alloc, tokens, 1)?;
+    let sign = label_end(tokens, 1);
     Ok(Filter {
-        table,
-        table_place: place_at(tokens, 0),
         column,
-        column_place: place_at(tokens, 3),
-        sign_place: place_at(tokens, 4),
-        number: number_at(tokens, 5),
+        sign_place: place_at(tokens, sign),
+        number: number_at(tokens, sign + 1),
     })
 }
 
-// The text of the word of a number, from 0.
+// The name that stands here, at the place of its first token.
+#[tactic(auto, unfolding(crate::specs::Form::label_at))]
+fn label_at(alloc: Global, tokens: &[Token], i: usize) -> Result<Label, AllocError>
+    requires { i ≤ 1 }
+    ensures { IfOk result (λ label. label ≡ label_at tokens.now i) }
+{
+    let text = if opens_at(tokens, i) {
+        text_at(tokens, i + 1)
+    } else {
+        text_at(tokens, i)
+    };
+    let text = KText::from_str(alloc, text)?;
+    let place = place_at(tokens, i);
+    Ok(Label { text, place })
+}
+
+// The number of the token behind the name that stands here.
+#[tactic(auto, unfolding(crate::specs::Form::label_end))]
+fn label_end(tokens: &[Token], i: usize) -> usize
+    requires { i ≤ 1 }
+    ensures end { result ≡ label_end tokens.now i }
+    ensures few { result ≤ 4 }
+{
+    if opens_at(tokens, i) { i + 3 } else { i + 1 }
+}
+
+fn is_bar(form: &TokenForm) -> bool
+    ensures { result ≡ is_bar form.now }
+{
+    match form {
+        TokenForm::Bar => true,
+        _ => false,
+    }
+}
+
+fn is_open(form: &TokenForm) -> bool
+    ensures { result ≡ is_open form.now }
+{
+    match form {
+        TokenForm::OpenSquare => true,
+        _ => false,
+    }
+}
+
+// Whether the token of a number, from 0, is a `[`.
+fn opens_at(tokens: &[Token], i: usize) -> bool
+    ensures { result ≡ opens_at tokens.now i }
+{
+    match tokens.get(i) {
+        Some(token) => is_open(&token.form),
+        None => false,
+    }
+}
+
+// The text of the token of a number, from 0.
 fn text_at(tokens: &[Token], i: usize) -> &str
     ensures { result.now ≡ text_at tokens.now i }
 {
     match tokens.get(i) {
-        Some(token) => word_text(token),
+        Some(token) => text_in(token),
         None => "",
     }
 }
 
-fn word_text(token: &Token) -> &str
-    ensures { result.now ≡ word_text token.now.form }
+fn text_in(token: &Token) -> &str
+    ensures { result.now ≡ text_in token.now.form }
 {
     match &token.form {
         TokenForm::Word(_, text) => text.as_str(),
+        TokenForm::Text(text) => text.as_str(),
         _ => "",
     }
 }
@@ -152,13 +251,13 @@ fn number_at(tokens: &[Token], i: usize) -> i64
     ensures { result ≡ number_at tokens.now i }
 {
     match tokens.get(i) {
-        Some(token) => number_value(token),
+        Some(token) => number_in(token),
         None => 0,
     }
 }
 
-fn number_value(token: &Token) -> i64
-    ensures { result ≡ number_value token.now.form }
+fn number_in(token: &Token) -> i64
+    ensures { result ≡ number_in token.now.form }
 {
     match token.form {
         TokenForm::Number(number) => number,

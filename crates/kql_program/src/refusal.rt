@@ -1,5 +1,6 @@
 use kql_lexer::{LexFault, Place};
 use kql_outside::{Failed, ReadError};
+use kql_syntax::SyntaxFault;
 use std::alloc::AllocError;
 
 /// Why there is no table: a numbered refusal, with its place.
@@ -92,6 +93,20 @@ impl From<LexFault> for Stop {
         match fault {
             LexFault::Refused { code, place } => Stop::Refused(Refusal::Query { code, place }),
             LexFault::OutOfMemory => Stop::OutOfMemory,
+        }
+    }
+}
+
+impl From<SyntaxFault> for Stop {
+    ghost use Rattle.std.specs.Prelude.{◌≡◌};
+    ghost use Rattle.kql_program.specs.Stops.{syntax_stop};
+
+    ghost from_gives = { λ fault e. e ≡ syntax_stop fault };
+
+    fn from(fault: SyntaxFault) -> Stop {
+        match fault {
+            SyntaxFault::Refused { code, place } => Stop::Refused(Refusal::Query { code, place }),
+            SyntaxFault::OutOfMemory => Stop::OutOfMemory,
         }
     }
 }

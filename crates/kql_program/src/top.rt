@@ -1,17 +1,19 @@
 ghost use Rattle.std.specs.Prelude.{◌≡◌, ◌≤◌, Err, IfSome};
 ghost use Rattle.kql_outside.specs.Causes.{Rose};
-ghost use Rattle.kql_program.specs.Answer.{answer, query_rows};
+ghost use Rattle.kql_program.specs.Answer.{Answers, AreRows, HasOneAnswer};
 ghost use Rattle.kql_program.specs.Command.{texts};
 ghost use Rattle.kql_program.specs.Outcomes.{HasOutcome, MeetsFaults, Writes, WritesStop, outside, sink_now};
-ghost use Rattle.kql_program.specs.Refusals.{Computes};
+ghost use Rattle.kql_program.specs.Refusals.{Reaches};
 ghost use Rattle.kql_program.specs.declared.refusal.Stop.TheVariants as stop;
 
 use crate::command::check_words;
 use crate::ended::{Ended, ending_of};
 use crate::files::{read_query, read_tables};
 use crate::lines::line_of;
+use crate::query::read_request;
 use crate::refusal::{Refusal, Stop};
-use crate::rows::filter_rows;
+use crate::rows::request_rows;
+use crate::syntax::check_syntax;
 use csv_io::table_text;
 use kql_outside::{Gate, Shelf, Sink, write_all};
 use kql_values::{Bytes, Table};
@@ -27,13 +29,15 @@ fn query_rows<F: Shelf>(alloc: Global, words: &[String], shelf: &mut F) -> Resul
     ensures files { F.files shelf.new ≡ F.files shelf.old }
     ensures later { F.faults shelf.old ≤ F.faults shelf.new }
     ensures failed { result ≡ Err stop.ReadFault → Rose (F.faults shelf.old) (F.faults shelf.new) }
-    ensures rows { IfSome (F.files shelf.old) (λ files. Computes (query_rows (texts words.now) files) result) }
+    ensures rows { IfSome (F.files shelf.old) (λ files. Reaches (AreRows (texts words.now) files) result) }
     ensures usage { MeetsFaults (texts words.now) result }
 {
     check_words(words)?;
-    let filter = read_query(alloc, shelf, words[1].as_str())?;
+    let tokens = read_query(alloc, shelf, words[1].as_str())?;
+    check_syntax(alloc, &tokens)?;
+    let request = read_request(alloc, tokens.as_slice())?;
     let catalogue = read_tables(alloc, shelf, &words[2..])?;
-    filter_rows(alloc, &filter, &catalogue)
+    request_rows(alloc, &request, &catalogue)
 }
 
 // The text of the table that the words ask for.
@@ -41,7 +45,7 @@ fn query_text<F: Shelf>(alloc: Global, words: &[String], shelf: &mut F) -> Resul
     ensures files { F.files shelf.new ≡ F.files shelf.old }
     ensures later { F.faults shelf.old ≤ F.faults shelf.new }
     ensures failed { result ≡ Err stop.ReadFault → Rose (F.faults shelf.old) (F.faults shelf.new) }
-    ensures text { IfSome (F.files shelf.old) (λ files. Computes (answer (texts words.now) files) result) }
+    ensures text { IfSome (F.files shelf.old) (λ files. Reaches (Answers (texts words.now) files) result) }
     ensures usage { MeetsFaults (texts words.now) result }
 {
     let rows = query_rows(alloc, words, shelf)?;
@@ -68,6 +72,9 @@ pub fn kql<R: Threads + Sync, F: Shelf, O: Sink, E: Sink, G: Gate + Sync>(
     ensures outcome { HasOutcome (texts words.now) (F.files shelf.old)
         (outside (F.faults shelf.old) (sink_now (O.written out.old) (O.room out.old) (O.faults out.old)) (sink_now (E.written err.old) (E.room err.old) (E.faults err.old)))
         (outside (F.faults shelf.new) (sink_now (O.written out.new) (O.room out.new) (O.faults out.new)) (sink_now (E.written err.new) (E.room err.new) (E.faults err.new))) result }
+
+    // Where the files are told there is one answer.
+    ensures one { IfSome (F.files shelf.old) (λ files. HasOneAnswer (texts words.now) files) }
 {
     match query_text(alloc, words, shelf) {
         Ok(text) => write_ending(out, text.as_slice(), Ended::Table),

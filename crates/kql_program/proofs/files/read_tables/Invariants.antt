@@ -2,7 +2,8 @@ use Rattle.std.proofs.Common.{◌≡◌, ◌≤◌, ◌+◌, drop, map, take}
 use Rattle.std.specs.Prelude.{IfSome}
 use Rattle.kql_values.specs.Catalogues.{table_name}
 use Rattle.kql_program.specs.Command.{name_in, texts}
-use Rattle.kql_program.specs.Files.{bytes_top, tables_after, tables_from}
+use Rattle.kql_program.specs.Files.{bytes_top, tables_from}
+use Rattle.kql_program.specs.Refusals.{after}
 use Rattle.kql_program.proofs.files.read_tables.Given as goal
 
 abbrev pub invariant-loop-i : goal.invariant-loop-i
@@ -11,5 +12,5 @@ invariant-loop-i g l = record {
   names : map table_name l.catalogue ≡ map name_in (texts (take l.i l.words));
   files : g.F.Shelf.files l.shelf ≡ g.F.Shelf.files l.initial.shelf;
   later : g.F.Shelf.faults l.initial.shelf ≤ g.F.Shelf.faults l.shelf;
-  left : IfSome (g.F.Shelf.files l.initial.shelf) (λ files. tables_after l.catalogue (tables_from files (l.i + 1) l.used (drop l.i (texts l.words))) ≡ tables_from files 1 0 (texts l.words));
+  left : IfSome (g.F.Shelf.files l.initial.shelf) (λ files. after l.catalogue (tables_from files (l.i + 1) l.used (drop l.i (texts l.words))) ≡ tables_from files 1 0 (texts l.words));
 }

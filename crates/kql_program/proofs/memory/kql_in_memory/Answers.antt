@@ -1,5 +1,5 @@
-use Rattle.kql_program.proofs.MemoryFacts.{clean-outcome, files-of}
+use Rattle.kql_program.proofs.MemoryFacts.{clean-ends, files-of}
 use Rattle.kql_program.proofs.memory.kql_in_memory.Goals as goal
 
 pub returns : goal.returns
-returns g c = record { files = files-of _ _ c.kql.ensures.files; outcome = c.kql.ensures.outcome; answers = λ room. clean-outcome _ _ _ _ _ _ _ c.kql.ensures.outcome room }
+returns g c = record { files = files-of _ _ c.kql.ensures.files; outcome = c.kql.ensures.outcome; answers = λ room. clean-ends _ _ _ _ _ _ _ c.kql.ensures.outcome.ends room; one = c.kql.ensures.one }

@@ -1,0 +1,5 @@
+pub mod Limits
+pub mod Named
+pub mod Operators
+pub mod Parsing
+pub mod Query
