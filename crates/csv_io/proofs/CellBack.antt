@@ -17,13 +17,13 @@ use Rattle.kql_dynamic.specs.Parts.{value_of}
 use Rattle.kql_dynamic.specs.Printed.{printed}
 use Rattle.kql_ticks.specs.Forms.{date_in, moment_in, span_in}
 use Rattle.kql_ticks.specs.Texts.{moment_text, span_text}
-use Rattle.kql_values.specs.Dynamic.{is_null}
-use Rattle.kql_values.specs.Values.{IsOfKind}
-use Rattle.kql_values.specs.declared.dynamic.Dyn.{Dyn}
-use Rattle.kql_values.specs.declared.value.Kind.{Kind}
-use Rattle.kql_values.specs.declared.value.Kind.TheVariants as kind
-use Rattle.kql_values.specs.declared.value.Value.{Value}
-use Rattle.kql_values.specs.declared.value.Value.TheVariants as value
+use Rattle.kql_cells.specs.Dynamic.{is_null}
+use Rattle.kql_cells.specs.Values.{IsOfKind}
+use Rattle.kql_cells.specs.declared.dynamic.Dyn.{Dyn}
+use Rattle.kql_cells.specs.declared.value.Kind.{Kind}
+use Rattle.kql_cells.specs.declared.value.Kind.TheVariants as kind
+use Rattle.kql_cells.specs.declared.value.Value.{Value}
+use Rattle.kql_cells.specs.declared.value.Value.TheVariants as value
 
 -- what holds anyway
 pub always : {T E : Type 0} (r : Result T E) (P : Type 0) → P → OnOk r P

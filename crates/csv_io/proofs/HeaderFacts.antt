@@ -11,8 +11,8 @@ use Rattle.csv_io.specs.Faults.{Fault, IsFirstOf}
 use Rattle.csv_io.specs.Header.{column_faults, column_of, header_faults, is_bad_column, name_of}
 use Rattle.csv_io.specs.declared.fault.DataFault.{DataFault}
 use Rattle.csv_io.proofs.LoadFacts.{first-append}
-use Rattle.kql_values.specs.Named.{IsAbsent, column_name, place_of}
-use Rattle.kql_values.specs.declared.schema.Column.{Column}
+use Rattle.kql_cells.specs.Named.{IsAbsent, column_name, place_of}
+use Rattle.kql_cells.specs.declared.schema.Column.{Column}
 
 negated : (b : Bool) → not b ≡ true → b ≡ false
 negated false e = refl

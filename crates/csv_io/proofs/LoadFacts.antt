@@ -11,9 +11,9 @@ use Rattle.csv_io.specs.Header.{column_of, header_faults}
 use Rattle.csv_io.specs.Load.{cell_faults, cells_faults, cells_of, faults_of, file_records, grid_of, loaded, row_faults, rows_faults}
 use Rattle.csv_io.specs.declared.fault.DataFault.{DataFault}
 use Rattle.csv_io.specs.declared.fault.DataFault.TheVariants as fault
-use Rattle.kql_values.specs.Table.{CellFits, RowFits}
-use Rattle.kql_values.specs.declared.schema.Column.{Column}
-use Rattle.kql_values.specs.declared.value.Value.{Value}
+use Rattle.kql_cells.specs.Table.{CellFits, RowFits}
+use Rattle.kql_cells.specs.declared.schema.Column.{Column}
+use Rattle.kql_cells.specs.declared.value.Value.{Value}
 
 inside : (f g : Fault) → Some f ≡ Some g → f ≡ g
 inside f g e = cc e

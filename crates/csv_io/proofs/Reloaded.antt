@@ -16,13 +16,13 @@ use Rattle.csv_io.specs.TextRecords.{AllRecordsText}
 use Rattle.csv_io.proofs.LoadFacts.{loaded-text, row-even}
 use Rattle.csv_io.proofs.TypedHeader.{columns-back, typed-faults}
 use Rattle.csv_io.proofs.WrittenText.{AllFilled, no-mark, one-byte, rows-long, rows-read, rows-utf8}
-use Rattle.kql_values.specs.Named.{HasDistinctNames, column_name}
-use Rattle.kql_values.specs.Table.{Grid, RowFits}
-use Rattle.kql_values.specs.Values.{IsOfKind, IsWellFormed}
-use Rattle.kql_values.specs.declared.schema.Column.{Column}
-use Rattle.kql_values.specs.declared.value.Kind.{Kind}
-use Rattle.kql_values.specs.declared.value.Kind.TheVariants as kind
-use Rattle.kql_values.specs.declared.value.Value.{Value}
+use Rattle.kql_cells.specs.Named.{HasDistinctNames, column_name}
+use Rattle.kql_cells.specs.Table.{Grid, RowFits}
+use Rattle.kql_cells.specs.Values.{IsOfKind, IsWellFormed}
+use Rattle.kql_cells.specs.declared.schema.Column.{Column}
+use Rattle.kql_cells.specs.declared.value.Kind.{Kind}
+use Rattle.kql_cells.specs.declared.value.Kind.TheVariants as kind
+use Rattle.kql_cells.specs.declared.value.Value.{Value}
 
 -- ---- rows
 

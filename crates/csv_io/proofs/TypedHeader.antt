@@ -15,10 +15,10 @@ use Rattle.csv_io.specs.Header.{column_faults, column_of, header_faults, is_colo
 use Rattle.csv_io.specs.Reload.{typed_name, word_of}
 use Rattle.csv_io.specs.declared.header.TypeWord.TheVariants as word
 use Rattle.csv_io.proofs.FieldFacts.{at-last}
-use Rattle.kql_values.specs.Named.{HasDistinctNames, IsAbsent, column_name, place_of}
-use Rattle.kql_values.specs.declared.schema.Column.{Column}
-use Rattle.kql_values.specs.declared.value.Kind.{Kind}
-use Rattle.kql_values.specs.declared.value.Kind.TheVariants as kind
+use Rattle.kql_cells.specs.Named.{HasDistinctNames, IsAbsent, column_name, place_of}
+use Rattle.kql_cells.specs.declared.schema.Column.{Column}
+use Rattle.kql_cells.specs.declared.value.Kind.{Kind}
+use Rattle.kql_cells.specs.declared.value.Kind.TheVariants as kind
 
 -- a word for a type has no colon
 no-colon : (k : Kind) → list_any is_colon (word_of k) ≡ false

@@ -5,10 +5,10 @@ use Rattle.std.specs.Str.{bytes_eq}
 use Rattle.csv_io.specs.Faults.{Fault, bad_column, column_twice, fault_at}
 use Rattle.csv_io.specs.declared.header.TypeWord.{TypeWord}
 use Rattle.csv_io.specs.declared.header.TypeWord.TheVariants as word
-use Rattle.kql_values.specs.Named.{column_name, place_of}
-use Rattle.kql_values.specs.declared.schema.Column.{Column}
-use Rattle.kql_values.specs.declared.value.Kind.{Kind}
-use Rattle.kql_values.specs.declared.value.Kind.TheVariants as kind
+use Rattle.kql_cells.specs.Named.{column_name, place_of}
+use Rattle.kql_cells.specs.declared.schema.Column.{Column}
+use Rattle.kql_cells.specs.declared.value.Kind.{Kind}
+use Rattle.kql_cells.specs.declared.value.Kind.TheVariants as kind
 
 abbrev pub is_colon : ℕ → Bool
 is_colon b = b == 58

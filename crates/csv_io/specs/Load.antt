@@ -6,11 +6,11 @@ use Rattle.csv.specs.Reading.{default_config, records, strip_bom}
 use Rattle.csv_io.specs.Cells.{read_cell}
 use Rattle.csv_io.specs.Faults.{Fault, bad_cell, bad_length, fault_at, no_header, not_utf8, unless}
 use Rattle.csv_io.specs.Header.{column_of, header_faults}
-use Rattle.kql_values.specs.Table.{Grid}
-use Rattle.kql_values.specs.declared.schema.Column.{Column}
-use Rattle.kql_values.specs.declared.value.Kind.{Kind}
-use Rattle.kql_values.specs.declared.value.Value.{Value}
-use Rattle.kql_values.specs.declared.value.Value.TheVariants as value
+use Rattle.kql_cells.specs.Table.{Grid}
+use Rattle.kql_cells.specs.declared.schema.Column.{Column}
+use Rattle.kql_cells.specs.declared.value.Kind.{Kind}
+use Rattle.kql_cells.specs.declared.value.Value.{Value}
+use Rattle.kql_cells.specs.declared.value.Value.TheVariants as value
 
 -- the value of a field, or null where it does not read
 unfoldable pub cell_of : Kind → List ℕ → Value

@@ -3,7 +3,7 @@ ghost use Rattle.csv_io.specs.Cells.{FitsKind, bool_of, empty_cell, long_of, rea
 
 use kql_dynamic::parse_json;
 use kql_ticks::{read_moment, read_span};
-use kql_values::{KText, Kind, Value};
+use kql_cells::{KText, Kind, Value};
 use std::alloc::{AllocError, Global};
 
 // The value of a field in a column of this type, or none where it is of another form.

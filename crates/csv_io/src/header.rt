@@ -7,7 +7,7 @@ ghost use Rattle.csv_io.specs.Header.{column_faults, column_of, header_faults, i
 use crate::fault::{BAD_COLUMN, COLUMN_TWICE, DataFault, refused};
 use crate::fields::field;
 use csv::ByteRecord;
-use kql_values::{Column, KText, Kind, Schema};
+use kql_cells::{Column, KText, Kind, Schema};
 use std::alloc::Global;
 
 // How many columns a table may have.

@@ -4,7 +4,7 @@ ghost use Rattle.csv_io.specs.Cells.{FitsKind};
 ghost use Rattle.csv_io.specs.Faults.{IsFaultOf, Reads};
 ghost use Rattle.csv_io.specs.Load.{cell_faults, cell_of, cells_of, faults_of, file_records, grid_of, loaded, row_faults, rows_faults, rows_grid};
 ghost use Rattle.csv_io.specs.TextRecords.{AllRecordsText};
-ghost use Rattle.kql_values.specs.Table.{RowFits};
+ghost use Rattle.kql_cells.specs.Table.{RowFits};
 
 use crate::cells::read_cell;
 use crate::fault::{BAD_CELL, BAD_LENGTH, DataFault, NO_HEADER, NOT_UTF8, refused};
@@ -13,7 +13,7 @@ use crate::fields::field;
 use crate::header::read_header;
 use csv::ByteRecord;
 use kql_items::Items;
-use kql_values::{Column, Kind, Row, Schema, Table, Value};
+use kql_cells::{Column, Kind, Row, Schema, Table, Value};
 use std::alloc::Global;
 use std::str;
 

@@ -1,8 +1,8 @@
 ghost use Rattle.std.specs.Prelude.{◌≡◌, ◌<◌, [], All, IfOk, IsUtf8, Ok, OnOk, length, map};
 ghost use Rattle.csv.specs.Records.{AllText, fields_of, partial_of};
-ghost use Rattle.kql_values.specs.Seen.{row_at, seen};
-ghost use Rattle.kql_values.specs.Values.{IsMoment, IsWellFormed};
-ghost use Rattle.kql_values.specs.declared.value.Value.TheVariants as value;
+ghost use Rattle.kql_cells.specs.Seen.{row_at, seen};
+ghost use Rattle.kql_cells.specs.Values.{IsMoment, IsWellFormed};
+ghost use Rattle.kql_cells.specs.declared.value.Value.TheVariants as value;
 ghost use Rattle.csv_io.specs.Load.{loaded};
 ghost use Rattle.csv_io.specs.Pushed.{HasPushed};
 ghost use Rattle.csv_io.specs.Reload.{IsLoadable, ReadsBack, with_kinds};
@@ -14,7 +14,7 @@ use itoa::Buffer;
 use kql_dynamic::print_json;
 use kql_items::Items;
 use kql_ticks::{print_moment, print_span};
-use kql_values::{Bytes, CellRef, Column, Dyn, Rows, Table};
+use kql_cells::{Bytes, CellRef, Column, Dyn, Rows, Table};
 use std::alloc::{AllocError, Global};
 
 /// The text of a table: a line of the columns' names, without their types, and a line for each row. A null is an empty

@@ -1,5 +1,5 @@
 use super::*;
-use kql_values::{CellRef, Table};
+use kql_cells::{CellRef, Table};
 use std::alloc::{AllocError, Global};
 use std::str;
 use std::test::Fail;

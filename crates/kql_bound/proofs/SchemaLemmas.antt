@@ -2,9 +2,9 @@
 use Rattle.std.proofs.Common.{◌≡◌, ◌≢◌, ◌<◌, ◌≤◌, ℕ, List, take, length, get_or, All, ap, sym, ◌∙◌, subst, arith}
 use Rattle.std.proofs.lemmas.List.{get_or-take, length-take}
 use Rattle.std.proofs.lemmas.List.Elements.{All-from_get_or}
-use Rattle.kql_values.specs.Catalogues.{schema_name}
-use Rattle.kql_values.specs.Named.{HasDistinctNames, IsAbsent}
-use Rattle.kql_values.specs.declared.catalogue.NamedSchema.{NamedSchema}
+use Rattle.kql_cells.specs.Catalogues.{schema_name}
+use Rattle.kql_cells.specs.Named.{HasDistinctNames, IsAbsent}
+use Rattle.kql_cells.specs.declared.schemas.NamedSchema.{NamedSchema}
 
 -- the name of a schema is none of those before it
 pub absent_before : (xs : List NamedSchema) (i : ℕ) (x : NamedSchema) → HasDistinctNames schema_name xs → i < length xs → x ≡ get_or xs i x → IsAbsent schema_name x.name (take i xs)

@@ -4,7 +4,7 @@ ghost use Rattle.std.specs.Prelude.{◌≡◌, IfOk};
 use crate::expr::{BExpr, Exprs, Links, StepColumn};
 use crate::literal::Lit;
 use kql_items::{Boxed, Items};
-use kql_values::clone_value;
+use kql_cells::clone_value;
 use std::alloc::{AllocError, Global};
 
 /// An equal literal.

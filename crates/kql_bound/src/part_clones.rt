@@ -9,7 +9,7 @@ use crate::parts::{
     SeriesPlan,
 };
 use kql_items::Items;
-use kql_values::{KText, Names};
+use kql_cells::{KText, Names};
 use std::alloc::{AllocError, Global};
 
 /// Equal names.

@@ -1,7 +1,7 @@
 use crate::expr::BExpr;
 use crate::literal::Lit;
 use kql_items::Items as List;
-use kql_values::{KText, Kind, Names};
+use kql_cells::{KText, Kind, Names};
 
 /// An expression and the names of its columns: as many as it has result columns.
 #[derive(Debug, Drop)]

@@ -2,7 +2,7 @@ use crate::expr::BExpr;
 use crate::literal::Lit;
 use crate::parts::{Expand, GroupPlan, Items, JoinPlan, Keys, ParsePlan, ScanPlan, SeriesPlan};
 use kql_items::Items as List;
-use kql_values::{KText, Schemas};
+use kql_cells::{KText, Schemas};
 
 /// Where the rows of a plan come from. A `union` as a source is its first table, followed by `union` of the others.
 #[derive(Debug, Drop)]

@@ -8,7 +8,7 @@ use crate::part_clones::{
 };
 use crate::plan::{Op, Ops, Plan, Plans, Program, Source};
 use kql_items::Items;
-use kql_values::{NamedSchema, Schemas};
+use kql_cells::{NamedSchema, Schemas};
 use std::alloc::{AllocError, Global};
 
 /// An equal source.

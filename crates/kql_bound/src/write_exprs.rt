@@ -4,7 +4,7 @@ ghost use Rattle.kql_bound.specs.Exprs.{call_text, chain_end, chain_front, expr_
 
 use crate::expr::{BExpr, Link, StepColumn};
 use crate::write_literals::{write_lit, write_name};
-use kql_values::KText;
+use kql_cells::KText;
 use std::alloc::{AllocError, Global};
 
 /// Adds an expression.

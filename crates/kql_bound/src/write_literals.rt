@@ -2,8 +2,8 @@
 ghost use Rattle.std.specs.Prelude.{◌≡◌, ◌++◌, ◌<◌, string_bytes, IfOk, IsTrue, OnOk};
 ghost use Rattle.std.specs.Fmt.{decimal, signed_decimal};
 ghost use Rattle.std.specs.List.{flat_map};
-ghost use Rattle.kql_values.specs.Dynamic.{is_well_formed_dynamic};
-ghost use Rattle.kql_values.specs.Values.{IsMoment};
+ghost use Rattle.kql_cells.specs.Dynamic.{is_well_formed_dynamic};
+ghost use Rattle.kql_cells.specs.Values.{IsMoment};
 ghost use Rattle.kql_ticks.specs.Ranges.{is_moment};
 ghost use Rattle.kql_bound.specs.Literals.{escaped_byte, escaped_char, lit_text, name_text, null_text, quoted, typed_text, value_text};
 
@@ -13,7 +13,7 @@ use itoa::Buffer;
 use kql_dynamic::print_json;
 use kql_lexer::{is_reserved, is_word};
 use kql_ticks::{print_moment, print_span};
-use kql_values::{Dyn, KText, Kind, LEVELS_TOP, MOMENT_TOP, Value, has_form, has_levels_within};
+use kql_cells::{Dyn, KText, Kind, LEVELS_TOP, MOMENT_TOP, Value, has_form, has_levels_within};
 use std::alloc::{AllocError, Global};
 
 /// Adds a name: itself where it is a word that is not reserved, and else `['name']`.

@@ -14,7 +14,7 @@ use crate::write_parts::{
     write_expand, write_group, write_items, write_join, write_keys, write_parse, write_scan,
     write_series,
 };
-use kql_values::KText;
+use kql_cells::KText;
 use std::alloc::{AllocError, Global};
 
 /// Adds the line of an operator, without the `| ` before it.

@@ -12,7 +12,7 @@ use crate::parts::{
 use crate::words::kind_word;
 use crate::write_exprs::write_expr;
 use crate::write_literals::{write_lit, write_name, write_string};
-use kql_values::KText;
+use kql_cells::KText;
 use std::alloc::{AllocError, Global};
 
 #[tactic(auto, unfolding(crate::specs::Operators::item_text))]

@@ -8,7 +8,7 @@ use crate::parts::ScanStep;
 use crate::plan::{Op, Plan, Program, Source};
 use crate::write_operators::{write_let, write_line, write_source};
 use crate::write_parts::write_scan_step;
-use kql_values::KText;
+use kql_cells::KText;
 use std::alloc::{AllocError, Global};
 
 /// The text of a program: a line for the source and one for each operator, which begins with `| `, of each table let

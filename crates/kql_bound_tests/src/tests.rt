@@ -7,7 +7,7 @@ use kql_bound::{
 };
 use kql_functions::{ComparisonFunc, Func};
 use kql_items::{Boxed, Items as List};
-use kql_values::{KText, Kind, Schemas, Value};
+use kql_cells::{KText, Kind, Schemas, Value};
 use std::alloc::{AllocError, Global};
 
 mod exprs;

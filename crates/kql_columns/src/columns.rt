@@ -22,7 +22,7 @@ use kql_bound::{
 };
 use kql_items::Items;
 use kql_meaning::kind_of;
-use kql_values::{Column, KText, Kind};
+use kql_cells::{Column, KText, Kind};
 use std::alloc::{AllocError, Global};
 
 /// Equal columns.

@@ -5,15 +5,15 @@ use Rattle.std.specs.List.{list_all}
 use Rattle.std.proofs.lemmas.Bool.{cases_lt, and_parts, and_from}
 use Rattle.std.proofs.lemmas.List.{append-nil, reverse-append, take_all, drop_all, length-drop, take_more}
 use Rattle.std.proofs.lemmas.List.Folds.{list_all-append}
-use Rattle.kql_values.specs.Dynamic.{has_form, is_well_formed_dynamic, levels}
-use Rattle.kql_values.proofs.FormSteps.{has_form-Array}
-use Rattle.kql_values.specs.Values.{IsWellFormed}
-use Rattle.kql_values.specs.declared.dynamic.Dyn.{Dyn}
-use Rattle.kql_values.specs.declared.dynamic.Dyn.TheVariants as V
-use Rattle.kql_values.specs.declared.value.Value.{Value}
-use Rattle.kql_values.specs.declared.value.Value.TheVariants as value
+use Rattle.kql_cells.specs.Dynamic.{has_form, is_well_formed_dynamic, levels}
+use Rattle.kql_cells.proofs.FormLaws.{has_form-Array}
+use Rattle.kql_cells.specs.Values.{IsWellFormed}
+use Rattle.kql_cells.specs.declared.dynamic.Dyn.{Dyn}
+use Rattle.kql_cells.specs.declared.dynamic.Dyn.TheVariants as V
+use Rattle.kql_cells.specs.declared.value.Value.{Value}
+use Rattle.kql_cells.specs.declared.value.Value.TheVariants as value
 use Rattle.kql_dynamic.specs.Arrays.{array, array_concat, array_reverse, array_slice, joined, place_or_less, sliced}
-use Rattle.kql_dynamic.specs.Same.{same}
+use Rattle.kql_cells.specs.Same.{same}
 use Rattle.kql_dynamic.specs.Parts.{argument, elements, long, value_or_null}
 use Rattle.kql_dynamic.proofs.FormLemmas.{array-form, fits, fits-Null, null-Array}
 use Rattle.kql_dynamic.proofs.PartLemmas.{elements-fit, or-null-form}

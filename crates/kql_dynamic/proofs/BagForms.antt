@@ -4,13 +4,13 @@ use Rattle.std.specs.List.{list_all}
 use Rattle.std.proofs.lemmas.Bool.{and_parts, and_from}
 use Rattle.std.proofs.lemmas.List.{append-nil}
 use Rattle.std.proofs.lemmas.List.Folds.{list_all-append}
-use Rattle.kql_values.specs.Dynamic.{ascends, has_form, is_well_formed_dynamic, levels}
-use Rattle.kql_values.specs.Values.{IsWellFormed}
-use Rattle.kql_values.proofs.FormSteps.{has_form-Bag}
-use Rattle.kql_values.specs.declared.dynamic.Dyn.{Dyn}
-use Rattle.kql_values.specs.declared.dynamic.Dyn.TheVariants as V
-use Rattle.kql_values.specs.declared.value.Value.{Value}
-use Rattle.kql_values.specs.declared.value.Value.TheVariants as value
+use Rattle.kql_cells.specs.Dynamic.{ascends, has_form, is_well_formed_dynamic, levels}
+use Rattle.kql_cells.specs.Values.{IsWellFormed}
+use Rattle.kql_cells.proofs.FormLaws.{has_form-Bag}
+use Rattle.kql_cells.specs.declared.dynamic.Dyn.{Dyn}
+use Rattle.kql_cells.specs.declared.dynamic.Dyn.TheVariants as V
+use Rattle.kql_cells.specs.declared.value.Value.{Value}
+use Rattle.kql_cells.specs.declared.value.Value.TheVariants as value
 use Rattle.kql_dynamic.specs.Bags.{bag, bag_merge, bag_of, bag_pack, entries_backwards, pairs, put}
 use Rattle.kql_dynamic.specs.Parts.{entries, text, value_or_null, value_within_levels}
 use Rattle.kql_dynamic.proofs.FormLemmas.{array-form, bag-form, fits, fits-Text, null-Bag}

@@ -11,8 +11,8 @@ use Rattle.std.specs.declared.cmp.Ordering.TheVariants.{Less, Equal, Greater}
 use Rattle.std.specs.declared.alloc.Global.{Global}
 use Rattle.std.proofs.lemmas.Cmp.{nat_list_cmp_total}
 use Rattle.std.proofs.lemmas.Bool.{and_parts, and_from}
-use Rattle.kql_values.specs.Dynamic.{ascends, rises_to}
-use Rattle.kql_values.specs.declared.dynamic.Dyn.{Dyn}
+use Rattle.kql_cells.specs.Dynamic.{ascends, rises_to}
+use Rattle.kql_cells.specs.declared.dynamic.Dyn.{Dyn}
 use Rattle.kql_dynamic.specs.Bags.{bag_of, entries_seen, put}
 
 seen-match_ordering : (o : Ordering) (a b c : List (String Global × Dyn)) → entries_seen (match_ordering o a b c) ≡ match_ordering o (entries_seen a) (entries_seen b) (entries_seen c)

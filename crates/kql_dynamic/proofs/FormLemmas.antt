@@ -4,13 +4,13 @@ use Rattle.std.specs.Prelude.{ℤ}
 use Rattle.std.specs.List.{list_all}
 use Rattle.std.proofs.lemmas.Bool.{cases_Bool, and_parts, and_from}
 use Rattle.std.proofs.lemmas.Bool.Decides.{nat_tests}
-use Rattle.kql_values.specs.Dynamic.{ascends, has_form, is_null, levels}
-use Rattle.kql_values.specs.Values.{IsWellFormed}
-use Rattle.kql_values.proofs.FormSteps.{has_form-Array, has_form-Bag, has_form-Null, has_form-Bool, has_form-Long, has_form-Text}
-use Rattle.kql_values.proofs.LevelSteps.{within-Array, within-Bag, levels-Null, levels-Bool, levels-Long, levels-Text}
-use Rattle.kql_values.specs.declared.dynamic.Dyn.{Dyn, the_lemmas}
-use Rattle.kql_values.specs.declared.dynamic.Dyn.TheVariants as V
-use Rattle.kql_values.specs.declared.value.Value.TheVariants as value
+use Rattle.kql_cells.specs.Dynamic.{ascends, has_form, is_null, levels}
+use Rattle.kql_cells.specs.Values.{IsWellFormed}
+use Rattle.kql_cells.proofs.FormLaws.{has_form-Array, has_form-Bag, has_form-Null, has_form-Bool, has_form-Long, has_form-Text}
+use Rattle.kql_cells.proofs.LevelLaws.{within-Array, within-Bag, levels-Null, levels-Bool, levels-Long, levels-Text}
+use Rattle.kql_cells.specs.declared.dynamic.Dyn.{Dyn, the_lemmas}
+use Rattle.kql_cells.specs.declared.dynamic.Dyn.TheVariants as V
+use Rattle.kql_cells.specs.declared.value.Value.TheVariants as value
 use Rattle.kql_dynamic.specs.Parts.{value_of}
 
 -- the form, and at most so many levels

@@ -9,11 +9,11 @@ use Rattle.std.specs.List.{list_all}
 use Rattle.std.specs.List.Sorted.{IsStrictlySortedBy}
 use Rattle.std.specs.declared.alloc.Global.{Global}
 use Rattle.std.proofs.lemmas.Bool.{and_from}
-use Rattle.kql_values.specs.Dynamic.{ascends, has_form, highest, levels, rises_to}
-use Rattle.kql_values.proofs.FormSteps.{has_form-Array, has_form-Bag, has_form-Null, has_form-Bool, has_form-Long, has_form-Text}
-use Rattle.kql_values.proofs.LevelSteps.{levels-Array, levels-Bag, levels-Null, levels-Bool, levels-Long, levels-Text}
-use Rattle.kql_values.specs.declared.dynamic.Dyn.{Dyn}
-use Rattle.kql_values.specs.declared.dynamic.Dyn.TheVariants as V
+use Rattle.kql_cells.specs.Dynamic.{ascends, has_form, highest, levels, rises_to}
+use Rattle.kql_cells.proofs.FormLaws.{has_form-Array, has_form-Bag, has_form-Null, has_form-Bool, has_form-Long, has_form-Text}
+use Rattle.kql_cells.proofs.LevelLaws.{levels-Array, levels-Bag, levels-Null, levels-Bool, levels-Long, levels-Text}
+use Rattle.kql_cells.specs.declared.dynamic.Dyn.{Dyn}
+use Rattle.kql_cells.specs.declared.dynamic.Dyn.TheVariants as V
 use Rattle.serde_json.specs.Data.{Data, null, boolean, number, string, array, object, Items, no_items, item, Members, no_members, member, depth, items_depth, members_depth}
 use Rattle.serde_json.specs.Find.{as_i64}
 use Rattle.serde_json.specs.View.{items_view, members_view, view}

@@ -1,8 +1,8 @@
 -- The levels of a part more.
 use Rattle.std.proofs.Common.{◌≡◌, ◌<◌, ◌+◌, ℕ, max, List, [], ◌∷◌, ◌++◌, take, length, get_or, ◌∙◌, refl, ap, arith}
 use Rattle.std.proofs.lemmas.List.{take_more}
-use Rattle.kql_values.specs.Dynamic.{highest}
-use Rattle.kql_values.proofs.LevelSteps.{levels-Array, levels-Bag, levels-Null, levels-Bool, levels-Long, levels-Text}
+use Rattle.kql_cells.specs.Dynamic.{highest}
+use Rattle.kql_cells.proofs.LevelLaws.{levels-Array, levels-Bag, levels-Null, levels-Bool, levels-Long, levels-Text}
 
 highest-push : {X : Type 0} (f : X → ℕ) (xs : List X) (x : X) → highest f (xs ++ x ∷ []) ≡ max (f x) (highest f xs)
 highest-push f [] x = refl

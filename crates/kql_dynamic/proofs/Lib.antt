@@ -4,7 +4,6 @@ pub mod BagForms
 pub mod BagLaws
 pub mod BagLemmas
 pub mod FormLemmas
-pub mod HashSteps
 pub mod JsonForms
 pub mod LevelCounts
 pub mod PartLemmas

@@ -4,12 +4,12 @@ use Rattle.std.specs.Prelude.{ℤ, pos, negsuc}
 use Rattle.std.specs.List.{list_all, slice_get}
 use Rattle.std.specs.Str.{bytes_eq}
 use Rattle.std.proofs.lemmas.Bool.{cases_Bool, and_parts}
-use Rattle.kql_values.specs.Dynamic.{ascends, is_well_formed_dynamic}
-use Rattle.kql_values.specs.Values.{IsWellFormed}
-use Rattle.kql_values.specs.declared.dynamic.Dyn.{Dyn, out-Dyn, roll-Dyn, the_lemmas}
-use Rattle.kql_values.specs.declared.dynamic.Dyn.TheOpen.{Dyn-F}
-use Rattle.kql_values.specs.declared.dynamic.Dyn.TheVariants as V
-use Rattle.kql_values.specs.declared.value.Value.{Value}
+use Rattle.kql_cells.specs.Dynamic.{ascends, is_well_formed_dynamic}
+use Rattle.kql_cells.specs.Values.{IsWellFormed}
+use Rattle.kql_cells.specs.declared.dynamic.Dyn.{Dyn, out-Dyn, roll-Dyn, the_lemmas}
+use Rattle.kql_cells.specs.declared.dynamic.Dyn.TheOpen.{Dyn-F}
+use Rattle.kql_cells.specs.declared.dynamic.Dyn.TheVariants as V
+use Rattle.kql_cells.specs.declared.value.Value.{Value}
 use Rattle.kql_dynamic.specs.Parts.{at_index, at_name, elements, elements_step, element_at, entries, entries_step, entry_at, from_start, long, value_of, value_or_null}
 use Rattle.kql_dynamic.proofs.FormLemmas.{fits, fits-Array, fits-Bag, fits-weaker, value-form}
 

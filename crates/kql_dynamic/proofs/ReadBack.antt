@@ -13,11 +13,11 @@ use Rattle.std.proofs.lemmas.Cmp.{nat_list_cmp_total}
 use Rattle.std.proofs.lemmas.Bool.{and_parts, and_from, leb-true, le-leb}
 use Rattle.std.proofs.lemmas.List.{take_more, map-append}
 use Rattle.std.proofs.lemmas.List.Folds.{list_all-append}
-use Rattle.kql_values.specs.Dynamic.{ascends, has_form, levels, rises_to}
-use Rattle.kql_values.specs.Values.{IsWellFormed}
-use Rattle.kql_values.proofs.FormSteps.{has_form-Array, has_form-Bag}
-use Rattle.kql_values.specs.declared.dynamic.Dyn.{Dyn}
-use Rattle.kql_values.specs.declared.dynamic.Dyn.TheVariants as V
+use Rattle.kql_cells.specs.Dynamic.{ascends, has_form, levels, rises_to}
+use Rattle.kql_cells.specs.Values.{IsWellFormed}
+use Rattle.kql_cells.proofs.FormLaws.{has_form-Array, has_form-Bag}
+use Rattle.kql_cells.specs.declared.dynamic.Dyn.{Dyn}
+use Rattle.kql_cells.specs.declared.dynamic.Dyn.TheVariants as V
 use Rattle.serde_json.specs.Data.{depth}
 use Rattle.serde_json.specs.Read.{read}
 use Rattle.serde_json.proofs.OnLiterals.{serde_json_on_literals}

@@ -8,9 +8,9 @@ use Rattle.std.proofs.lemmas.List.Elements.{All-weaker, filter-append, filter_pa
 use Rattle.std.proofs.lemmas.List.Folds.{list_any-append}
 use Rattle.std.proofs.lemmas.List.Kept.{AllPairs-cons, AllPairs-filter}
 use Rattle.std.proofs.lemmas.Map.Made.{is_member-Decides, is_member-filter}
-use Rattle.kql_values.specs.declared.dynamic.Dyn.{Dyn}
+use Rattle.kql_cells.specs.declared.dynamic.Dyn.{Dyn}
 use Rattle.kql_dynamic.specs.Laws.{DifferenceHolds, DifferenceInOrder, FirstsComeFirst, IntersectHolds, IntersectInOrder, UnionHolds, UnionInOrder, count_before}
-use Rattle.kql_dynamic.specs.Same.{same, same-decides, same-equiv}
+use Rattle.kql_cells.specs.Same.{same, same-decides, same-equiv}
 use Rattle.kql_dynamic.specs.Sets.{distinct, is_among}
 use Rattle.kql_dynamic.proofs.PartLemmas.{elements-Array}
 use Rattle.kql_dynamic.proofs.SetLemmas.{among-distinct, reflexive}

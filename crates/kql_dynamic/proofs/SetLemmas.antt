@@ -7,11 +7,11 @@ use Rattle.std.proofs.lemmas.List.{append-nil, take_more}
 use Rattle.std.proofs.lemmas.List.Elements.{filter-append}
 use Rattle.std.proofs.lemmas.List.Folds.{list_any-append}
 use Rattle.std.proofs.lemmas.Map.Views.{any-filter_same}
-use Rattle.kql_values.specs.Dynamic.{is_well_formed_dynamic}
-use Rattle.kql_values.specs.Values.{IsWellFormed}
-use Rattle.kql_values.specs.declared.dynamic.Dyn.{Dyn}
+use Rattle.kql_cells.specs.Dynamic.{is_well_formed_dynamic}
+use Rattle.kql_cells.specs.Values.{IsWellFormed}
+use Rattle.kql_cells.specs.declared.dynamic.Dyn.{Dyn}
 use Rattle.kql_dynamic.specs.Parts.{argument, elements}
-use Rattle.kql_dynamic.specs.Same.{same, same-decides, same-equiv}
+use Rattle.kql_cells.specs.Same.{same, same-decides, same-equiv}
 use Rattle.kql_dynamic.specs.Sets.{chosen, distinct, is_among, set_difference, set_intersect, set_union}
 use Rattle.kql_dynamic.proofs.FormLemmas.{array-form, fits}
 use Rattle.kql_dynamic.proofs.PartLemmas.{elements-fit, or-null-form}

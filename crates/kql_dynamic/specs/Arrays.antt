@@ -1,11 +1,11 @@
 -- The calls on arrays, as functions on the elements. Each takes its arguments as one list.
 use Rattle.std.specs.Prelude.{ℕ, ℤ, pos, negsuc, ◌+ℤ◌, List, [], ◌∷◌, ◌++◌, length, reverse, position, slice_range, Option, Some, None, option_map, option_and_then}
-use Rattle.kql_values.specs.declared.dynamic.Dyn.{Dyn}
-use Rattle.kql_values.specs.declared.dynamic.Dyn.TheVariants as V
-use Rattle.kql_values.specs.declared.value.Value.{Value}
-use Rattle.kql_values.specs.declared.value.Value.TheVariants as value
+use Rattle.kql_cells.specs.declared.dynamic.Dyn.{Dyn}
+use Rattle.kql_cells.specs.declared.dynamic.Dyn.TheVariants as V
+use Rattle.kql_cells.specs.declared.value.Value.{Value}
+use Rattle.kql_cells.specs.declared.value.Value.TheVariants as value
 use Rattle.kql_dynamic.specs.Parts.{argument, elements, from_start, long, value_or_null, value_within_levels}
-use Rattle.kql_dynamic.specs.Same.{same}
+use Rattle.kql_cells.specs.Same.{same}
 
 -- an array as a value
 abbrev pub array : List Dyn → Value

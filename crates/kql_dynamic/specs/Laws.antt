@@ -2,14 +2,14 @@
 use Rattle.std.specs.Prelude.{◌≡◌, ◌≢◌, ◌<◌, ◌+◌, ◌⊎◌, ◌↔◌, ℕ, pos, negsuc, List, [], ◌∷◌, ◌++◌, filter, if◌then◌else◌, length, not, reverse, IsTrue, Option, None, Some, option_and_then, Contains}
 use Rattle.std.specs.List.{AllPairs, list_all}
 use Rattle.std.specs.Option.{option_or}
-use Rattle.kql_values.specs.Dynamic.{is_well_formed_dynamic}
-use Rattle.kql_values.specs.declared.dynamic.Dyn.{Dyn}
-use Rattle.kql_values.specs.declared.dynamic.Dyn.TheVariants as V
-use Rattle.kql_values.specs.declared.value.Value.{Value}
+use Rattle.kql_cells.specs.Dynamic.{is_well_formed_dynamic}
+use Rattle.kql_cells.specs.declared.dynamic.Dyn.{Dyn}
+use Rattle.kql_cells.specs.declared.dynamic.Dyn.TheVariants as V
+use Rattle.kql_cells.specs.declared.value.Value.{Value}
 use Rattle.kql_dynamic.specs.Arrays.{array, array_concat, array_slice, sliced}
 use Rattle.kql_dynamic.specs.Bags.{bag, bag_merge, bag_pack, pairs}
 use Rattle.kql_dynamic.specs.Parts.{entries, entry_at}
-use Rattle.kql_dynamic.specs.Same.{same}
+use Rattle.kql_cells.specs.Same.{same}
 use Rattle.kql_dynamic.specs.Sets.{distinct, is_among, set_difference, set_intersect, set_union}
 
 -- an array up to an index and from the next one on, put together

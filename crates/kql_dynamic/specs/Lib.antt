@@ -1,9 +1,7 @@
 pub mod Arrays
 pub mod Bags
-pub mod Hashed
 pub mod Json
 pub mod Laws
 pub mod Parts
 pub mod Printed
-pub mod Same
 pub mod Sets

@@ -2,12 +2,12 @@
 use Rattle.std.specs.Prelude.{ℕ, ℤ, pos, negsuc, ◌+ℤ◌, if◌then◌else◌, List, length, nat_le, Option, Some, None, slice_get, slice_index_or}
 use Rattle.std.specs.Map.{lookup}
 use Rattle.std.specs.Str.{bytes_eq}
-use Rattle.kql_values.specs.Dynamic.{is_null, levels}
-use Rattle.kql_values.specs.declared.dynamic.Dyn.{Dyn, out-Dyn}
-use Rattle.kql_values.specs.declared.dynamic.Dyn.TheOpen.{Dyn-F}
-use Rattle.kql_values.specs.declared.dynamic.Dyn.TheVariants as V
-use Rattle.kql_values.specs.declared.value.Value.{Value}
-use Rattle.kql_values.specs.declared.value.Value.TheVariants as value
+use Rattle.kql_cells.specs.Dynamic.{is_null, levels}
+use Rattle.kql_cells.specs.declared.dynamic.Dyn.{Dyn, out-Dyn}
+use Rattle.kql_cells.specs.declared.dynamic.Dyn.TheOpen.{Dyn-F}
+use Rattle.kql_cells.specs.declared.dynamic.Dyn.TheVariants as V
+use Rattle.kql_cells.specs.declared.value.Value.{Value}
+use Rattle.kql_cells.specs.declared.value.Value.TheVariants as value
 
 -- a dynamic null is the null value
 abbrev pub value_of : Dyn → Value

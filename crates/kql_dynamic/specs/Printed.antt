@@ -1,7 +1,7 @@
 -- The JSON of a dynamic value, in the words of `serde_json`.
 use Rattle.std.specs.Prelude.{ℕ, Bool, List, [], ◌∷◌}
-use Rattle.kql_values.specs.declared.dynamic.Dyn.{Dyn, fold-Dyn}
-use Rattle.kql_values.specs.declared.dynamic.Dyn.TheOpen.{Dyn-F}
+use Rattle.kql_cells.specs.declared.dynamic.Dyn.{Dyn, fold-Dyn}
+use Rattle.kql_cells.specs.declared.dynamic.Dyn.TheOpen.{Dyn-F}
 use Rattle.serde_json.specs.Data.{Data, null, boolean, number, string, array, object, Members, no_members, put}
 use Rattle.serde_json.specs.Find.{of_integer}
 use Rattle.serde_json.specs.View.{items_of, view}

@@ -1,12 +1,12 @@
 -- The calls on sets: arrays as sets of their elements. Each takes its arguments as one list.
 use Rattle.std.specs.Prelude.{Bool, not, if◌then◌else◌, List, [], ◌∷◌, ◌++◌, filter}
 use Rattle.std.specs.List.{list_any}
-use Rattle.kql_values.specs.declared.dynamic.Dyn.{Dyn}
-use Rattle.kql_values.specs.declared.value.Value.{Value}
-use Rattle.kql_values.specs.declared.value.Value.TheVariants as value
+use Rattle.kql_cells.specs.declared.dynamic.Dyn.{Dyn}
+use Rattle.kql_cells.specs.declared.value.Value.{Value}
+use Rattle.kql_cells.specs.declared.value.Value.TheVariants as value
 use Rattle.kql_dynamic.specs.Arrays.{array}
 use Rattle.kql_dynamic.specs.Parts.{argument, elements, value_or_null}
-use Rattle.kql_dynamic.specs.Same.{same}
+use Rattle.kql_cells.specs.Same.{same}
 
 -- whether a value is identical to one of these
 abbrev pub is_among : List Dyn → Dyn → Bool

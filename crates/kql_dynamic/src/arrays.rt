@@ -1,13 +1,13 @@
 ghost use Rattle.std.specs.Prelude.{◌≡◌, ◌<◌, ◌++◌, ◌+ℤ◌, pos, IfOk, IfSome, IsTrue, Ok, OnOk, length, position};
 ghost use Rattle.std.specs.List.{list_all};
-ghost use Rattle.kql_values.specs.Dynamic.{is_well_formed_dynamic};
-ghost use Rattle.kql_values.specs.Values.{IsWellFormed};
+ghost use Rattle.kql_cells.specs.Dynamic.{is_well_formed_dynamic};
+ghost use Rattle.kql_cells.specs.Values.{IsWellFormed};
 ghost use Rattle.kql_dynamic.specs.Arrays.{at_or_after_first, array_concat, array_index_of, array_length, array_reverse, array_slice, joined, pack_array, place_or_less, sliced};
-ghost use Rattle.kql_dynamic.specs.Same.{same};
+ghost use Rattle.kql_cells.specs.Same.{same};
 
 use crate::parts::{argument, elements, from_start, long};
 use kql_items::Items;
-use kql_values::{Dyn, DynList, LEVELS_TOP, Value, clone_dyn, has_levels_within, same_dyn};
+use kql_cells::{Dyn, DynList, LEVELS_TOP, Value, clone_dyn, has_levels_within, same_dyn};
 use std::alloc::{AllocError, Global};
 
 /// How many elements an array has: `array_length(array)`. It is null where there is no array, and takes no memory.

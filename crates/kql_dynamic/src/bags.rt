@@ -1,13 +1,13 @@
 ghost use Rattle.std.specs.Prelude.{◌≡◌, fold, map, option_map, IfOk, IsTrue, Ok, OnOk, length};
 ghost use Rattle.std.specs.List.{list_all};
-ghost use Rattle.kql_values.specs.Dynamic.{is_well_formed_dynamic};
-ghost use Rattle.kql_values.specs.Values.{IsWellFormed};
-ghost use Rattle.kql_values.specs.declared.dynamic.Dyn.TheVariants.{Text};
+ghost use Rattle.kql_cells.specs.Dynamic.{is_well_formed_dynamic};
+ghost use Rattle.kql_cells.specs.Values.{IsWellFormed};
+ghost use Rattle.kql_cells.specs.declared.dynamic.Dyn.TheVariants.{Text};
 ghost use Rattle.kql_dynamic.specs.Bags.{bag_has_key, bag_keys, bag_merge, bag_of, bag_pack, entries_seen, pairs, put};
 
 use crate::parts::{argument, entries, entry_at, text};
 use kql_items::Items;
-use kql_values::{Dyn, DynBag, DynList, KText, LEVELS_TOP, Value, clone_dyn, has_levels_within};
+use kql_cells::{Dyn, DynBag, DynList, KText, LEVELS_TOP, Value, clone_dyn, has_levels_within};
 use std::alloc::{AllocError, Global};
 use std::collections::BTreeMap;
 

@@ -2,15 +2,15 @@ ghost use Rattle.std.specs.Prelude.{◌≡◌, ◌≤◌, true, IfOk, IfSome, ma
 ghost use Rattle.serde_json.specs.Data.{depth as nesting};
 ghost use Rattle.serde_json.specs.Read.{max_depth, read as read_text};
 ghost use Rattle.serde_json.specs.View.{number_view, view};
-ghost use Rattle.kql_values.specs.Dynamic.{ascends, has_form};
-ghost use Rattle.kql_values.specs.Values.{IsOfKind, IsWellFormed};
-ghost use Rattle.kql_values.specs.declared.value.Kind.TheVariants.{Dynamic};
+ghost use Rattle.kql_cells.specs.Dynamic.{ascends, has_form};
+ghost use Rattle.kql_cells.specs.Values.{IsOfKind, IsWellFormed};
+ghost use Rattle.kql_cells.specs.declared.value.Kind.TheVariants.{Dynamic};
 ghost use Rattle.std.specs.List.{list_all};
 ghost use Rattle.kql_dynamic.specs.Json.{dyn_of, entry_of, number_dyn, parsed, part_of};
 
 use crate::parts::value_of;
 use kql_items::Items;
-use kql_values::{Dyn, DynBag, DynList, KText, Value};
+use kql_cells::{Dyn, DynBag, DynList, KText, Value};
 use serde_json::{Map, Number, Value as Json};
 use std::alloc::{AllocError, Global};
 

@@ -1,10 +1,10 @@
 ghost use Rattle.std.specs.Prelude.{◌≡◌, ◌<◌, ◌≤◌, ◌^◌, IfOk, IsTrue, length, min, option_map, Some};
 ghost use Rattle.std.specs.List.{list_all};
-ghost use Rattle.kql_values.specs.Dynamic.{highest, is_well_formed_dynamic, levels};
-ghost use Rattle.kql_values.specs.Values.{IsWellFormed};
+ghost use Rattle.kql_cells.specs.Dynamic.{highest, is_well_formed_dynamic, levels};
+ghost use Rattle.kql_cells.specs.Values.{IsWellFormed};
 ghost use Rattle.kql_dynamic.specs.Parts.{argument, at_index, at_name, element_at, elements, entries, entry_at, from_start, long, text, value_of};
 
-use kql_values::{Dyn, KText, LEVELS_TOP, Value, clone_dyn, has_form, has_levels_within};
+use kql_cells::{Dyn, KText, LEVELS_TOP, Value, clone_dyn, has_form, has_levels_within};
 use std::alloc::{AllocError, Global};
 
 /// The value of a bag's entry with this key: null where it is no bag, or has no such key.

@@ -3,12 +3,12 @@ ghost use Rattle.std.specs.List.{list_all, list_any};
 ghost use Rattle.serde_json.specs.Data.{no_members};
 ghost use Rattle.serde_json.specs.View.{members_view, view};
 ghost use Rattle.serde_json.specs.Written.{has_float, members_have_float};
-ghost use Rattle.kql_values.specs.Dynamic.{ascends, has_form, is_well_formed_dynamic};
+ghost use Rattle.kql_cells.specs.Dynamic.{ascends, has_form, is_well_formed_dynamic};
 ghost use Rattle.kql_dynamic.specs.Json.{dyn_of, entry_of, parsed, part_of};
 ghost use Rattle.kql_dynamic.specs.Parts.{value_of};
 ghost use Rattle.kql_dynamic.specs.Printed.{data_of, entry_data, is_float_value, printed, puts};
 
-use kql_values::{Dyn, KText};
+use kql_cells::{Dyn, KText};
 use serde_json::{Map, Value as Json};
 use std::alloc::{AllocError, Global};
 

@@ -1,17 +1,17 @@
 ghost use Rattle.std.specs.Prelude.{◌≡◌, ◌++◌, ◌∷◌, [], Bool, IfOk, IsTrue, Ok, OnOk, if◌then◌else◌, length, map};
 ghost use Rattle.std.specs.HashSet.{contains};
 ghost use Rattle.std.specs.List.{list_all};
-ghost use Rattle.kql_values.specs.Dynamic.{is_well_formed_dynamic};
-ghost use Rattle.kql_values.specs.Values.{IsWellFormed};
-ghost use Rattle.kql_values.specs.declared.dynamic.Dyn.{Dyn};
-ghost use Rattle.kql_dynamic.specs.Same.{same};
+ghost use Rattle.kql_cells.specs.Dynamic.{is_well_formed_dynamic};
+ghost use Rattle.kql_cells.specs.Values.{IsWellFormed};
+ghost use Rattle.kql_cells.specs.declared.dynamic.Dyn.{Dyn};
+ghost use Rattle.kql_cells.specs.Same.{same};
 ghost use Rattle.kql_dynamic.specs.Sets.{chosen, distinct, is_among, set_difference, set_has_element, set_intersect, set_union};
 
 use crate::arrays::same;
 use crate::hashed::DynRef;
 use crate::parts::{argument, elements};
 use kql_items::Items;
-use kql_values::{Dyn, DynList, Value, clone_dyn};
+use kql_cells::{Dyn, DynList, Value, clone_dyn};
 use std::alloc::{AllocError, Global};
 use std::collections::HashSet;
 

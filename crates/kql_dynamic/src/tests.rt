@@ -1,6 +1,6 @@
 ghost use Rattle.std.specs.Prelude.{IsTrue};
 ghost use Rattle.std.specs.List.{list_all};
-ghost use Rattle.kql_values.specs.Dynamic.{is_well_formed_dynamic};
+ghost use Rattle.kql_cells.specs.Dynamic.{is_well_formed_dynamic};
 
 use crate::{
     are_well_formed, array_concat, array_index_of, array_length, array_reverse, array_slice,
@@ -9,7 +9,7 @@ use crate::{
     set_difference, set_has_element, set_intersect, set_union, slices_and_joins,
 };
 use kql_items::Items;
-use kql_values::{Dyn, KText, LEVELS_TOP, Value, has_form, has_levels_within};
+use kql_cells::{Dyn, KText, LEVELS_TOP, Value, has_form, has_levels_within};
 use std::alloc::{AllocError, Global};
 use std::process::Abort;
 use std::test::Fail;

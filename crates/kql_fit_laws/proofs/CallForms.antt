@@ -3,12 +3,12 @@ use Rattle.std.proofs.Common.{◌≡◌, ℕ, suc, Bool, true, false, List, [], 
 use Rattle.std.specs.Prelude.{ℤ, ◌==◌, nat_le, Option, None, Some, IfSome, Ok, option_and_then, if◌then◌else◌, unsigned_abs}
 use Rattle.std.specs.List.{list_all}
 use Rattle.std.proofs.lemmas.Bool.{and_from, cases_Bool}
-use Rattle.kql_values.specs.Dynamic.{is_well_formed_dynamic, levels}
-use Rattle.kql_values.specs.Values.{IsMoment, IsWellFormed}
-use Rattle.kql_values.specs.declared.dynamic.Dyn.TheVariants as V
-use Rattle.kql_values.specs.declared.dynamic.Dyn.{Dyn}
-use Rattle.kql_values.specs.declared.value.Value.TheVariants as value
-use Rattle.kql_values.specs.declared.value.Value.{Value}
+use Rattle.kql_cells.specs.Dynamic.{is_well_formed_dynamic, levels}
+use Rattle.kql_cells.specs.Values.{IsMoment, IsWellFormed}
+use Rattle.kql_cells.specs.declared.dynamic.Dyn.TheVariants as V
+use Rattle.kql_cells.specs.declared.dynamic.Dyn.{Dyn}
+use Rattle.kql_cells.specs.declared.value.Value.TheVariants as value
+use Rattle.kql_cells.specs.declared.value.Value.{Value}
 use Rattle.kql_texts.specs.Texts.{split_by}
 use Rattle.kql_ticks.specs.Moves.{add_part}
 use Rattle.kql_ticks.specs.Ranges.{fit_moment}

@@ -4,9 +4,9 @@ use Rattle.std.specs.Prelude.{IfSome, Ok, Option, Some}
 use Rattle.kql_functions.specs.Kinds.{result_kind}
 use Rattle.kql_scalar_fns.proofs.CallKinds.{call_gives}
 use Rattle.kql_scalar_fns.specs.Applied.{applied}
-use Rattle.kql_values.specs.Values.{IsOfKind}
-use Rattle.kql_values.specs.declared.value.Kind.{Kind}
-use Rattle.kql_values.specs.declared.value.Value.{Value}
+use Rattle.kql_cells.specs.Values.{IsOfKind}
+use Rattle.kql_cells.specs.declared.value.Kind.{Kind}
+use Rattle.kql_cells.specs.declared.value.Value.{Value}
 use Rattle.kql_fit_laws.proofs.CallForms.{applied-form}
 use Rattle.kql_fit_laws.specs.LawsOfCalls.{CallKeeps}
 

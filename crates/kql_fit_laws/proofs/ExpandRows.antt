@@ -3,17 +3,17 @@ use Rattle.std.proofs.Common.{◌≡◌, ◌<◌, ℕ, Bool, true, false, List, 
 use Rattle.std.specs.Prelude.{IfSome, None, Option, Some, ℤ, bytes_eq, not, option_and_then, option_map, slice_index_or}
 use Rattle.std.specs.List.{flat_map, list_all}
 use Rattle.std.proofs.lemmas.Bool.{and_from, and_parts}
-use Rattle.kql_values.specs.Named.{HasDistinctNames, column_name}
-use Rattle.kql_values.specs.Table.{CellFits, Grid, RowFits}
-use Rattle.kql_values.specs.Values.{IsMoment}
-use Rattle.kql_values.specs.declared.dynamic.Dyn.{Dyn, out-Dyn}
-use Rattle.kql_values.specs.declared.dynamic.Dyn.TheOpen.{Dyn-F}
-use Rattle.kql_values.specs.declared.dynamic.Dyn.TheVariants as dyn
-use Rattle.kql_values.specs.declared.schema.Column.{Column}
-use Rattle.kql_values.specs.declared.value.Kind.{Kind}
-use Rattle.kql_values.specs.declared.value.Kind.TheVariants as kind
-use Rattle.kql_values.specs.declared.value.Value.{Value}
-use Rattle.kql_values.specs.declared.value.Value.TheVariants as value
+use Rattle.kql_cells.specs.Named.{HasDistinctNames, column_name}
+use Rattle.kql_cells.specs.Table.{CellFits, Grid, RowFits}
+use Rattle.kql_cells.specs.Values.{IsMoment}
+use Rattle.kql_cells.specs.declared.dynamic.Dyn.{Dyn, out-Dyn}
+use Rattle.kql_cells.specs.declared.dynamic.Dyn.TheOpen.{Dyn-F}
+use Rattle.kql_cells.specs.declared.dynamic.Dyn.TheVariants as dyn
+use Rattle.kql_cells.specs.declared.schema.Column.{Column}
+use Rattle.kql_cells.specs.declared.value.Kind.{Kind}
+use Rattle.kql_cells.specs.declared.value.Kind.TheVariants as kind
+use Rattle.kql_cells.specs.declared.value.Value.{Value}
+use Rattle.kql_cells.specs.declared.value.Value.TheVariants as value
 use Rattle.kql_dynamic.specs.Parts.{elements, elements_step, entries, entries_step, text, value_of}
 use Rattle.kql_dynamic.proofs.FormLemmas.{array-form, bag-form, fits, fits-Text, fits-weaker, value-form}
 use Rattle.kql_dynamic.proofs.PartLemmas.{elements-fit, entries-fit}

@@ -4,12 +4,12 @@ use Rattle.std.specs.Prelude.{◌&&◌, IfSome, slice_get, slice_index_or, bytes
 use Rattle.std.specs.List.{AllByRecursion, list_all}
 use Rattle.std.proofs.lemmas.Bool.{and_parts}
 use Rattle.std.proofs.lemmas.List.Elements.{All-from_recursion}
-use Rattle.kql_values.specs.Named.{column_name}
-use Rattle.kql_values.specs.Table.{Grid, RowFits}
-use Rattle.kql_values.specs.Values.{IsWellFormed}
-use Rattle.kql_values.specs.declared.schema.Column.{Column}
-use Rattle.kql_values.specs.declared.value.Kind.{Kind}
-use Rattle.kql_values.specs.declared.value.Value.{Value}
+use Rattle.kql_cells.specs.Named.{column_name}
+use Rattle.kql_cells.specs.Table.{Grid, RowFits}
+use Rattle.kql_cells.specs.Values.{IsWellFormed}
+use Rattle.kql_cells.specs.declared.schema.Column.{Column}
+use Rattle.kql_cells.specs.declared.value.Kind.{Kind}
+use Rattle.kql_cells.specs.declared.value.Value.{Value}
 use Rattle.kql_functions.specs.Kinds.{AreOfKinds, result_kind, same_kind}
 use Rattle.kql_scalar_fns.proofs.KindFacts.{same-kind}
 use Rattle.kql_functions.specs.declared.func.Func.{Func}

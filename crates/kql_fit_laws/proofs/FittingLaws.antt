@@ -3,12 +3,12 @@ use Rattle.std.proofs.Common.{◌≡◌, ℕ, true, List, [], ◌∷◌, refl, s
 use Rattle.std.specs.Prelude.{◌&&◌, bytes_eq, find, is_some, IsSomeAnd, None, Option, Some, option_map}
 use Rattle.std.proofs.lemmas.Bool.{and_parts, cases_Bool}
 use Rattle.std.proofs.lemmas.Slice.Eq.{bytes_eq-Decides}
-use Rattle.kql_values.specs.Catalogues.{schema_name, schema_of, schemas_of, table_name}
-use Rattle.kql_values.specs.Table.{Grid}
-use Rattle.kql_values.specs.declared.catalogue.Named.{Named}
-use Rattle.kql_values.specs.declared.catalogue.NamedSchema.{NamedSchema}
-use Rattle.kql_values.specs.declared.schema.Column.{Column}
-use Rattle.kql_values.specs.declared.value.Kind.{Kind}
+use Rattle.kql_cells.specs.Catalogues.{schema_name, schema_of, schemas_of, table_name}
+use Rattle.kql_cells.specs.Table.{Grid}
+use Rattle.kql_cells.specs.Catalogues.{Named}
+use Rattle.kql_cells.specs.declared.schemas.NamedSchema.{NamedSchema}
+use Rattle.kql_cells.specs.declared.schema.Column.{Column}
+use Rattle.kql_cells.specs.declared.value.Kind.{Kind}
 use Rattle.kql_functions.specs.Kinds.{same_kind}
 use Rattle.kql_meaning.specs.Fits.{fits, has_columns, program_columns, same_columns, table_columns, tables_stand}
 use Rattle.kql_meaning.specs.Plans.{means}

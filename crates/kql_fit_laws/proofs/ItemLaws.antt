@@ -4,11 +4,11 @@ use Rattle.std.specs.Prelude.{◌&&◌, ◌==◌, None, Option, Some, unwrap_or}
 use Rattle.std.specs.List.{list_all}
 use Rattle.std.proofs.lemmas.Bool.{and_parts}
 use Rattle.std.proofs.lemmas.Bool.Decides.{nat_tests}
-use Rattle.kql_values.specs.Table.{Grid, RowFits}
-use Rattle.kql_values.specs.declared.schema.Column.{Column}
-use Rattle.kql_values.specs.declared.value.Kind.{Kind}
-use Rattle.kql_values.specs.declared.value.Kind.TheVariants as kind
-use Rattle.kql_values.specs.declared.value.Value.{Value}
+use Rattle.kql_cells.specs.Table.{Grid, RowFits}
+use Rattle.kql_cells.specs.declared.schema.Column.{Column}
+use Rattle.kql_cells.specs.declared.value.Kind.{Kind}
+use Rattle.kql_cells.specs.declared.value.Kind.TheVariants as kind
+use Rattle.kql_cells.specs.declared.value.Value.{Value}
 use Rattle.kql_bound.specs.declared.expr.Aggregate.{Aggregate}
 use Rattle.kql_bound.specs.declared.expr.Aggregate.TheVariants as aggregate
 use Rattle.kql_bound.specs.declared.expr.BExpr.{BExpr, out-BExpr, out-roll-BExpr, roll-BExpr, roll-out-BExpr}

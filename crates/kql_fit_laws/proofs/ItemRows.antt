@@ -4,13 +4,13 @@ use Rattle.std.specs.Prelude.{not, ◌==◌, bytes_eq, find, Option, Some, unwra
 use Rattle.std.specs.List.{list_all}
 use Rattle.std.proofs.lemmas.Bool.{and_parts, cases_Bool}
 use Rattle.std.proofs.lemmas.List.Elements.{All-from_recursion}
-use Rattle.kql_values.specs.Named.{HasDistinctNames, column_name}
-use Rattle.kql_values.specs.Table.{Grid, RowFits}
-use Rattle.kql_values.specs.Values.{IsOfKind, IsWellFormed}
-use Rattle.kql_values.specs.declared.schema.Column.{Column}
-use Rattle.kql_values.specs.declared.value.Kind.{Kind}
-use Rattle.kql_values.specs.declared.value.Kind.TheVariants as kind
-use Rattle.kql_values.specs.declared.value.Value.{Value}
+use Rattle.kql_cells.specs.Named.{HasDistinctNames, column_name}
+use Rattle.kql_cells.specs.Table.{Grid, RowFits}
+use Rattle.kql_cells.specs.Values.{IsOfKind, IsWellFormed}
+use Rattle.kql_cells.specs.declared.schema.Column.{Column}
+use Rattle.kql_cells.specs.declared.value.Kind.{Kind}
+use Rattle.kql_cells.specs.declared.value.Kind.TheVariants as kind
+use Rattle.kql_cells.specs.declared.value.Value.{Value}
 use Rattle.kql_bound.specs.declared.expr.BExpr.TheVariants as V
 use Rattle.kql_bound.specs.declared.literal.Lit.{Lit}
 use Rattle.kql_bound.specs.declared.parts.BItem.{BItem}

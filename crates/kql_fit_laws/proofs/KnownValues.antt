@@ -2,14 +2,14 @@
 use Rattle.std.proofs.Common.{◌≡◌, ◌<◌, ℕ, zero, suc, Bool, true, List, [], ◌∷◌, length, refl, subst, arith, inl, inr}
 use Rattle.std.specs.Prelude.{find, IfSome, None, Option, Some, slice_index_or}
 use Rattle.std.proofs.lemmas.Bool.{and_parts, cases_Bool}
-use Rattle.kql_values.specs.Dynamic.{is_null}
-use Rattle.kql_values.specs.Table.{Grid}
-use Rattle.kql_values.specs.Values.{IsMoment, IsOfKind}
-use Rattle.kql_values.specs.declared.dynamic.Dyn.{Dyn}
-use Rattle.kql_values.specs.declared.schema.Column.{Column}
-use Rattle.kql_values.specs.declared.value.Kind.{Kind}
-use Rattle.kql_values.specs.declared.value.Kind.TheVariants as kind
-use Rattle.kql_values.specs.declared.value.Value.{Value}
+use Rattle.kql_cells.specs.Dynamic.{is_null}
+use Rattle.kql_cells.specs.Table.{Grid}
+use Rattle.kql_cells.specs.Values.{IsMoment, IsOfKind}
+use Rattle.kql_cells.specs.declared.dynamic.Dyn.{Dyn}
+use Rattle.kql_cells.specs.declared.schema.Column.{Column}
+use Rattle.kql_cells.specs.declared.value.Kind.{Kind}
+use Rattle.kql_cells.specs.declared.value.Kind.TheVariants as kind
+use Rattle.kql_cells.specs.declared.value.Value.{Value}
 use Rattle.kql_dynamic.specs.Json.{parsed, read_or_text}
 use Rattle.kql_dynamic.specs.Parts.{value_of}
 use Rattle.kql_functions.specs.Kinds.{same_kind}

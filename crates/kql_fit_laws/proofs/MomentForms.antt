@@ -5,7 +5,7 @@ use Rattle.std.specs.Char.{is_ascii_digit}
 use Rattle.std.proofs.lemmas.Bool.{cases_Bool, and_parts, and_from}
 use Rattle.std.proofs.lemmas.Bool.Decides.{nat_tests}
 use Rattle.std.proofs.lemmas.Int.{ints}
-use Rattle.kql_values.specs.Values.{IsMoment}
+use Rattle.kql_cells.specs.Values.{IsMoment}
 use Rattle.kql_ticks.specs.declared.part.Part.{Part}
 use Rattle.kql_ticks.specs.declared.part.Part.TheVariants as part
 use Rattle.kql_ticks.specs.Days.{IsDateOn, date_number, day_on, last_begun, month_on, year_on}

@@ -3,15 +3,15 @@ use Rattle.std.proofs.Common.{◌≡◌, ℕ, Bool, true, List, [], ◌∷◌, �
 use Rattle.std.specs.Prelude.{◌&&◌, IfSome, None, Option, Some, ℤ, option_map, slice_range, unwrap_or}
 use Rattle.std.proofs.lemmas.Bool.{and_parts}
 use Rattle.kql_ticks.specs.Forms.{span_in}
-use Rattle.kql_values.specs.Named.{HasDistinctNames, column_name}
-use Rattle.kql_values.specs.Ordered.{text_in}
-use Rattle.kql_values.specs.Table.{Grid, RowFits}
-use Rattle.kql_values.specs.Values.{IsMoment}
-use Rattle.kql_values.specs.declared.schema.Column.{Column}
-use Rattle.kql_values.specs.declared.value.Kind.{Kind}
-use Rattle.kql_values.specs.declared.value.Kind.TheVariants as kind
-use Rattle.kql_values.specs.declared.value.Value.{Value}
-use Rattle.kql_values.specs.declared.value.Value.TheVariants as value
+use Rattle.kql_cells.specs.Named.{HasDistinctNames, column_name}
+use Rattle.kql_cells.specs.Ordered.{text_in}
+use Rattle.kql_cells.specs.Table.{Grid, RowFits}
+use Rattle.kql_cells.specs.Values.{IsMoment}
+use Rattle.kql_cells.specs.declared.schema.Column.{Column}
+use Rattle.kql_cells.specs.declared.value.Kind.{Kind}
+use Rattle.kql_cells.specs.declared.value.Kind.TheVariants as kind
+use Rattle.kql_cells.specs.declared.value.Value.{Value}
+use Rattle.kql_cells.specs.declared.value.Value.TheVariants as value
 use Rattle.kql_scalar_fns.specs.Conversion.{moment_written}
 use Rattle.kql_scalar_fns.specs.Readings.{bool_written, long_written}
 use Rattle.kql_bound.specs.declared.parts.ParsePlan.{ParsePlan}

@@ -1,10 +1,10 @@
 -- What sources, plans and programs that fit give.
 use Rattle.std.proofs.Common.{◌≡◌, ℕ, zero, suc, false, List, [], ◌∷◌, ◌++◌, refl, sym, ◌∙◌, subst, inl, inr}
 use Rattle.std.specs.Prelude.{fold, None, Option, Some, option_and_then, option_map, slice_get, slice_index_or}
-use Rattle.kql_values.specs.Table.{Grid}
-use Rattle.kql_values.specs.declared.catalogue.Named.{Named}
-use Rattle.kql_values.specs.declared.catalogue.NamedSchema.{NamedSchema}
-use Rattle.kql_values.specs.declared.schema.Column.{Column}
+use Rattle.kql_cells.specs.Table.{Grid}
+use Rattle.kql_cells.specs.Catalogues.{Named}
+use Rattle.kql_cells.specs.declared.schemas.NamedSchema.{NamedSchema}
+use Rattle.kql_cells.specs.declared.schema.Column.{Column}
 use Rattle.kql_bound.specs.declared.plan.Op.{Op}
 use Rattle.kql_bound.specs.declared.plan.Plan.{Plan}
 use Rattle.kql_meaning.specs.Fits.{Known, known_of, let_after, lets_columns, of_columns, ops_columns, plan_columns, program_columns, source_columns}

@@ -5,14 +5,14 @@ use Rattle.std.specs.Int.{is_positive}
 use Rattle.std.proofs.Math.IntN.{pos-*ℤ-pos}
 use Rattle.std.proofs.lemmas.Bool.{and_parts}
 use Rattle.std.proofs.lemmas.Int.{ints}
-use Rattle.kql_values.specs.Named.{HasDistinctNames, column_name}
-use Rattle.kql_values.specs.Table.{RowFits}
-use Rattle.kql_values.specs.Values.{IsMoment, IsOfKind, IsWellFormed}
-use Rattle.kql_values.specs.declared.schema.Column.{Column}
-use Rattle.kql_values.specs.declared.value.Kind.{Kind}
-use Rattle.kql_values.specs.declared.value.Kind.TheVariants as kind
-use Rattle.kql_values.specs.declared.value.Value.{Value}
-use Rattle.kql_values.specs.declared.value.Value.TheVariants as value
+use Rattle.kql_cells.specs.Named.{HasDistinctNames, column_name}
+use Rattle.kql_cells.specs.Table.{RowFits}
+use Rattle.kql_cells.specs.Values.{IsMoment, IsOfKind, IsWellFormed}
+use Rattle.kql_cells.specs.declared.schema.Column.{Column}
+use Rattle.kql_cells.specs.declared.value.Kind.{Kind}
+use Rattle.kql_cells.specs.declared.value.Kind.TheVariants as kind
+use Rattle.kql_cells.specs.declared.value.Value.{Value}
+use Rattle.kql_cells.specs.declared.value.Value.TheVariants as value
 use Rattle.kql_functions.specs.Kinds.{same_kind}
 use Rattle.kql_bound.specs.declared.literal.Lit.{Lit}
 use Rattle.kql_meaning.specs.Fits.{source_columns}

@@ -20,10 +20,10 @@ use Rattle.kql_dynamic.specs.Parts.{value_of}
 use Rattle.kql_dynamic.proofs.BagLemmas.{ascends-bag_of, each-bag_of}
 use Rattle.kql_dynamic.proofs.FormLemmas.{text-form, value-form}
 use Rattle.kql_dynamic.proofs.JsonForms.{has-Array, has-Bag, levels-dyn_of}
-use Rattle.kql_values.proofs.FormSteps.{has_form-Bool, has_form-Long, has_form-Null, has_form-Text}
-use Rattle.kql_values.specs.Dynamic.{has_form, levels}
-use Rattle.kql_values.specs.Values.{IsWellFormed}
-use Rattle.kql_values.specs.declared.dynamic.Dyn.{Dyn}
+use Rattle.kql_cells.proofs.FormLaws.{has_form-Bool, has_form-Long, has_form-Null, has_form-Text}
+use Rattle.kql_cells.specs.Dynamic.{has_form, levels}
+use Rattle.kql_cells.specs.Values.{IsWellFormed}
+use Rattle.kql_cells.specs.declared.dynamic.Dyn.{Dyn}
 
 -- A member that is put is an entry that is put.
 entries-by : (o : Ordering) (a b c : Members) → entries_of (match_ordering o a b c) ≡ match_ordering o (entries_of a) (entries_of b) (entries_of c)

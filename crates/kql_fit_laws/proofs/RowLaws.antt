@@ -3,10 +3,10 @@ use Rattle.std.proofs.Common.{◌≡◌, ◌<◌, List, [], ◌∷◌, length, f
 use Rattle.std.specs.Prelude.{◌≢◌, codes, All, None, Option, Some, ℤ, pos}
 use Rattle.std.proofs.lemmas.List.Elements.{All-filter, All-from_recursion, All-take}
 use Rattle.std.proofs.lemmas.List.Sorted.{All-permutation}
-use Rattle.kql_values.specs.Named.{HasDistinctNames, column_name}
-use Rattle.kql_values.specs.Table.{CellFits, Grid, RowFits}
-use Rattle.kql_values.specs.declared.schema.Column.{Column}
-use Rattle.kql_values.specs.declared.value.Kind.TheVariants as kind
+use Rattle.kql_cells.specs.Named.{HasDistinctNames, column_name}
+use Rattle.kql_cells.specs.Table.{CellFits, Grid, RowFits}
+use Rattle.kql_cells.specs.declared.schema.Column.{Column}
+use Rattle.kql_cells.specs.declared.value.Kind.TheVariants as kind
 use Rattle.kql_bound.specs.declared.parts.BKey.{BKey}
 use Rattle.kql_bound.specs.declared.plan.Op.{Op, out-Op, the_lemmas}
 use Rattle.kql_bound.specs.declared.plan.Op.TheFolds.{map-Op}

@@ -6,12 +6,12 @@ use Rattle.std.proofs.lemmas.Bool.{and_from, and_parts, cases_Bool}
 use Rattle.std.proofs.lemmas.Bool.Decides.{nat_tests}
 use Rattle.std.proofs.lemmas.List.{length-take-le}
 use Rattle.std.proofs.lemmas.Slice.Eq.{bytes_eq-Decides}
-use Rattle.kql_values.specs.Named.{HasDistinctNames, column_name}
-use Rattle.kql_values.specs.Table.{Grid, RowFits}
-use Rattle.kql_values.specs.declared.schema.Column.{Column}
-use Rattle.kql_values.specs.declared.value.Kind.{Kind}
-use Rattle.kql_values.specs.declared.value.Kind.TheVariants as kind
-use Rattle.kql_values.specs.declared.value.Value.{Value}
+use Rattle.kql_cells.specs.Named.{HasDistinctNames, column_name}
+use Rattle.kql_cells.specs.Table.{Grid, RowFits}
+use Rattle.kql_cells.specs.declared.schema.Column.{Column}
+use Rattle.kql_cells.specs.declared.value.Kind.{Kind}
+use Rattle.kql_cells.specs.declared.value.Kind.TheVariants as kind
+use Rattle.kql_cells.specs.declared.value.Value.{Value}
 use Rattle.kql_dynamic.proofs.ArrayLemmas.{list_all-reverse}
 use Rattle.kql_functions.specs.Kinds.{same_kind}
 use Rattle.kql_bound.specs.declared.expr.BExpr.{BExpr}

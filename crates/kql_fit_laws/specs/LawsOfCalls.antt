@@ -1,8 +1,8 @@
 -- What calls of scalar functions give.
 use Rattle.std.specs.Prelude.{◌≡◌, List, Some}
-use Rattle.kql_values.specs.Values.{IsOfKind, IsWellFormed}
-use Rattle.kql_values.specs.declared.value.Kind.{Kind}
-use Rattle.kql_values.specs.declared.value.Value.{Value}
+use Rattle.kql_cells.specs.Values.{IsOfKind, IsWellFormed}
+use Rattle.kql_cells.specs.declared.value.Kind.{Kind}
+use Rattle.kql_cells.specs.declared.value.Value.{Value}
 use Rattle.kql_functions.specs.Kinds.{AreOfKinds, result_kind}
 use Rattle.kql_functions.specs.declared.func.Func.{Func}
 use Rattle.kql_scalar_fns.specs.Applied.{applied}

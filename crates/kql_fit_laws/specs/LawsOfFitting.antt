@@ -1,7 +1,7 @@
 -- What fitting promises of a whole program.
 use Rattle.std.specs.Prelude.{List, Contains, IsSomeAnd, IsTrue}
-use Rattle.kql_values.specs.Catalogues.{schemas_of}
-use Rattle.kql_values.specs.declared.catalogue.Named.{Named}
+use Rattle.kql_cells.specs.Catalogues.{schemas_of}
+use Rattle.kql_cells.specs.Catalogues.{Named}
 use Rattle.kql_bound.specs.declared.plan.Program.{Program}
 use Rattle.kql_meaning.specs.Fits.{fits, program_columns}
 use Rattle.kql_meaning.specs.Plans.{means}

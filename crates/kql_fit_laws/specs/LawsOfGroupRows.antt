@@ -1,6 +1,6 @@
 -- What `summarize` that fits gives.
 use Rattle.std.specs.Prelude.{◌<◌, ℕ, Bool, true, false, List, [], ◌∷◌, Contains, IsTrue, length}
-use Rattle.kql_values.specs.Table.{Grid, RowFits}
+use Rattle.kql_cells.specs.Table.{Grid, RowFits}
 use Rattle.kql_bound.specs.declared.expr.Aggregate.{Aggregate}
 use Rattle.kql_bound.specs.declared.expr.Aggregate.TheVariants as aggregate
 use Rattle.kql_bound.specs.declared.expr.BExpr.{BExpr}

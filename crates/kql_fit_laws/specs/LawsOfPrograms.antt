@@ -1,9 +1,9 @@
 -- What items, sources and plans that fit give, and so what a program that fits gives.
 use Rattle.std.specs.Prelude.{◌≡◌, ◌<◌, ℕ, List, [], ◌∷◌, ◌++◌, Some, Contains, IsTrue, length}
-use Rattle.kql_values.specs.Table.{Grid, RowFits}
-use Rattle.kql_values.specs.declared.catalogue.Named.{Named}
-use Rattle.kql_values.specs.declared.catalogue.NamedSchema.{NamedSchema}
-use Rattle.kql_values.specs.declared.schema.Column.{Column}
+use Rattle.kql_cells.specs.Table.{Grid, RowFits}
+use Rattle.kql_cells.specs.Catalogues.{Named}
+use Rattle.kql_cells.specs.declared.schemas.NamedSchema.{NamedSchema}
+use Rattle.kql_cells.specs.declared.schema.Column.{Column}
 use Rattle.kql_bound.specs.declared.expr.BExpr.TheVariants as expr
 use Rattle.kql_bound.specs.declared.literal.Lit.{Lit}
 use Rattle.kql_bound.specs.declared.parts.BItem.{BItem}

@@ -1,8 +1,8 @@
 -- Where an operator fits the columns of a table, it makes a table of the columns that it has, and the rows fit these.
 use Rattle.std.specs.Prelude.{◌≡◌, ℕ, Bool, List, Some, Contains}
-use Rattle.kql_values.specs.Named.{HasDistinctNames, column_name}
-use Rattle.kql_values.specs.Table.{Grid, IsGrid}
-use Rattle.kql_values.specs.declared.schema.Column.{Column}
+use Rattle.kql_cells.specs.Named.{HasDistinctNames, column_name}
+use Rattle.kql_cells.specs.Table.{Grid, IsGrid}
+use Rattle.kql_cells.specs.declared.schema.Column.{Column}
 use Rattle.kql_bound.specs.declared.expr.BExpr.{BExpr}
 use Rattle.kql_bound.specs.declared.parts.BKey.{BKey}
 use Rattle.kql_bound.specs.declared.parts.JoinPlan.{JoinPlan}

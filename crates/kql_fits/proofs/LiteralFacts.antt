@@ -4,11 +4,11 @@ use Rattle.std.specs.Bool.{Decides, one_answer}
 use Rattle.std.specs.Prelude.{◌≤ℤ◌, not, IsTrue}
 use Rattle.std.proofs.lemmas.Bool.{and_parts, and_from}
 use Rattle.kql_ticks.specs.Ranges.{is_moment}
-use Rattle.kql_values.specs.Dynamic.{is_null, is_well_formed_dynamic}
-use Rattle.kql_values.specs.Values.{IsMoment, IsOfKind, IsWellFormed}
-use Rattle.kql_values.specs.declared.value.Kind.{Kind}
-use Rattle.kql_values.specs.declared.value.Value.{Value}
-use Rattle.kql_values.specs.declared.value.Value.TheVariants as value
+use Rattle.kql_cells.specs.Dynamic.{is_null, is_well_formed_dynamic}
+use Rattle.kql_cells.specs.Values.{IsMoment, IsOfKind, IsWellFormed}
+use Rattle.kql_cells.specs.declared.value.Kind.{Kind}
+use Rattle.kql_cells.specs.declared.value.Value.{Value}
+use Rattle.kql_cells.specs.declared.value.Value.TheVariants as value
 use Rattle.kql_meaning.specs.Literals.{is_of_kind, is_well_formed}
 use Rattle.kql_meaning.specs.Values.{same_key}
 use Rattle.kql_meaning.proofs.KeyFacts.{same_key-decides}

@@ -8,7 +8,7 @@ use crate::literals::is_count;
 use crate::scope::{are_plain_columns, is_plain_column};
 use kql_bound::{Aggregate, BExpr};
 use kql_meaning::{Position, kind_of};
-use kql_values::{Column, Kind};
+use kql_cells::{Column, Kind};
 use std::alloc::{AllocError, Global};
 
 // Whether `make-series` takes an aggregate.

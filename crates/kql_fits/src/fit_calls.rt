@@ -10,7 +10,7 @@ use kql_bound::{BExpr, Link, Window};
 use kql_functions::{Func, TimeFunc};
 use kql_meaning::{Position, kind_along, kind_down, kind_of};
 use kql_scalar_fns::{field_named, period_named};
-use kql_values::Column;
+use kql_cells::Column;
 use std::alloc::{AllocError, Global};
 
 /// Whether columns may stand in a position outside an aggregate's arguments.

@@ -16,7 +16,7 @@ use kql_bound::{Aggregate, BExpr, Link, Window};
 use kql_columns::has_column;
 use kql_functions::Func;
 use kql_meaning::{Position, kind_of, kind_of_call};
-use kql_values::Kind;
+use kql_cells::Kind;
 use std::alloc::{AllocError, Global};
 
 /// Whether an expression fits a scope in a position, with one result column.

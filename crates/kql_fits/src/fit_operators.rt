@@ -18,7 +18,7 @@ use kql_bound::{
 use kql_columns::{has_column, is_name_among, result_kinds};
 use kql_items::Items;
 use kql_meaning::{Position, column_kind, kind_of};
-use kql_values::{Column, KText, Kind, Names, Value};
+use kql_cells::{Column, KText, Kind, Names, Value};
 use std::alloc::{AllocError, Global};
 
 // Columns of an answer.

@@ -29,7 +29,7 @@ use kql_columns::{
 };
 use kql_items::Items;
 use kql_meaning::{Position, column_kind};
-use kql_values::{Column, KText, NamedSchema};
+use kql_cells::{Column, KText, NamedSchema};
 use std::alloc::{AllocError, Global};
 
 // Sources.

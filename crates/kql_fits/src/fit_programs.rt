@@ -6,7 +6,7 @@ use crate::fit_plans::{plan_columns, table_columns};
 use crate::kind_tests::same_kind;
 use kql_bound::{Plan, Program};
 use kql_items::Items;
-use kql_values::{Column, NamedSchema, Schemas};
+use kql_cells::{Column, NamedSchema, Schemas};
 use std::alloc::{AllocError, Global};
 
 /// Whether a program fits these schemas: its tables stand there with exactly its columns, and each operator fits the columns of the

@@ -16,7 +16,7 @@ use kql_bound::{BExpr, BItem, Decl, ScanPlan, ScanStep};
 use kql_columns::{clone_columns, declared_columns};
 use kql_items::Items;
 use kql_meaning::{Position, column_kind, kind_of};
-use kql_values::{Column, KText, Kind, Names, Value, Values};
+use kql_cells::{Column, KText, Kind, Names, Value, Values};
 use std::alloc::{AllocError, Global};
 
 // Copies of names and values.
@@ -80,7 +80,7 @@ fn absent_row(alloc: Global, columns: &[Column]) -> Result<Values, AllocError>
 fn copy_value(alloc: Global, value: &Value) -> Result<Value, AllocError>
     ensures same { IfOk result (λ v. v ≡ value.now) }
 {
-    kql_values::clone_value(alloc, value)
+    kql_cells::clone_value(alloc, value)
 }
 
 #[tactic(auto, unfolding(kql_meaning::specs::Scan::defaults_of))]

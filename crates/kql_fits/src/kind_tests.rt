@@ -3,7 +3,7 @@ ghost use Rattle.kql_functions.specs.Kinds.{has_order, same_kind};
 ghost use Rattle.kql_meaning.specs.FittingExpressions.{has_kind, is_addable, is_key, is_kind, same_known};
 ghost use Rattle.kql_fits.specs.KindTests.{meets};
 
-use kql_values::Kind;
+use kql_cells::Kind;
 
 /// What is asked of a type.
 #[derive(Clone, Copy, Debug, PartialEq, Eq)]

@@ -6,7 +6,7 @@ ghost use Rattle.kql_meaning.specs.Literals.{is_of_kind, is_well_formed, literal
 
 use crate::kind_tests::{is_kind, same_kind};
 use kql_bound::{BExpr, Lit};
-use kql_values::{Kind, Value};
+use kql_cells::{Kind, Value};
 
 /// Whether a literal is well formed, and null or of the type beside it.
 #[tactic(auto, unfolding(kql_meaning::specs::Literals::literal_fits))]
@@ -25,7 +25,7 @@ fn is_of_kind(kind: Kind, value: &Value) -> bool
 fn is_well_formed(value: &Value) -> bool
     ensures form { result ≡ is_well_formed value.now }
 {
-    kql_values::is_well_formed(value)
+    kql_cells::is_well_formed(value)
 }
 
 // The literal that an expression is.

@@ -8,7 +8,7 @@ use crate::kind_tests::same_kind;
 use crate::literals::literal_fits;
 use kql_bound::{BExpr, StepColumn};
 use kql_columns::has_column;
-use kql_values::{Column, KText, Kind, Value};
+use kql_cells::{Column, KText, Kind, Value};
 use std::marker::Model;
 
 /// What an expression may read: columns, and in scan the steps by name with what each column of an absent record gives.
@@ -22,7 +22,7 @@ pub(crate) struct Scope<'a> {
 impl<'a> Model for Scope<'a> {
     ghost use Rattle.kql_meaning.specs.FittingExpressions.{Scope as ScopeSeen};
     ghost use Rattle.std.specs.Coded.{codes};
-    ghost use Rattle.kql_values.specs.contracts.dynamic.Dyn as dynamic;
+    ghost use Rattle.kql_cells.specs.contracts.dynamic.Dyn as dynamic;
 
     ghost Value = { ScopeSeen };
 
@@ -131,5 +131,5 @@ fn is_this_value(values: &[Value], at: usize, value: &Value) -> bool
 fn same_key(a: &Value, b: &Value) -> bool
     ensures same { result ≡ same_key a.now b.now }
 {
-    kql_values::same_key(a, b)
+    kql_cells::same_key(a, b)
 }

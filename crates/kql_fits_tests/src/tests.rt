@@ -3,7 +3,7 @@ use kql_bound::{BExpr, BItem, ChainSign, Items, Link, Lit, Op, Plan, Program, So
 use kql_fits::fits;
 use kql_functions::{ComparisonFunc, Func};
 use kql_items::{Boxed, Items as List};
-use kql_values::{Column, KText, Kind, NamedSchema, Schema, Schemas, Value};
+use kql_cells::{Column, KText, Kind, NamedSchema, Schema, Schemas, Value};
 use std::alloc::{AllocError, Global};
 use std::test::Fail;
 

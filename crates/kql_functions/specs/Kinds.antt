@@ -2,10 +2,10 @@
 use Rattle.std.specs.Prelude.{ℕ, ◌&&◌, Bool, true, false, nat_le, List, [], ◌∷◌, length, Option, None, Some, if◌then◌else◌}
 use Rattle.std.specs.List.{list_all}
 use Rattle.std.specs.Option.{option_or}
-use Rattle.kql_values.specs.Values.{IsOfKind}
-use Rattle.kql_values.specs.declared.value.Kind.{Kind}
-use Rattle.kql_values.specs.declared.value.Kind.TheVariants as kind
-use Rattle.kql_values.specs.declared.value.Value.{Value}
+use Rattle.kql_cells.specs.Values.{IsOfKind}
+use Rattle.kql_cells.specs.declared.value.Kind.{Kind}
+use Rattle.kql_cells.specs.declared.value.Kind.TheVariants as kind
+use Rattle.kql_cells.specs.declared.value.Value.{Value}
 use Rattle.kql_functions.specs.declared.func.ArithmeticFunc.{ArithmeticFunc}
 use Rattle.kql_functions.specs.declared.func.ArithmeticFunc.TheVariants as arithmetic
 use Rattle.kql_functions.specs.declared.func.ComparisonFunc.{ComparisonFunc}

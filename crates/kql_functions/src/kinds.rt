@@ -9,7 +9,7 @@ use crate::shapes::{
     behind_text, beside_dynamic, either, one_among, one_of_any, one_of_cases, one_of_pairs,
     one_of_two, row, several, several_of, two_equal, two_or_more, two_or_more_ordered, two_ordered,
 };
-use kql_values::Kind;
+use kql_cells::Kind;
 
 /// The type that a function gives for arguments of these types, or none where it does not take them.
 ///

@@ -2,7 +2,7 @@
 ghost use Rattle.std.specs.Prelude.{◌≡◌};
 ghost use Rattle.kql_functions.specs.Kinds.{all_same, are_pairs, behind_text, beside_dynamic, cases_of, either, has_order, is_dynamic, one_among, one_of_any, one_of_cases, one_of_pairs, one_of_two, row, same_kind, same_kinds, several, several_of, two_equal, two_or_more, two_or_more_ordered, two_ordered};
 
-use kql_values::Kind;
+use kql_cells::Kind;
 
 fn same_kind(a: Kind, b: Kind) -> bool
     ensures { result ≡ same_kind a b }

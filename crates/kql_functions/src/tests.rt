@@ -1,6 +1,6 @@
 use super::*;
 use kql_texts::Fold;
-use kql_values::Kind;
+use kql_cells::Kind;
 use std::alloc::{AllocError, Global};
 use std::test::Fail;
 

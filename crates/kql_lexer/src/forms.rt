@@ -7,7 +7,7 @@ ghost use Rattle.kql_lexer.specs.Strings.{between};
 
 use crate::strings::{halve, unescape};
 use crate::token::{Shape, TokenForm};
-use kql_values::KText;
+use kql_cells::KText;
 use std::alloc::{AllocError, Global};
 use std::str::from_utf8;
 

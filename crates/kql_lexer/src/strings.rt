@@ -9,7 +9,7 @@ ghost use Rattle.kql_lexer.specs.Strings.{escape, halved, in_either, in_string, 
 
 use crate::classes::is_quote;
 use crate::token::{Front, Shape};
-use kql_values::KText;
+use kql_cells::KText;
 use std::alloc::{AllocError, Global};
 
 /// How some of a string's bytes leave it.

@@ -8,8 +8,8 @@ use Rattle.std.specs.declared.cmp.Ordering.TheVariants.{Less, Equal, Greater}
 use Rattle.std.proofs.lemmas.Bool.{cases_Bool}
 use Rattle.std.proofs.lemmas.Cmp.{int_cmp_total}
 use Rattle.std.proofs.lemmas.List.Sums.{fails_before_first, passes_at_first}
-use Rattle.kql_values.specs.declared.value.Value.{Value}
-use Rattle.kql_values.specs.declared.value.Value.TheVariants as value
+use Rattle.kql_cells.specs.declared.value.Value.{Value}
+use Rattle.kql_cells.specs.declared.value.Value.TheVariants as value
 use Rattle.kql_scalar_fns.specs.Choice.{greater, greatest, is_below, is_null, least, lesser}
 use Rattle.kql_scalar_fns.specs.Comparison.{order}
 use Rattle.kql_meaning.specs.Aggregates.{greatest_row, least_row, row_of}

@@ -3,8 +3,8 @@
 use Rattle.std.proofs.Common.{◌≡◌, ℕ, List, [], ◌∷◌, ◌++◌, refl, ap}
 use Rattle.std.specs.Prelude.{codes, Option, Some, None, if◌then◌else◌}
 use Rattle.kql_texts.specs.Texts.{begins, holds}
-use Rattle.kql_values.specs.Table.{Grid}
-use Rattle.kql_values.specs.declared.value.Value.{Value}
+use Rattle.kql_cells.specs.Table.{Grid}
+use Rattle.kql_cells.specs.declared.value.Value.{Value}
 use Rattle.kql_scalar_fns.specs.Applied.{applied}
 use Rattle.kql_scalar_fns.specs.Arguments.{argument}
 use Rattle.kql_scalar_fns.specs.Logic.{truth}

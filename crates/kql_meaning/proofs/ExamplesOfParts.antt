@@ -2,18 +2,18 @@
 use Rattle.std.proofs.Common.{◌≡◌, ◌∙◌, ℕ, Bool, true, false, List, [], ◌∷◌, ◌++◌, length, map, refl, ap, rules}
 use Rattle.std.specs.Prelude.{codes, pos, ℤ, Some, ◌==◌, if◌then◌else◌}
 use mathlib.Core.Path.{fun_ext}
-use Rattle.kql_values.specs.Table.{Grid}
-use Rattle.kql_values.specs.declared.dynamic.Dyn.{Dyn, the_lemmas}
+use Rattle.kql_cells.specs.Table.{Grid}
+use Rattle.kql_cells.specs.declared.dynamic.Dyn.{Dyn, the_lemmas}
 use Rattle.kql_dynamic.specs.Arrays.{array}
 use Rattle.kql_dynamic.specs.Parts.{value_of}
 use Rattle.kql_scalar_fns.specs.Conversion.{long_held, one_if, to_long}
 use Rattle.kql_scalar_fns.specs.Dynamic.{element}
 use Rattle.kql_scalar_fns.specs.Readings.{long_written}
-use Rattle.kql_values.specs.declared.dynamic.Dyn.TheVariants as dyn
-use Rattle.kql_values.specs.declared.schema.Column.{Column}
-use Rattle.kql_values.specs.declared.value.Kind.TheVariants as kind
-use Rattle.kql_values.specs.declared.value.Value.{Value}
-use Rattle.kql_values.specs.declared.value.Value.TheVariants as value
+use Rattle.kql_cells.specs.declared.dynamic.Dyn.TheVariants as dyn
+use Rattle.kql_cells.specs.declared.schema.Column.{Column}
+use Rattle.kql_cells.specs.declared.value.Kind.TheVariants as kind
+use Rattle.kql_cells.specs.declared.value.Value.{Value}
+use Rattle.kql_cells.specs.declared.value.Value.TheVariants as value
 use Rattle.kql_ticks.specs.Ranges.{fit}
 use Rattle.kql_bound.specs.declared.expr.Aggregate.TheVariants as aggregate
 use Rattle.kql_bound.specs.declared.parts.SeriesPlan.{SeriesPlan}

@@ -2,9 +2,9 @@
 use Rattle.std.proofs.Common.{◌≡◌, ℕ, false, List, [], ◌∷◌, refl, ap}
 use Rattle.std.specs.Prelude.{codes, Option, Some, None}
 use Rattle.kql_texts.specs.Texts.{begins, holds}
-use Rattle.kql_values.specs.Table.{Grid}
-use Rattle.kql_values.specs.declared.value.Kind.TheVariants as kind
-use Rattle.kql_values.specs.declared.value.Value.{Value}
+use Rattle.kql_cells.specs.Table.{Grid}
+use Rattle.kql_cells.specs.declared.value.Kind.TheVariants as kind
+use Rattle.kql_cells.specs.declared.value.Value.{Value}
 use Rattle.kql_functions.specs.declared.func.Func.TheVariants as func
 use Rattle.kql_functions.specs.declared.func.SearchPlace.TheVariants as place
 use Rattle.kql_texts.specs.declared.folding.Fold.TheVariants as fold_of

@@ -4,16 +4,16 @@ use Rattle.std.specs.Prelude.{codes, negsuc, slice_index_or, unwrap_or}
 use mathlib.Core.Path.{fun_ext}
 use Rattle.kql_texts.specs.Texts.{same}
 use Rattle.kql_ticks.specs.Ranges.{fit}
-use Rattle.kql_values.specs.Table.{Grid, gathered}
-use Rattle.kql_values.specs.declared.schema.Column.{Column}
-use Rattle.kql_values.specs.declared.value.Kind.{Kind}
-use Rattle.kql_values.specs.declared.value.Value.{Value}
+use Rattle.kql_cells.specs.Table.{Grid, gathered}
+use Rattle.kql_cells.specs.declared.schema.Column.{Column}
+use Rattle.kql_cells.specs.declared.value.Kind.{Kind}
+use Rattle.kql_cells.specs.declared.value.Value.{Value}
 use Rattle.kql_scalar_fns.specs.Applied.{applied}
 use Rattle.kql_scalar_fns.specs.Arguments.{argument}
 use Rattle.kql_scalar_fns.specs.Choice.{greater, greatest, is_null}
 use Rattle.kql_scalar_fns.specs.Comparison.{comparison, equality, order}
 use Rattle.kql_scalar_fns.specs.Logic.{truth}
-use Rattle.kql_values.specs.declared.value.Kind.TheVariants as kind
+use Rattle.kql_cells.specs.declared.value.Kind.TheVariants as kind
 use Rattle.kql_functions.specs.declared.func.ComparisonFunc.TheVariants as comparison_word
 use Rattle.kql_functions.specs.declared.func.Func.TheVariants as func
 use Rattle.kql_bound.specs.declared.expr.BExpr.{BExpr, the_lemmas}
@@ -23,7 +23,7 @@ use Rattle.kql_bound.specs.declared.expr.Aggregate.TheVariants as aggregate
 use Rattle.kql_bound.specs.declared.expr.Window.{Window}
 use Rattle.kql_bound.specs.declared.expr.Window.TheVariants as window
 use Rattle.kql_bound.specs.declared.parts.BItem.{BItem}
-use Rattle.kql_values.specs.declared.value.Value.TheVariants as value
+use Rattle.kql_cells.specs.declared.value.Value.TheVariants as value
 use Rattle.kql_meaning.specs.Aggregates.{aggregated, all_values, greatest_row, row_of}
 use Rattle.kql_meaning.specs.Groups.{distinct_keys, group_of, key_by}
 use Rattle.kql_meaning.specs.Summarize.{group_row, group_rows}

@@ -5,7 +5,7 @@ use Rattle.std.specs.Bool.{Decides}
 use Rattle.std.specs.List.{AllByRecursion, list_any, range_with_len}
 use Rattle.std.proofs.Math.Nat.{eq-or-lt_of_le}
 use Rattle.std.proofs.lemmas.Bool.{cases_Bool}
-use Rattle.kql_values.specs.declared.value.Value.{Value}
+use Rattle.kql_cells.specs.declared.value.Value.{Value}
 use Rattle.kql_meaning.specs.Groups.{distinct_keys, group_of, is_first_of_key}
 use Rattle.kql_meaning.specs.LawsOfGroups.{GroupHasItsRows, GroupIsOfPlaces, GroupKeepsOrder, KeysAreOfRows, KeysByFirstRow, KeysDiffer, RowInOneGroup, RunBegins}
 use Rattle.kql_meaning.specs.Tables.{distinct_by, places, places_below}

@@ -6,9 +6,9 @@ use Rattle.std.specs.Prelude.{bytes_eq, ℤ}
 use Rattle.std.proofs.lemmas.Bool.{and_parts, and_from}
 use Rattle.std.proofs.lemmas.Bool.Decides.{Decides-int_eq}
 use Rattle.std.proofs.lemmas.Slice.Eq.{bytes_eq-Decides}
-use Rattle.kql_values.specs.declared.value.Value.{Value}
-use Rattle.kql_values.specs.declared.value.Value.TheVariants as value
-use Rattle.kql_dynamic.specs.Same.{same-decides}
+use Rattle.kql_cells.specs.declared.value.Value.{Value}
+use Rattle.kql_cells.specs.declared.value.Value.TheVariants as value
+use Rattle.kql_cells.specs.Same.{same-decides}
 use Rattle.kql_scalar_fns.specs.Comparison.{same_bools}
 use Rattle.kql_meaning.specs.Values.{same_key, same_keys}
 

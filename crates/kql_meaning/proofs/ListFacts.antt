@@ -2,9 +2,9 @@
 use Rattle.std.proofs.Common.{◌≡◌, ◌<◌, ◌≤◌, ◌+◌, ℕ, zero, suc, Bool, true, false, not, List, [], ◌∷◌, map, length, filter, refl, ap, ap₂, ◌∙◌, arith, inl, inr}
 use Rattle.std.specs.List.{AllByRecursion, flat_map, range_with_len}
 use Rattle.std.proofs.lemmas.Bool.{cases_Bool}
-use Rattle.kql_values.specs.Seen.{row_at}
-use Rattle.kql_values.specs.Table.{Grid, gathered}
-use Rattle.kql_values.specs.declared.value.Value.{Value}
+use Rattle.kql_cells.specs.Seen.{row_at}
+use Rattle.kql_cells.specs.Table.{Grid, gathered}
+use Rattle.kql_cells.specs.declared.value.Value.{Value}
 use Rattle.kql_meaning.specs.Tables.{distinct_by, places, places_below}
 
 -- What holds of each element holds of each that is kept.

@@ -1,11 +1,11 @@
 -- The tests of a literal's type say what the facts of values say.
 use Rattle.std.proofs.Common.{refl}
 use Rattle.std.specs.Bool.{Decides}
-use Rattle.kql_values.specs.Values.{IsOfKind}
-use Rattle.kql_values.specs.declared.value.Kind.{Kind}
-use Rattle.kql_values.specs.declared.value.Kind.TheVariants as kind
-use Rattle.kql_values.specs.declared.value.Value.{Value}
-use Rattle.kql_values.specs.declared.value.Value.TheVariants as value
+use Rattle.kql_cells.specs.Values.{IsOfKind}
+use Rattle.kql_cells.specs.declared.value.Kind.{Kind}
+use Rattle.kql_cells.specs.declared.value.Kind.TheVariants as kind
+use Rattle.kql_cells.specs.declared.value.Value.{Value}
+use Rattle.kql_cells.specs.declared.value.Value.TheVariants as value
 use Rattle.kql_meaning.specs.Literals.{is_of_kind}
 
 pub is_of_kind-decides : (k : Kind) (v : Value) → Decides (is_of_kind k v) (IsOfKind k v)

@@ -8,7 +8,7 @@ use Rattle.std.proofs.lemmas.Fmt.{decimal_injective}
 use Rattle.std.proofs.lemmas.List.{append_cancel_left, length-append, length-map, map-append}
 use Rattle.std.proofs.lemmas.List.FromFn.{length-map-range_with_len}
 use Rattle.std.proofs.lemmas.Slice.Eq.{bytes_eq-Decides}
-use Rattle.kql_values.specs.declared.schema.Column.{Column}
+use Rattle.kql_cells.specs.declared.schema.Column.{Column}
 use Rattle.kql_bound.specs.declared.parts.JoinPlan.{JoinPlan}
 use Rattle.kql_bound.specs.declared.parts.OnPair.{OnPair}
 use Rattle.kql_meaning.specs.Items.{without}

@@ -1,14 +1,14 @@
 -- The aggregates over no rows.
 use Rattle.std.proofs.Common.{◌≡◌, ◌≤◌, ℕ, zero, suc, List, [], ◌∷◌, length, refl, ap, ◌∙◌, arith}
 use Rattle.std.specs.Prelude.{Option, Some, None, slice_get, take, slice_index_or}
-use Rattle.kql_values.specs.Seen.{row_at}
-use Rattle.kql_values.specs.Table.{Grid}
-use Rattle.kql_values.specs.declared.dynamic.Dyn.TheVariants as dyn
-use Rattle.kql_values.specs.declared.value.Kind.{Kind}
-use Rattle.kql_values.specs.declared.value.Kind.TheVariants as kind
-use Rattle.kql_values.specs.declared.value.Value.{Value}
-use Rattle.kql_values.specs.declared.value.Value.TheVariants as value
-use Rattle.kql_values.proofs.LevelSteps.{levels-Array}
+use Rattle.kql_cells.specs.Seen.{row_at}
+use Rattle.kql_cells.specs.Table.{Grid}
+use Rattle.kql_cells.specs.declared.dynamic.Dyn.TheVariants as dyn
+use Rattle.kql_cells.specs.declared.value.Kind.{Kind}
+use Rattle.kql_cells.specs.declared.value.Kind.TheVariants as kind
+use Rattle.kql_cells.specs.declared.value.Value.{Value}
+use Rattle.kql_cells.specs.declared.value.Value.TheVariants as value
+use Rattle.kql_cells.proofs.LevelLaws.{levels-Array}
 use Rattle.kql_dynamic.proofs.FormLemmas.{null-Array}
 use Rattle.kql_ticks.specs.Ranges.{fit}
 use Rattle.kql_scalar_fns.specs.Choice.{greatest, least}

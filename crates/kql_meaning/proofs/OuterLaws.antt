@@ -5,9 +5,9 @@ use Rattle.std.specs.List.{flat_map, range_with_len}
 use Rattle.std.proofs.lemmas.Bool.{cases_Bool}
 use Rattle.std.proofs.lemmas.List.{map-append}
 use Rattle.std.proofs.lemmas.List.Sorted.{IsPermutation-cons, IsPermutation-middle, IsPermutation-refl, IsPermutation-trans}
-use Rattle.kql_values.specs.Seen.{row_at}
-use Rattle.kql_values.specs.Table.{Grid}
-use Rattle.kql_values.specs.declared.value.Value.{Value}
+use Rattle.kql_cells.specs.Seen.{row_at}
+use Rattle.kql_cells.specs.Table.{Grid}
+use Rattle.kql_cells.specs.declared.value.Value.{Value}
 use Rattle.kql_bound.specs.declared.parts.JoinKind.TheVariants as join
 use Rattle.kql_bound.specs.declared.parts.JoinPlan.{JoinPlan}
 use Rattle.kql_meaning.specs.Join.{both_rows, has_left, has_right, join_rows, matches_left, pairs_of_right, right_alone, right_outer_rows, rows_match, unmatched_right_rows}

@@ -1,7 +1,7 @@
 -- The equations of `op_means`, `plan_means` and their columns: a plan is its source and then its operators, one after another.
 use Rattle.std.proofs.Common.{◌≡◌, List, [], ◌∷◌, map, refl, ap, ◌∙◌}
 use Rattle.std.specs.Prelude.{fold}
-use Rattle.kql_values.specs.Table.{Grid}
+use Rattle.kql_cells.specs.Table.{Grid}
 use Rattle.kql_bound.specs.declared.plan.Op.{Op, out-Op, fold_out-Op}
 use Rattle.kql_bound.specs.declared.plan.Op.TheFolds.{map-Op}
 use Rattle.kql_bound.specs.declared.plan.Plan.{Plan, fold_out-Plan}

@@ -4,8 +4,8 @@ use Rattle.std.specs.Prelude.{Option, None, Some, fold}
 use Rattle.std.specs.List.{range_with_len}
 use Rattle.std.proofs.lemmas.List.{length-map}
 use Rattle.std.proofs.lemmas.List.FromFn.{map-range_with_len_more}
-use Rattle.kql_values.specs.Table.{Grid}
-use Rattle.kql_values.specs.declared.value.Value.{Value}
+use Rattle.kql_cells.specs.Table.{Grid}
+use Rattle.kql_cells.specs.declared.value.Value.{Value}
 use Rattle.kql_bound.specs.declared.parts.Decl.{Decl}
 use Rattle.kql_bound.specs.declared.parts.Output.TheVariants as output
 use Rattle.kql_bound.specs.declared.parts.ScanPlan.{ScanPlan}

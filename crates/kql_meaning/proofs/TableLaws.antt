@@ -8,8 +8,8 @@ use Rattle.std.proofs.lemmas.List.{length-append}
 use Rattle.std.proofs.lemmas.List.FromFn.{length-map-range_with_len}
 use Rattle.std.proofs.lemmas.List.Sums.{sum_by-cons}
 use Rattle.std.proofs.lemmas.Slice.Eq.{bytes_eq-Decides}
-use Rattle.kql_values.specs.Table.{Grid}
-use Rattle.kql_values.specs.declared.schema.Column.{Column}
+use Rattle.kql_cells.specs.Table.{Grid}
+use Rattle.kql_cells.specs.declared.schema.Column.{Column}
 use Rattle.kql_bound.specs.declared.parts.ExpandItem.{ExpandItem}
 use Rattle.kql_meaning.specs.LawsOfTables.{ExpandCounts, RowsGivenAreLongest, UnionHasAllRows, UnionHasEachColumn, UnionHasNoOther, UnionNamesDiffer}
 use Rattle.kql_meaning.specs.MvExpand.{expand_table, expanded_row, item_parts, rows_given}

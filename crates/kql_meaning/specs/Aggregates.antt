@@ -2,8 +2,8 @@
 use Rattle.std.specs.Prelude.{ℕ, not, List, Option, None, Some, map, filter, filter_map, take, slice_get, ℤ}
 use Rattle.std.specs.List.{position_or_len, reduce}
 use Rattle.std.specs.Int.{int_bit_and, int_bit_or, int_bit_xor, w64}
-use Rattle.kql_values.specs.Table.{Grid}
-use Rattle.kql_values.specs.declared.value.Value.{Value}
+use Rattle.kql_cells.specs.Table.{Grid}
+use Rattle.kql_cells.specs.declared.value.Value.{Value}
 use Rattle.kql_dynamic.specs.Arrays.{pack_array}
 use Rattle.kql_scalar_fns.specs.Arguments.{long_or_null}
 use Rattle.kql_scalar_fns.specs.Choice.{greatest, is_null, least}

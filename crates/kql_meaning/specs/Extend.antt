@@ -1,8 +1,8 @@
 -- `extend`: every item is computed over the input row; the items' columns are added at the end in order, and an input column of
 -- an item's name is removed. `serialize` with items is the same.
 use Rattle.std.specs.Prelude.{◌++◌, List, map}
-use Rattle.kql_values.specs.Table.{Grid}
-use Rattle.kql_values.specs.declared.schema.Column.{Column}
+use Rattle.kql_cells.specs.Table.{Grid}
+use Rattle.kql_cells.specs.declared.schema.Column.{Column}
 use Rattle.kql_bound.specs.declared.parts.BItem.{BItem}
 use Rattle.kql_meaning.specs.Items.{cells_in, items_columns, items_names, items_values, without}
 use Rattle.kql_meaning.specs.Tables.{places}

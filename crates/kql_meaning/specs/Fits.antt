@@ -2,9 +2,9 @@
 -- the columns of the table before it.
 use Rattle.std.specs.Prelude.{ℕ, Bool, true, false, ◌&&◌, List, [], ◌∷◌, ◌++◌, Option, None, Some, bytes_eq, find, fold, is_some, map, option_and_then, option_map, slice_get, if◌then◌else◌}
 use Rattle.std.specs.List.{list_all}
-use Rattle.kql_values.specs.Catalogues.{schema_name}
-use Rattle.kql_values.specs.declared.catalogue.NamedSchema.{NamedSchema}
-use Rattle.kql_values.specs.declared.schema.Column.{Column}
+use Rattle.kql_cells.specs.Catalogues.{schema_name}
+use Rattle.kql_cells.specs.declared.schemas.NamedSchema.{NamedSchema}
+use Rattle.kql_cells.specs.declared.schema.Column.{Column}
 use Rattle.kql_functions.specs.Kinds.{same_kind}
 use Rattle.kql_bound.specs.declared.parts.JoinPlan.{JoinPlan}
 use Rattle.kql_bound.specs.declared.plan.Op.{Op, fold-Op}

@@ -2,9 +2,9 @@
 use Rattle.std.specs.Prelude.{ℕ, ◌==◌, nat_le, Bool, true, false, not, ◌&&◌, ◌||◌, List, [], ◌∷◌, ◌++◌, Option, None, Some, is_some, length, map, if◌then◌else◌, ℤ, pos, ◌-ℤ◌}
 use Rattle.std.specs.Int.{is_positive}
 use Rattle.std.specs.List.{list_all}
-use Rattle.kql_values.specs.declared.schema.Column.{Column}
-use Rattle.kql_values.specs.declared.value.Kind.{Kind}
-use Rattle.kql_values.specs.declared.value.Kind.TheVariants as kind
+use Rattle.kql_cells.specs.declared.schema.Column.{Column}
+use Rattle.kql_cells.specs.declared.value.Kind.{Kind}
+use Rattle.kql_cells.specs.declared.value.Kind.TheVariants as kind
 use Rattle.kql_functions.specs.Kinds.{same_kind}
 use Rattle.kql_bound.specs.declared.expr.BExpr.{BExpr}
 use Rattle.kql_bound.specs.declared.literal.Lit.{Lit}

@@ -1,8 +1,8 @@
 -- Groups of rows: the rows with the same key, keys in order of first occurrence. A null is a key like another.
 use Rattle.std.specs.Prelude.{ℕ, Bool, not, List, [], filter, map}
 use Rattle.std.specs.List.{list_any}
-use Rattle.kql_values.specs.Table.{Grid, gathered}
-use Rattle.kql_values.specs.declared.value.Value.{Value}
+use Rattle.kql_cells.specs.Table.{Grid, gathered}
+use Rattle.kql_cells.specs.declared.value.Value.{Value}
 use Rattle.kql_bound.specs.declared.parts.BItem.{BItem}
 use Rattle.kql_meaning.specs.Expressions.{val}
 use Rattle.kql_meaning.specs.Tables.{distinct_by, places, places_below}

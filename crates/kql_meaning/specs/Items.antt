@@ -1,11 +1,11 @@
 -- Items: expressions with the names of the columns that they give.
 use Rattle.std.specs.Prelude.{ℕ, not, List, [], ◌∷◌, drop, filter, map, unwrap_or}
 use Rattle.std.specs.List.{flat_map}
-use Rattle.kql_values.specs.Table.{Grid}
-use Rattle.kql_values.specs.declared.schema.Column.{Column}
-use Rattle.kql_values.specs.declared.value.Kind.{Kind}
-use Rattle.kql_values.specs.declared.value.Kind.TheVariants as kind
-use Rattle.kql_values.specs.declared.value.Value.{Value}
+use Rattle.kql_cells.specs.Table.{Grid}
+use Rattle.kql_cells.specs.declared.schema.Column.{Column}
+use Rattle.kql_cells.specs.declared.value.Kind.{Kind}
+use Rattle.kql_cells.specs.declared.value.Kind.TheVariants as kind
+use Rattle.kql_cells.specs.declared.value.Value.{Value}
 use Rattle.kql_bound.specs.declared.expr.Aggregate.{Aggregate}
 use Rattle.kql_bound.specs.declared.expr.Aggregate.TheVariants as aggregate
 use Rattle.kql_bound.specs.declared.expr.BExpr.{BExpr, out-BExpr}

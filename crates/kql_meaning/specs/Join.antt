@@ -2,10 +2,10 @@
 -- match, in an order of its own.
 use Rattle.std.specs.Prelude.{ℕ, suc, Bool, not, ◌&&◌, List, [], ◌∷◌, ◌++◌, decimal, filter, find, length, map, unwrap_or, if◌then◌else◌}
 use Rattle.std.specs.List.{flat_map, list_all, list_any, range_with_len}
-use Rattle.kql_values.specs.Seen.{row_at}
-use Rattle.kql_values.specs.Table.{Grid}
-use Rattle.kql_values.specs.declared.schema.Column.{Column}
-use Rattle.kql_values.specs.declared.value.Value.{Value}
+use Rattle.kql_cells.specs.Seen.{row_at}
+use Rattle.kql_cells.specs.Table.{Grid}
+use Rattle.kql_cells.specs.declared.schema.Column.{Column}
+use Rattle.kql_cells.specs.declared.value.Value.{Value}
 use Rattle.kql_scalar_fns.specs.Choice.{is_null}
 use Rattle.kql_bound.specs.declared.parts.JoinKind.{JoinKind}
 use Rattle.kql_bound.specs.declared.parts.JoinKind.TheVariants as join

@@ -5,11 +5,11 @@ use Rattle.std.specs.List.{flat_map}
 use Rattle.std.specs.Ordering.{is_le, nat_cmp}
 use Rattle.std.specs.declared.cmp.Ordering.{Ordering}
 use Rattle.std.specs.declared.cmp.Ordering.TheVariants.{Less, Equal, Greater}
-use Rattle.kql_values.specs.Ordered.{value_cmp}
-use Rattle.kql_values.specs.Table.{Grid, gathered}
-use Rattle.kql_values.specs.declared.schema.Column.{Column}
-use Rattle.kql_values.specs.declared.value.Value.{Value}
-use Rattle.kql_values.specs.declared.value.Value.TheVariants as value
+use Rattle.kql_cells.specs.Ordered.{value_cmp}
+use Rattle.kql_cells.specs.Table.{Grid, gathered}
+use Rattle.kql_cells.specs.declared.schema.Column.{Column}
+use Rattle.kql_cells.specs.declared.value.Value.{Value}
+use Rattle.kql_cells.specs.declared.value.Value.TheVariants as value
 use Rattle.kql_bound.specs.declared.parts.BItem.{BItem}
 use Rattle.kql_bound.specs.declared.parts.BKey.{BKey}
 use Rattle.kql_bound.specs.declared.parts.JoinPlan.{JoinPlan}

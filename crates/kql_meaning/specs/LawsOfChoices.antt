@@ -1,7 +1,7 @@
 -- The rows that `arg_max` and `arg_min` take.
 use Rattle.std.specs.Prelude.{◌≡◌, ◌≢◌, ◌<◌, ℕ, Bool, List, length, slice_index_or, Contains, IsFalse}
-use Rattle.kql_values.specs.declared.value.Value.{Value}
-use Rattle.kql_values.specs.declared.value.Value.TheVariants as value
+use Rattle.kql_cells.specs.declared.value.Value.{Value}
+use Rattle.kql_cells.specs.declared.value.Value.TheVariants as value
 use Rattle.kql_scalar_fns.specs.Choice.{greatest, is_below, least}
 use Rattle.kql_meaning.specs.Aggregates.{greatest_row, least_row}
 

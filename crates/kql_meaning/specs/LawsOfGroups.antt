@@ -1,7 +1,7 @@
 -- The keys of groups, and where a run of `row_cumsum` begins.
 use Rattle.std.specs.Prelude.{◌≡◌, ◌≢◌, ◌<◌, ◌≤◌, ◌↔◌, ℕ, List, filter, length, map, IsTrue, IsFalse, AllPairs, Contains, Bool}
-use Rattle.kql_values.specs.Table.{Grid, gathered}
-use Rattle.kql_values.specs.declared.value.Value.{Value}
+use Rattle.kql_cells.specs.Table.{Grid, gathered}
+use Rattle.kql_cells.specs.declared.value.Value.{Value}
 use Rattle.kql_meaning.specs.Groups.{distinct_keys, group_of}
 use Rattle.kql_meaning.specs.Laws.{first_places}
 use Rattle.kql_meaning.specs.Tables.{places}

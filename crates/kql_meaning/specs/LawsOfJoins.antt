@@ -1,8 +1,8 @@
 -- What the kinds of `join` beside inner, innerunique and leftouter keep.
 use Rattle.std.specs.Prelude.{◌≡◌, ◌<◌, ◌↔◌, ◌⊎◌, not, ℕ, List, ◌++◌, map, length, filter, AllPairs, Contains, IsPermutation, IsTrue}
 use Rattle.std.specs.List.{flat_map}
-use Rattle.kql_values.specs.Seen.{row_at}
-use Rattle.kql_values.specs.Table.{Grid}
+use Rattle.kql_cells.specs.Seen.{row_at}
+use Rattle.kql_cells.specs.Table.{Grid}
 use Rattle.kql_bound.specs.declared.parts.JoinPlan.{JoinPlan}
 use Rattle.kql_bound.specs.declared.parts.JoinKind.TheVariants as join
 use Rattle.kql_bound.specs.declared.parts.OnPair.{OnPair}

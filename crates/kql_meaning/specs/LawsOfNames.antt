@@ -1,6 +1,6 @@
 -- The names of the columns of a join.
 use Rattle.std.specs.Prelude.{◌≡◌, ◌≢◌, ◌<◌, ◌+◌, ◌^◌, ◌⊎◌, ◌++◌, ℕ, List, decimal, length, map, AllPairs, IsFalse, IsTrue}
-use Rattle.kql_values.specs.declared.schema.Column.{Column}
+use Rattle.kql_cells.specs.declared.schema.Column.{Column}
 use Rattle.kql_bound.specs.declared.parts.JoinPlan.{JoinPlan}
 use Rattle.kql_meaning.specs.Join.{both_columns, free_name, renamed}
 use Rattle.kql_meaning.specs.Tables.{is_name_among, names_of}

@@ -1,7 +1,7 @@
 -- What a scan gives.
 use Rattle.std.specs.Prelude.{◌≡◌, ◌<◌, ℕ, zero, suc, List, [], ◌∷◌, length, map, None, Some, IsTrue}
-use Rattle.kql_values.specs.Table.{Grid}
-use Rattle.kql_values.specs.declared.value.Value.{Value}
+use Rattle.kql_cells.specs.Table.{Grid}
+use Rattle.kql_cells.specs.declared.value.Value.{Value}
 use Rattle.kql_bound.specs.declared.parts.Output.TheVariants as output
 use Rattle.kql_bound.specs.declared.parts.ScanPlan.{ScanPlan}
 use Rattle.kql_bound.specs.declared.parts.ScanStep.{ScanStep}

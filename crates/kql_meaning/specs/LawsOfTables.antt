@@ -1,8 +1,8 @@
 -- How many rows and which columns `union` and `mv-expand` give.
 use Rattle.std.specs.Prelude.{◌≡◌, ◌≢◌, ◌≤◌, ◌⊎◌, ◌∷◌, Bool, false, ℕ, List, length, AllPairs, Contains}
 use Rattle.std.specs.List.{sum_by}
-use Rattle.kql_values.specs.Table.{Grid}
-use Rattle.kql_values.specs.declared.schema.Column.{Column}
+use Rattle.kql_cells.specs.Table.{Grid}
+use Rattle.kql_cells.specs.declared.schema.Column.{Column}
 use Rattle.kql_bound.specs.declared.parts.Expand.{Expand}
 use Rattle.kql_bound.specs.declared.parts.ExpandItem.{ExpandItem}
 use Rattle.kql_meaning.specs.MvExpand.{expand_table, item_parts, rows_given}

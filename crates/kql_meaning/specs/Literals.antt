@@ -1,11 +1,11 @@
 -- When a literal is well formed, and null or of the type beside it.
 use Rattle.std.specs.Prelude.{Bool, true, false, not, ◌&&◌}
 use Rattle.kql_ticks.specs.Ranges.{is_moment}
-use Rattle.kql_values.specs.Dynamic.{is_null, is_well_formed_dynamic}
-use Rattle.kql_values.specs.declared.value.Kind.{Kind}
-use Rattle.kql_values.specs.declared.value.Kind.TheVariants as kind
-use Rattle.kql_values.specs.declared.value.Value.{Value}
-use Rattle.kql_values.specs.declared.value.Value.TheVariants as value
+use Rattle.kql_cells.specs.Dynamic.{is_null, is_well_formed_dynamic}
+use Rattle.kql_cells.specs.declared.value.Kind.{Kind}
+use Rattle.kql_cells.specs.declared.value.Kind.TheVariants as kind
+use Rattle.kql_cells.specs.declared.value.Value.{Value}
+use Rattle.kql_cells.specs.declared.value.Value.TheVariants as value
 use Rattle.kql_bound.specs.declared.literal.Lit.{Lit}
 
 -- Whether a value is of a type, or null; a text is never null.

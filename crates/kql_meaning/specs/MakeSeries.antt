@@ -4,10 +4,10 @@
 use Rattle.std.specs.Prelude.{Bool, false, ◌&&◌, List, [], ◌∷◌, ◌++◌, Option, None, Some, filter, map, ℤ, pos, ◌-ℤ◌, int_le, int_lt, ◌==◌, length, if◌then◌else◌}
 use Rattle.std.specs.Ordering.{int_eq}
 use Rattle.kql_ticks.specs.Bins.{bin_at}
-use Rattle.kql_values.specs.Table.{Grid, gathered}
-use Rattle.kql_values.specs.declared.schema.Column.{Column}
-use Rattle.kql_values.specs.declared.value.Kind.TheVariants as kind
-use Rattle.kql_values.specs.declared.value.Value.{Value}
+use Rattle.kql_cells.specs.Table.{Grid, gathered}
+use Rattle.kql_cells.specs.declared.schema.Column.{Column}
+use Rattle.kql_cells.specs.declared.value.Kind.TheVariants as kind
+use Rattle.kql_cells.specs.declared.value.Value.{Value}
 use Rattle.kql_dynamic.specs.Arrays.{array}
 use Rattle.kql_scalar_fns.specs.Dynamic.{element}
 use Rattle.kql_bound.specs.declared.parts.SeriesItem.{SeriesItem}

@@ -3,15 +3,15 @@
 -- the end, in order.
 use Rattle.std.specs.Prelude.{ℕ, max, not, Bool, List, [], ◌∷◌, ◌++◌, Option, None, Some, bytes_eq, filter, find, fold, length, map, option_map, slice_index_or, if◌then◌else◌}
 use Rattle.std.specs.List.{flat_map}
-use Rattle.kql_values.specs.Table.{Grid}
-use Rattle.kql_values.specs.declared.dynamic.Dyn.{Dyn, out-Dyn}
-use Rattle.kql_values.specs.declared.dynamic.Dyn.TheOpen.{Dyn-F}
-use Rattle.kql_values.specs.declared.dynamic.Dyn.TheVariants as dyn
-use Rattle.kql_values.specs.declared.schema.Column.{Column}
-use Rattle.kql_values.specs.declared.value.Kind.{Kind}
-use Rattle.kql_values.specs.declared.value.Kind.TheVariants as kind
-use Rattle.kql_values.specs.declared.value.Value.{Value}
-use Rattle.kql_values.specs.declared.value.Value.TheVariants as value
+use Rattle.kql_cells.specs.Table.{Grid}
+use Rattle.kql_cells.specs.declared.dynamic.Dyn.{Dyn, out-Dyn}
+use Rattle.kql_cells.specs.declared.dynamic.Dyn.TheOpen.{Dyn-F}
+use Rattle.kql_cells.specs.declared.dynamic.Dyn.TheVariants as dyn
+use Rattle.kql_cells.specs.declared.schema.Column.{Column}
+use Rattle.kql_cells.specs.declared.value.Kind.{Kind}
+use Rattle.kql_cells.specs.declared.value.Kind.TheVariants as kind
+use Rattle.kql_cells.specs.declared.value.Value.{Value}
+use Rattle.kql_cells.specs.declared.value.Value.TheVariants as value
 use Rattle.kql_dynamic.specs.Parts.{value_of}
 use Rattle.kql_scalar_fns.specs.Conversion.{to_bool, to_long, to_moment, to_span}
 use Rattle.kql_scalar_fns.specs.Readings.{text_of}

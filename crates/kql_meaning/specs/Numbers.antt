@@ -1,9 +1,9 @@
 -- Whole numbers of any size: sums, and numbers at equal distances.
 use Rattle.std.specs.Prelude.{ℕ, ◌+◌, ◌/◌, List, Option, None, Some, map, fold, if◌then◌else◌, ℤ, pos, ◌+ℤ◌, ◌-ℤ◌, ◌*ℤ◌, int_le, unsigned_abs, length}
 use Rattle.kql_ticks.specs.Ranges.{fit}
-use Rattle.kql_values.specs.declared.value.Kind.{Kind}
-use Rattle.kql_values.specs.declared.value.Kind.TheVariants as kind
-use Rattle.kql_values.specs.declared.value.Value.{Value}
+use Rattle.kql_cells.specs.declared.value.Kind.{Kind}
+use Rattle.kql_cells.specs.declared.value.Kind.TheVariants as kind
+use Rattle.kql_cells.specs.declared.value.Value.{Value}
 use Rattle.kql_scalar_fns.specs.Arguments.{long_or_null, span_or_null}
 use Rattle.kql_meaning.specs.Tables.{places_below}
 use Rattle.kql_meaning.specs.Values.{number_of}

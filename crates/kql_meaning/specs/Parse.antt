@@ -1,11 +1,11 @@
 -- `parse`: the text is cut into pieces by the pattern, and each column of the pattern gets its piece. Where there is no cut all new
 -- columns are absent. The columns are placed as by `extend`.
 use Rattle.std.specs.Prelude.{ℕ, List, [], ◌∷◌, ◌++◌, Option, None, Some, map, slice_range, unwrap_or}
-use Rattle.kql_values.specs.Ordered.{text_in}
-use Rattle.kql_values.specs.Table.{Grid}
-use Rattle.kql_values.specs.declared.schema.Column.{Column}
-use Rattle.kql_values.specs.declared.value.Kind.{Kind}
-use Rattle.kql_values.specs.declared.value.Value.{Value}
+use Rattle.kql_cells.specs.Ordered.{text_in}
+use Rattle.kql_cells.specs.Table.{Grid}
+use Rattle.kql_cells.specs.declared.schema.Column.{Column}
+use Rattle.kql_cells.specs.declared.value.Kind.{Kind}
+use Rattle.kql_cells.specs.declared.value.Value.{Value}
 use Rattle.kql_bound.specs.declared.parts.ParsePlan.{ParsePlan}
 use Rattle.kql_bound.specs.declared.parts.PatItem.{PatItem}
 use Rattle.kql_bound.specs.declared.parts.PatItem.TheVariants as item

@@ -2,8 +2,8 @@
 -- first occurrence. Its columns are those of the subquery on no rows.
 use Rattle.std.specs.Prelude.{ℕ, List, [], ◌∷◌}
 use Rattle.std.specs.List.{flat_map}
-use Rattle.kql_values.specs.Table.{Grid}
-use Rattle.kql_values.specs.declared.value.Value.{Value}
+use Rattle.kql_cells.specs.Table.{Grid}
+use Rattle.kql_cells.specs.declared.value.Value.{Value}
 use Rattle.kql_meaning.specs.Groups.{distinct_keys, group_of}
 use Rattle.kql_meaning.specs.Tables.{cell, emptied}
 

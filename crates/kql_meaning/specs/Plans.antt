@@ -1,7 +1,7 @@
 -- What a plan and a program mean: the source, and then each operator over the table before it.
 use Rattle.std.specs.Prelude.{List, [], ◌∷◌, ◌++◌, fold, map}
-use Rattle.kql_values.specs.Table.{Grid}
-use Rattle.kql_values.specs.declared.catalogue.Named.{Named}
+use Rattle.kql_cells.specs.Table.{Grid}
+use Rattle.kql_cells.specs.Catalogues.{Named}
 use Rattle.kql_bound.specs.declared.plan.Op.{Op, fold-Op}
 use Rattle.kql_bound.specs.declared.plan.Op.TheOpen.{Op-F, Plan-F}
 use Rattle.kql_bound.specs.declared.plan.Plan.{Plan, fold-Plan}

@@ -4,11 +4,11 @@
 -- record is an input row with the declared columns. Expressions are read over the rows with the declared columns at their defaults.
 use Rattle.std.specs.Prelude.{ℕ, ◌+◌, ◌-◌, ◌==◌, nat_lt, Bool, true, false, List, [], ◌∷◌, ◌++◌, Option, None, Some, find, fold, length, map, replicate, reverse, slice_get, slice_index_or, slice_set, take, pos, if◌then◌else◌}
 use Rattle.std.specs.List.{enumerate_from, flat_map, range_with_len}
-use Rattle.kql_values.specs.Table.{Grid}
-use Rattle.kql_values.specs.declared.schema.Column.{Column}
-use Rattle.kql_values.specs.declared.value.Kind.TheVariants as kind
-use Rattle.kql_values.specs.declared.value.Value.{Value}
-use Rattle.kql_values.specs.declared.value.Value.TheVariants as value
+use Rattle.kql_cells.specs.Table.{Grid}
+use Rattle.kql_cells.specs.declared.schema.Column.{Column}
+use Rattle.kql_cells.specs.declared.value.Kind.TheVariants as kind
+use Rattle.kql_cells.specs.declared.value.Value.{Value}
+use Rattle.kql_cells.specs.declared.value.Value.TheVariants as value
 use Rattle.kql_bound.specs.declared.parts.BItem.{BItem}
 use Rattle.kql_bound.specs.declared.parts.Decl.{Decl}
 use Rattle.kql_bound.specs.declared.parts.Output.{Output}

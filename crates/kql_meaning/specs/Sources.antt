@@ -1,10 +1,10 @@
 -- Sources: a table, the table of a let, `range` and `print`. A `union` as a source is its first table piped into `union` of the
 -- others.
 use Rattle.std.specs.Prelude.{ℕ, List, [], ◌∷◌, Option, None, Some, bytes_eq, find, map, slice_index_or, ℤ}
-use Rattle.kql_values.specs.Catalogues.{table_name}
-use Rattle.kql_values.specs.Table.{Grid}
-use Rattle.kql_values.specs.declared.catalogue.Named.{Named}
-use Rattle.kql_values.specs.declared.schema.Column.{Column}
+use Rattle.kql_cells.specs.Catalogues.{table_name}
+use Rattle.kql_cells.specs.Table.{Grid}
+use Rattle.kql_cells.specs.Catalogues.{Named}
+use Rattle.kql_cells.specs.declared.schema.Column.{Column}
 use Rattle.kql_bound.specs.declared.literal.Lit.{Lit}
 use Rattle.kql_bound.specs.declared.parts.BItem.{BItem}
 use Rattle.kql_meaning.specs.Numbers.{added, terms}

@@ -2,9 +2,9 @@
 -- are the one group, also where there is none; with `by` and no rows there is no group. `distinct` is `summarize` by these columns
 -- without items.
 use Rattle.std.specs.Prelude.{List, [], ◌∷◌, ◌++◌, map}
-use Rattle.kql_values.specs.Table.{Grid}
-use Rattle.kql_values.specs.declared.schema.Column.{Column}
-use Rattle.kql_values.specs.declared.value.Value.{Value}
+use Rattle.kql_cells.specs.Table.{Grid}
+use Rattle.kql_cells.specs.declared.schema.Column.{Column}
+use Rattle.kql_cells.specs.declared.value.Value.{Value}
 use Rattle.kql_bound.specs.declared.parts.BItem.{BItem}
 use Rattle.kql_bound.specs.declared.parts.GroupPlan.{GroupPlan}
 use Rattle.kql_meaning.specs.Groups.{distinct_keys, group_of, key_by}

@@ -1,12 +1,12 @@
 -- Places in a table, and the cells of its columns.
 use Rattle.std.specs.Prelude.{ℕ, Bool, not, List, [], ◌∷◌, Option, None, Some, bytes_eq, filter, length, map, slice_get, slice_index_or}
 use Rattle.std.specs.List.{list_any, range_with_len}
-use Rattle.kql_values.specs.Named.{column_name, place_of}
-use Rattle.kql_values.specs.Seen.{row_at}
-use Rattle.kql_values.specs.Table.{Grid}
-use Rattle.kql_values.specs.declared.schema.Column.{Column}
-use Rattle.kql_values.specs.declared.value.Value.{Value}
-use Rattle.kql_values.specs.declared.value.Value.TheVariants as value
+use Rattle.kql_cells.specs.Named.{column_name, place_of}
+use Rattle.kql_cells.specs.Seen.{row_at}
+use Rattle.kql_cells.specs.Table.{Grid}
+use Rattle.kql_cells.specs.declared.schema.Column.{Column}
+use Rattle.kql_cells.specs.declared.value.Value.{Value}
+use Rattle.kql_cells.specs.declared.value.Value.TheVariants as value
 use Rattle.kql_meaning.specs.Values.{absent}
 
 -- The places 0, 1 and so on of a list of so many elements.

@@ -1,8 +1,8 @@
 -- `take` (or `limit`): the first n rows. `count`: one row, with the number of rows in the column `Count`.
 use Rattle.std.specs.Prelude.{ℕ, List, [], ◌∷◌, codes, take}
-use Rattle.kql_values.specs.Table.{Grid}
-use Rattle.kql_values.specs.declared.schema.Column.{Column}
-use Rattle.kql_values.specs.declared.value.Kind.TheVariants as kind
+use Rattle.kql_cells.specs.Table.{Grid}
+use Rattle.kql_cells.specs.declared.schema.Column.{Column}
+use Rattle.kql_cells.specs.declared.value.Kind.TheVariants as kind
 use Rattle.kql_meaning.specs.Numbers.{counted}
 
 unfoldable pub take_table : ℕ → Grid → Grid

@@ -2,10 +2,10 @@
 -- table lacks it; kind inner has the columns that all tables have, in the left table's order.
 use Rattle.std.specs.Prelude.{ℕ, Bool, List, ◌∷◌, ◌++◌, Option, None, Some, bytes_eq, filter, map, if◌then◌else◌}
 use Rattle.std.specs.List.{flat_map, list_all}
-use Rattle.kql_values.specs.Named.{column_name, place_of}
-use Rattle.kql_values.specs.Table.{Grid}
-use Rattle.kql_values.specs.declared.schema.Column.{Column}
-use Rattle.kql_values.specs.declared.value.Value.{Value}
+use Rattle.kql_cells.specs.Named.{column_name, place_of}
+use Rattle.kql_cells.specs.Table.{Grid}
+use Rattle.kql_cells.specs.declared.schema.Column.{Column}
+use Rattle.kql_cells.specs.declared.value.Value.{Value}
 use Rattle.kql_meaning.specs.Tables.{cell_in, distinct_by, has_column, places}
 use Rattle.kql_meaning.specs.Values.{absent}
 

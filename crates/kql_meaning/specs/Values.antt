@@ -1,11 +1,11 @@
 -- Values as cells, as keys and as numbers.
 use Rattle.std.specs.Prelude.{Bool, true, false, ◌&&◌, List, [], ◌∷◌, Option, None, Some, bytes_eq, ℤ}
 use Rattle.std.specs.Ordering.{int_eq}
-use Rattle.kql_values.specs.declared.value.Kind.{Kind}
-use Rattle.kql_values.specs.declared.value.Kind.TheVariants as kind
-use Rattle.kql_values.specs.declared.value.Value.{Value}
-use Rattle.kql_values.specs.declared.value.Value.TheVariants as value
-use Rattle.kql_dynamic.specs.Same.{same}
+use Rattle.kql_cells.specs.declared.value.Kind.{Kind}
+use Rattle.kql_cells.specs.declared.value.Kind.TheVariants as kind
+use Rattle.kql_cells.specs.declared.value.Value.{Value}
+use Rattle.kql_cells.specs.declared.value.Value.TheVariants as value
+use Rattle.kql_cells.specs.Same.{same}
 use Rattle.kql_scalar_fns.specs.Comparison.{same_bools}
 use Rattle.kql_scalar_fns.specs.Logic.{is_true, truth}
 

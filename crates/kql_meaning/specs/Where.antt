@@ -1,6 +1,6 @@
 -- `where`: the rows whose predicate is true, in order.
 use Rattle.std.specs.Prelude.{[], filter}
-use Rattle.kql_values.specs.Table.{Grid, gathered}
+use Rattle.kql_cells.specs.Table.{Grid, gathered}
 use Rattle.kql_bound.specs.declared.expr.BExpr.{BExpr}
 use Rattle.kql_meaning.specs.Expressions.{val}
 use Rattle.kql_meaning.specs.Tables.{places}

@@ -1,9 +1,9 @@
 -- The window functions, which look from a row at other rows of its table: `prev`, `next`, `row_cumsum` and `row_number`.
 use Rattle.std.specs.Prelude.{ℕ, zero, suc, ◌+◌, ◌-◌, nat_le, nat_lt, Bool, List, Option, None, Some, if◌then◌else◌, pos, length, slice_get}
 use Rattle.std.specs.List.{range_with_len}
-use Rattle.kql_values.specs.Table.{Grid}
-use Rattle.kql_values.specs.declared.value.Value.{Value}
-use Rattle.kql_values.specs.declared.value.Value.TheVariants as value
+use Rattle.kql_cells.specs.Table.{Grid}
+use Rattle.kql_cells.specs.declared.value.Value.{Value}
+use Rattle.kql_cells.specs.declared.value.Value.TheVariants as value
 use Rattle.kql_scalar_fns.specs.Arithmetic.{sum}
 use Rattle.kql_bound.specs.declared.expr.Window.{Window}
 use Rattle.kql_bound.specs.declared.expr.Window.TheVariants as window

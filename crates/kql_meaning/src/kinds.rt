@@ -6,7 +6,7 @@ ghost use Rattle.kql_meaning.specs.Expressions.{aggregate_kind, all_known, call_
 use kql_bound::{Aggregate, BExpr, ChainSign, Link, Window};
 use kql_functions::{ArithmeticFunc, DynamicFunc, Func, result_kind};
 use kql_items::Items;
-use kql_values::{Column, Kind};
+use kql_cells::{Column, Kind};
 use std::alloc::{AllocError, Global};
 
 /// The type of an expression over these columns, or none where it has none.

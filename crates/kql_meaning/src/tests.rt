@@ -12,7 +12,7 @@ use crate::{
 use kql_bound::{Aggregate, BExpr, ChainSign, Exprs, Link, Links, Lit, StepColumn, Window};
 use kql_functions::{ComparisonFunc, Func};
 use kql_items::{Boxed, Items};
-use kql_values::{Column, KText, Kind, Value};
+use kql_cells::{Column, KText, Kind, Value};
 use std::alloc::{AllocError, Global};
 use std::test::Fail;
 

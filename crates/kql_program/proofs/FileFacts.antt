@@ -14,7 +14,7 @@ use Rattle.kql_lexer.specs.declared.lexer.LexFault.{LexFault}
 use Rattle.kql_lexer.specs.declared.lexer.LexFault.TheVariants as lex
 use Rattle.kql_lexer.specs.declared.token.Token.{Token}
 use Rattle.kql_outside.specs.Told.{file_of}
-use Rattle.kql_values.specs.Table.{Grid}
+use Rattle.kql_cells.specs.Table.{Grid}
 use Rattle.kql_program.specs.Files.{Files, ReadsFront, ReadsTable, bytes_top, file_bytes, file_tokens, found_as, lexed_as, loaded_as, query_tokens, table_in, table_of}
 use Rattle.kql_program.specs.Refusals.{Answer, Computes, Gives, ◌>>=◌}
 use Rattle.kql_program.specs.Stops.{lex_stop}

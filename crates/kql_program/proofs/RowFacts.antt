@@ -4,10 +4,10 @@ use Rattle.std.specs.Prelude.{All, Ok, Err, filter}
 use Rattle.std.proofs.lemmas.Bool.{cases_Bool}
 use Rattle.std.proofs.lemmas.List.{append-nil}
 use Rattle.std.proofs.lemmas.List.Elements.{All-push}
-use Rattle.kql_values.specs.Table.{Grid}
-use Rattle.kql_values.specs.declared.catalogue.Named.{Named}
-use Rattle.kql_values.specs.declared.schema.Column.{Column}
-use Rattle.kql_values.specs.declared.value.Value.{Value}
+use Rattle.kql_cells.specs.Table.{Grid}
+use Rattle.kql_cells.specs.Catalogues.{Named}
+use Rattle.kql_cells.specs.declared.schema.Column.{Column}
+use Rattle.kql_cells.specs.declared.value.Value.{Value}
 use Rattle.kql_program.specs.Answer.{rows_of}
 use Rattle.kql_program.specs.Binding.{condition_of, conditions_of, kept, kept_by, meets, meets_all, table_named}
 use Rattle.kql_program.specs.Refusals.{Answer, Gives, after}

@@ -9,9 +9,9 @@ use Rattle.std.proofs.lemmas.Bool.Decides.{nat_tests}
 use Rattle.std.proofs.lemmas.List.{append-nil, drop_all, get_or-map, length-map, length-take, take-map}
 use Rattle.std.proofs.lemmas.List.Folds.{list_any_at}
 use Rattle.std.proofs.lemmas.Slice.Eq.{bytes_eq-Decides}
-use Rattle.kql_values.specs.Catalogues.{table_name}
-use Rattle.kql_values.specs.Named.{IsAbsent}
-use Rattle.kql_values.specs.declared.catalogue.Named.{Named}
+use Rattle.kql_cells.specs.Catalogues.{table_name}
+use Rattle.kql_cells.specs.Named.{IsAbsent}
+use Rattle.kql_cells.specs.Catalogues.{Named}
 use Rattle.kql_program.specs.Command.{name_in, names_table, path_in, table_faults, tables_faults, texts}
 use Rattle.kql_program.specs.Files.{AddsTable, Files, file_bytes, named_as, table_in, tables_from}
 use Rattle.kql_program.specs.Refusals.{Answer, Computes, ◌>>=◌, after, with_first}

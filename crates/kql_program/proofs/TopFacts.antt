@@ -8,8 +8,8 @@ use Rattle.std.specs.Str.{bytes_eq}
 use Rattle.std.specs.Prelude.{codes}
 use Rattle.csv_io.specs.Text.{table_text}
 use Rattle.kql_lexer.specs.declared.token.Token.{Token}
-use Rattle.kql_values.specs.Table.{Grid}
-use Rattle.kql_values.specs.declared.catalogue.Named.{Named}
+use Rattle.kql_cells.specs.Table.{Grid}
+use Rattle.kql_cells.specs.Catalogues.{Named}
 use Rattle.kql_program.specs.Answer.{Answers, AreRows, answer, query_path, query_rows, rows_of, table_words, tokens_read, words_read}
 use Rattle.kql_program.specs.Command.{is_option, run_faults, tables_faults, texts, words_faults}
 use Rattle.kql_program.specs.Files.{Files, file_tokens, tables_from}

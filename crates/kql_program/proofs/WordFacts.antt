@@ -7,9 +7,9 @@ use Rattle.kql_lexer.specs.Lexing as lexing
 use Rattle.kql_lexer.specs.Lexing.{lexed}
 use Rattle.kql_lexer.specs.declared.place.Place.{Place}
 use Rattle.kql_lexer.specs.declared.token.Token.{Token}
-use Rattle.kql_values.specs.Table.{Grid}
-use Rattle.kql_values.specs.declared.catalogue.Named.{Named}
-use Rattle.kql_values.specs.declared.schema.Column.{Column}
+use Rattle.kql_cells.specs.Table.{Grid}
+use Rattle.kql_cells.specs.Catalogues.{Named}
+use Rattle.kql_cells.specs.declared.schema.Column.{Column}
 use Rattle.kql_program.specs.Answer.{rows_of}
 use Rattle.kql_program.specs.Binding.{column_found, column_named, condition_of, conditions_of, is_long_at, table_found, table_named}
 use Rattle.kql_program.specs.Files.{lexed_as, query_tokens}

@@ -9,8 +9,8 @@ use Rattle.kql_program.specs.Form.{request_of}
 use Rattle.kql_program.specs.Refusals.{Answer, ◌>>=◌, unless}
 use Rattle.kql_program.specs.Syntax.{IsVerdict, Verdict}
 use Rattle.kql_program.specs.declared.query.Request.{Request}
-use Rattle.kql_values.specs.Table.{Grid}
-use Rattle.kql_values.specs.declared.catalogue.Named.{Named}
+use Rattle.kql_cells.specs.Table.{Grid}
+use Rattle.kql_cells.specs.Catalogues.{Named}
 
 -- of the words `run QUERY NAME=PATH ..`, the path of the query file, and the words of the tables
 abbrev pub query_path : List (List ℕ) → List ℕ

@@ -5,14 +5,14 @@ use Rattle.std.specs.Ordering.{int_eq}
 use Rattle.std.specs.Option.{option_map_or}
 use Rattle.std.specs.Str.{bytes_eq}
 use Rattle.kql_lexer.specs.declared.place.Place.{Place}
-use Rattle.kql_values.specs.Named.{column_name, place_of}
-use Rattle.kql_values.specs.Table.{Grid}
-use Rattle.kql_values.specs.declared.catalogue.Named.{Named}
-use Rattle.kql_values.specs.declared.schema.Column.{Column}
-use Rattle.kql_values.specs.declared.value.Kind.{Kind}
-use Rattle.kql_values.specs.declared.value.Kind.TheVariants as kind
-use Rattle.kql_values.specs.declared.value.Value.{Value}
-use Rattle.kql_values.specs.declared.value.Value.TheVariants as value
+use Rattle.kql_cells.specs.Named.{column_name, place_of}
+use Rattle.kql_cells.specs.Table.{Grid}
+use Rattle.kql_cells.specs.Catalogues.{Named}
+use Rattle.kql_cells.specs.declared.schema.Column.{Column}
+use Rattle.kql_cells.specs.declared.value.Kind.{Kind}
+use Rattle.kql_cells.specs.declared.value.Kind.TheVariants as kind
+use Rattle.kql_cells.specs.declared.value.Value.{Value}
+use Rattle.kql_cells.specs.declared.value.Value.TheVariants as value
 use Rattle.kql_program.specs.declared.query.Filter.{Filter}
 use Rattle.kql_program.specs.declared.query.Label.{Label}
 use Rattle.kql_program.specs.declared.rows.Condition.{Condition}

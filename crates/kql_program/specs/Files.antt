@@ -6,8 +6,8 @@ use Rattle.kql_lexer.specs.Lexing as lexing
 use Rattle.kql_lexer.specs.Lexing.{lexed}
 use Rattle.kql_lexer.specs.declared.token.Token.{Token}
 use Rattle.kql_outside.specs.Told.{file_of}
-use Rattle.kql_values.specs.Table.{Grid}
-use Rattle.kql_values.specs.declared.catalogue.Named.{Named}
+use Rattle.kql_cells.specs.Table.{Grid}
+use Rattle.kql_cells.specs.Catalogues.{Named}
 use Rattle.kql_program.specs.Command.{name_in, path_in}
 use Rattle.kql_program.specs.declared.refusal.Refusal.TheVariants.{Data, Query}
 use Rattle.kql_program.specs.declared.refusal.Stop.{Stop}

@@ -1,7 +1,7 @@
 ghost use Rattle.std.specs.Prelude.{◌≡◌, ◌≤◌, ◌+◌, ◌++◌, ◌∷◌, [], Err, IfOk, IfSome, OnOk, length, map, true};
 ghost use Rattle.kql_outside.specs.Causes.{Rose};
-ghost use Rattle.kql_values.specs.Named.{IsAbsent};
-ghost use Rattle.kql_values.specs.Catalogues.{table_name};
+ghost use Rattle.kql_cells.specs.Named.{IsAbsent};
+ghost use Rattle.kql_cells.specs.Catalogues.{table_name};
 ghost use Rattle.kql_program.specs.Command.{name_in, names_table, tables_faults, texts};
 ghost use Rattle.kql_program.specs.Files.{AddsTable, ReadsFront, ReadsTable, bytes_top, file_bytes, file_tokens, loaded_as, query_tokens, tables_from};
 ghost use Rattle.kql_program.specs.Outcomes.{RefusesNoWord};
@@ -15,7 +15,7 @@ use csv_io::{DataFault, load};
 use kql_items::Items;
 use kql_lexer::{MAX_BYTES, Tokens, lex};
 use kql_outside::{Shelf, read_up_to};
-use kql_values::{Bytes, Catalogue, KText, Named, Table};
+use kql_cells::{Bytes, Catalogue, KText, Named, Table};
 use std::alloc::Global;
 
 /// How many bytes the table files may have together.

@@ -7,7 +7,7 @@ ghost use Rattle.kql_program.specs.declared.refusal.Refusal.TheVariants as refus
 use crate::refusal::{Refusal, Stop};
 use kql_items::Items;
 use kql_lexer::{Keyword, Place, Token, TokenForm};
-use kql_values::KText;
+use kql_cells::KText;
 use std::alloc::{AllocError, Global};
 
 /// What has to stand next in a query of the form.

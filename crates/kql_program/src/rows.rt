@@ -1,7 +1,7 @@
 ghost use Rattle.std.specs.Prelude.{◌≡◌, ◌<◌, All, Err, Ok, IfOk, MatchResult, find, length};
 ghost use Rattle.std.specs.Option.{option_copied};
 ghost use Rattle.std.specs.Str.{bytes_eq};
-ghost use Rattle.kql_values.specs.Seen.{row_at, seen};
+ghost use Rattle.kql_cells.specs.Seen.{row_at, seen};
 ghost use Rattle.kql_program.specs.Answer.{rows_of};
 ghost use Rattle.kql_program.specs.Binding.{column_named, condition_of, conditions_of, is_long_at, is_number, kept_by, meets_all, table_named};
 ghost use Rattle.kql_program.specs.Refusals.{Gives};
@@ -9,7 +9,7 @@ ghost use Rattle.kql_program.specs.Refusals.{Gives};
 use crate::query::{Filter, Label, Request};
 use crate::refusal::{Refusal, Stop};
 use kql_items::Items;
-use kql_values::{Catalogue, CellRef, Column, Kind, Named, Rows, Schema, Table};
+use kql_cells::{Catalogue, CellRef, Column, Kind, Named, Rows, Schema, Table};
 use std::alloc::{AllocError, Global};
 
 /// A filter over the columns of a table: the place of its column, and its number.

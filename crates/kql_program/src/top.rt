@@ -16,7 +16,7 @@ use crate::rows::request_rows;
 use crate::syntax::check_syntax;
 use csv_io::table_text;
 use kql_outside::{Gate, Shelf, Sink, write_all};
-use kql_values::{Bytes, Table};
+use kql_cells::{Bytes, Table};
 use std::alloc::Global;
 use std::thread::Threads;
 

@@ -1,11 +1,11 @@
 -- Arguments are well formed where all are.
 use Rattle.std.proofs.Common.{◌≡◌, ◌<◌, ◌-◌, ℕ, zero, suc, List, [], ◌∷◌, length, map, take, drop, arith, ap, refl, subst, sym}
 use Rattle.std.specs.Prelude.{slice_index_or}
-use Rattle.kql_values.specs.Seen.{seen}
-use Rattle.kql_values.specs.Values.{IsWellFormed}
-use Rattle.kql_values.specs.declared.cell.CellRef.{CellRef}
-use Rattle.kql_values.specs.declared.value.Value.{Value}
-use Rattle.kql_values.specs.declared.value.Value.TheVariants as value
+use Rattle.kql_cells.specs.Seen.{seen}
+use Rattle.kql_cells.specs.Values.{IsWellFormed}
+use Rattle.kql_cells.specs.declared.cell.CellRef.{CellRef}
+use Rattle.kql_cells.specs.declared.value.Value.{Value}
+use Rattle.kql_cells.specs.declared.value.Value.TheVariants as value
 use Rattle.kql_scalar_fns.specs.Arguments.{AreWellFormed}
 
 -- the values behind the first

@@ -1,11 +1,11 @@
 -- What arithmetic gives is of the type that its rows say.
 use Rattle.std.proofs.Common.{List, [], ◌∷◌}
 use Rattle.std.specs.Prelude.{ℤ}
-use Rattle.kql_values.specs.Values.{IsOfKind}
-use Rattle.kql_values.specs.declared.value.Kind.{Kind}
-use Rattle.kql_values.specs.declared.value.Kind.TheVariants as kind
-use Rattle.kql_values.specs.declared.value.Value.{Value}
-use Rattle.kql_values.specs.declared.value.Value.TheVariants as value
+use Rattle.kql_cells.specs.Values.{IsOfKind}
+use Rattle.kql_cells.specs.declared.value.Kind.{Kind}
+use Rattle.kql_cells.specs.declared.value.Kind.TheVariants as kind
+use Rattle.kql_cells.specs.declared.value.Value.{Value}
+use Rattle.kql_cells.specs.declared.value.Value.TheVariants as value
 use Rattle.kql_functions.specs.declared.func.ArithmeticFunc.{ArithmeticFunc}
 use Rattle.kql_functions.specs.declared.func.ArithmeticFunc.TheVariants as func
 use Rattle.kql_scalar_fns.specs.Arguments.{argument}

@@ -1,10 +1,10 @@
 -- What a call gives is of the type that `result_kind` says, or null.
 use Rattle.std.proofs.Common.{◌≡◌, List, [], ◌∷◌}
 use Rattle.std.specs.Prelude.{Option, None, Some, IfSome, IfOk, Result, Ok, Err}
-use Rattle.kql_values.specs.Values.{IsOfKind}
-use Rattle.kql_values.specs.declared.value.Kind.{Kind}
-use Rattle.kql_values.specs.declared.value.Kind.TheVariants as kind
-use Rattle.kql_values.specs.declared.value.Value.{Value}
+use Rattle.kql_cells.specs.Values.{IsOfKind}
+use Rattle.kql_cells.specs.declared.value.Kind.{Kind}
+use Rattle.kql_cells.specs.declared.value.Kind.TheVariants as kind
+use Rattle.kql_cells.specs.declared.value.Value.{Value}
 use Rattle.kql_functions.specs.declared.func.Func.{Func}
 use Rattle.kql_functions.specs.declared.func.Func.TheVariants as func
 use Rattle.kql_scalar_fns.specs.Applied.{applied}

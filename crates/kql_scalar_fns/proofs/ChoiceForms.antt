@@ -1,9 +1,9 @@
 -- What is chosen among well formed values is well formed.
 use Rattle.std.proofs.Common.{◌≡◌, ℕ, zero, suc, Bool, true, false, List, [], ◌∷◌, fold, arith}
 use Rattle.std.specs.Prelude.{IfOk, Result, Ok, Err, if◌then◌else◌}
-use Rattle.kql_values.specs.Values.{IsWellFormed}
-use Rattle.kql_values.specs.declared.value.Value.{Value}
-use Rattle.kql_values.specs.declared.value.Value.TheVariants as value
+use Rattle.kql_cells.specs.Values.{IsWellFormed}
+use Rattle.kql_cells.specs.declared.value.Value.{Value}
+use Rattle.kql_cells.specs.declared.value.Value.TheVariants as value
 use Rattle.kql_functions.specs.declared.func.ChoiceFunc.{ChoiceFunc}
 use Rattle.kql_functions.specs.declared.func.ChoiceFunc.TheVariants as func
 use Rattle.kql_scalar_fns.specs.Arguments.{AreWellFormed, argument}

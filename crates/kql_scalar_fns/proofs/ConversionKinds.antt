@@ -1,10 +1,10 @@
 -- What conversions give is of the type that their rows say.
 use Rattle.std.proofs.Common.{List, [], ◌∷◌}
-use Rattle.kql_values.specs.Values.{IsOfKind}
-use Rattle.kql_values.specs.declared.value.Kind.{Kind}
-use Rattle.kql_values.specs.declared.value.Kind.TheVariants as kind
-use Rattle.kql_values.specs.declared.value.Value.{Value}
-use Rattle.kql_values.specs.declared.value.Value.TheVariants as value
+use Rattle.kql_cells.specs.Values.{IsOfKind}
+use Rattle.kql_cells.specs.declared.value.Kind.{Kind}
+use Rattle.kql_cells.specs.declared.value.Kind.TheVariants as kind
+use Rattle.kql_cells.specs.declared.value.Value.{Value}
+use Rattle.kql_cells.specs.declared.value.Value.TheVariants as value
 use Rattle.kql_functions.specs.declared.func.ConversionFunc.{ConversionFunc}
 use Rattle.kql_functions.specs.declared.func.ConversionFunc.TheVariants as func
 use Rattle.kql_functions.specs.Kinds.{conversion_kind}

@@ -1,11 +1,11 @@
 -- What functions of dynamic values give is of the type that their rows say.
 use Rattle.std.proofs.Common.{◌==◌, ℕ, Bool, true, false, List, [], ◌∷◌, length}
 use Rattle.std.specs.Prelude.{if◌then◌else◌}
-use Rattle.kql_values.specs.Values.{IsOfKind}
-use Rattle.kql_values.specs.declared.value.Kind.{Kind}
-use Rattle.kql_values.specs.declared.value.Kind.TheVariants as kind
-use Rattle.kql_values.specs.declared.value.Value.{Value}
-use Rattle.kql_values.specs.declared.value.Value.TheVariants as value
+use Rattle.kql_cells.specs.Values.{IsOfKind}
+use Rattle.kql_cells.specs.declared.value.Kind.{Kind}
+use Rattle.kql_cells.specs.declared.value.Kind.TheVariants as kind
+use Rattle.kql_cells.specs.declared.value.Value.{Value}
+use Rattle.kql_cells.specs.declared.value.Value.TheVariants as value
 use Rattle.kql_functions.specs.declared.func.DynamicFunc.{DynamicFunc}
 use Rattle.kql_functions.specs.declared.func.DynamicFunc.TheVariants as func
 use Rattle.kql_functions.specs.Kinds.{dynamic_kind}
@@ -15,10 +15,10 @@ use Rattle.kql_dynamic.specs.Bags.{bag, bag_has_key, bag_keys, bag_merge, bag_of
 use Rattle.kql_dynamic.specs.Json.{parsed, read_or_text}
 use Rattle.kql_dynamic.specs.Parts.{argument as arg, at_index, at_name, element_at, elements, entries, entry_at, from_start, long, text, value_of, value_or_null, value_within_levels}
 use Rattle.kql_dynamic.specs.Sets.{distinct, is_among, of_two_arrays, set_difference, set_has_element, set_intersect, set_union}
-use Rattle.kql_dynamic.specs.Same.{same}
-use Rattle.kql_values.specs.declared.dynamic.Dyn.TheVariants as dyn
-use Rattle.kql_values.specs.Dynamic.{is_null, levels}
-use Rattle.kql_values.specs.declared.dynamic.Dyn.{Dyn}
+use Rattle.kql_cells.specs.Same.{same}
+use Rattle.kql_cells.specs.declared.dynamic.Dyn.TheVariants as dyn
+use Rattle.kql_cells.specs.Dynamic.{is_null, levels}
+use Rattle.kql_cells.specs.declared.dynamic.Dyn.{Dyn}
 use Rattle.kql_scalar_fns.specs.Dynamic.{at, dynamic_call, of_all, of_count, of_one, read, read_or_itself}
 use Rattle.kql_scalar_fns.proofs.KindFacts.{Gives, either-gives, row-any}
 use Rattle.kql_scalar_fns.proofs.ShapeKinds.{beside_dynamic-any, one_of_pairs-any, several-any, several_of-any}

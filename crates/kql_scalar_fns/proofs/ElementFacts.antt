@@ -2,8 +2,8 @@
 use Rattle.std.proofs.Common.{ℕ, Bool, List, rules}
 use Rattle.std.specs.Prelude.{ℤ, IsTrue}
 use Rattle.kql_dynamic.proofs.FormLemmas.{fits-Null, fits-Bool, fits-Long, fits-Text}
-use Rattle.kql_values.specs.Dynamic.{is_well_formed_dynamic}
-use Rattle.kql_values.specs.declared.dynamic.Dyn.TheVariants as V
+use Rattle.kql_cells.specs.Dynamic.{is_well_formed_dynamic}
+use Rattle.kql_cells.specs.declared.dynamic.Dyn.TheVariants as V
 
 pub form-Null : IsTrue (is_well_formed_dynamic V.Null)
 form-Null = search (rules, fits-Null 127)

@@ -2,9 +2,9 @@
 use Rattle.std.proofs.Common.{◌≡◌, ◌++◌, ◌<◌, ◌-◌, ℕ, List, [], ◌∷◌, length, map, take, drop, append_assoc, arith}
 use Rattle.std.specs.Prelude.{slice_index_or}
 use Rattle.std.specs.List.{flat_map}
-use Rattle.kql_values.specs.Seen.{seen}
-use Rattle.kql_values.specs.declared.cell.CellRef.{CellRef}
-use Rattle.kql_values.specs.declared.value.Value.{Value}
+use Rattle.kql_cells.specs.Seen.{seen}
+use Rattle.kql_cells.specs.declared.cell.CellRef.{CellRef}
+use Rattle.kql_cells.specs.declared.value.Value.{Value}
 use Rattle.kql_scalar_fns.proofs.ArgumentFacts.{take-whole}
 
 pub join-step : (f : Value → List ℕ) (cells : List CellRef) (x : CellRef) (t u : List ℕ) → x ≡ slice_index_or cells 0 x → 0 < length cells → u ≡ t ++ f (seen x) → u ++ flat_map f (map seen (take (length cells - 1) (drop 1 cells))) ≡ t ++ flat_map f (map seen cells)

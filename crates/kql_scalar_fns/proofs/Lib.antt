@@ -13,7 +13,6 @@ pub mod KindFacts
 pub mod ListFacts
 pub mod LogicKinds
 pub mod LogicLaws
-pub mod NumberFacts
 pub mod PieceForms
 pub mod RangeFacts
 pub mod RemainderLaws

@@ -1,7 +1,7 @@
 -- Where a value stands in a list.
 use Rattle.std.proofs.Common.{◌≡◌, ◌<◌, ◌⊎◌, ℕ, get_or, zero, suc, List, ◌∷◌, length, inl, inr, arith}
 use Rattle.std.specs.Prelude.{Contains}
-use Rattle.kql_values.specs.declared.value.Value.{Value}
+use Rattle.kql_cells.specs.declared.value.Value.{Value}
 
 pub here : (w v : Value) (vs : List Value) → w ≡ v → Contains (w ∷ vs) v
 here w v vs e = (0, omega arith, e)

@@ -1,8 +1,8 @@
 -- What operators on bools give is of the type that their rows say.
 use Rattle.std.proofs.Common.{List, [], ◌∷◌}
-use Rattle.kql_values.specs.declared.value.Kind.{Kind}
-use Rattle.kql_values.specs.declared.value.Kind.TheVariants as kind
-use Rattle.kql_values.specs.declared.value.Value.{Value}
+use Rattle.kql_cells.specs.declared.value.Kind.{Kind}
+use Rattle.kql_cells.specs.declared.value.Kind.TheVariants as kind
+use Rattle.kql_cells.specs.declared.value.Value.{Value}
 use Rattle.kql_functions.specs.declared.func.LogicFunc.{LogicFunc}
 use Rattle.kql_functions.specs.declared.func.LogicFunc.TheVariants as func
 use Rattle.kql_functions.specs.Kinds.{logic_kind}

@@ -2,8 +2,8 @@
 use Rattle.std.proofs.Common.{◌≡◌, ◌<◌, ◌⊎◌, ◌∙◌, Bool, true, false, List, [], ◌∷◌, refl, sym, ap, inl, inr, arith}
 use Rattle.std.specs.Prelude.{Contains, fold, Option, None, Some}
 use Rattle.std.proofs.lemmas.List.Elements.{All-cons, All-head, All-tail}
-use Rattle.kql_values.specs.declared.value.Value.{Value}
-use Rattle.kql_values.specs.declared.value.Value.TheVariants as value
+use Rattle.kql_cells.specs.declared.value.Value.{Value}
+use Rattle.kql_cells.specs.declared.value.Value.TheVariants as value
 use Rattle.kql_scalar_fns.specs.Applied.{applied}
 use Rattle.kql_scalar_fns.specs.Arguments.{bool_or_null}
 use Rattle.kql_scalar_fns.specs.Laws.{AndIsThreeValued, AreAll, OrIsThreeValued}

@@ -4,10 +4,10 @@ use Rattle.std.specs.List.{list_all}
 use Rattle.std.proofs.lemmas.Bool.{and_from}
 use Rattle.kql_dynamic.proofs.FormLemmas.{array-form, fits, fits-Text}
 use Rattle.kql_texts.specs.Texts.{elements}
-use Rattle.kql_values.specs.Values.{IsWellFormed}
-use Rattle.kql_values.specs.declared.dynamic.Dyn.{Dyn}
-use Rattle.kql_values.specs.declared.dynamic.Dyn.TheVariants as V
-use Rattle.kql_values.specs.declared.value.Value.TheVariants as value
+use Rattle.kql_cells.specs.Values.{IsWellFormed}
+use Rattle.kql_cells.specs.declared.dynamic.Dyn.{Dyn}
+use Rattle.kql_cells.specs.declared.dynamic.Dyn.TheVariants as V
+use Rattle.kql_cells.specs.declared.value.Value.TheVariants as value
 
 texts_fit : (ts : List (List ℕ)) → list_all (fits 126) (map V.Text ts) ≡ true
 texts_fit [] = refl

@@ -1,10 +1,10 @@
 -- What the forms of arguments give, where the value is of the type given whatever the arguments are.
 use Rattle.std.proofs.Common.{◌&&◌, ℕ, true, false, List, [], ◌∷◌, length}
 use Rattle.std.specs.Prelude.{nat_le, if◌then◌else◌}
-use Rattle.kql_values.specs.Values.{IsOfKind}
-use Rattle.kql_values.specs.declared.value.Kind.{Kind}
-use Rattle.kql_values.specs.declared.value.Kind.TheVariants as kind
-use Rattle.kql_values.specs.declared.value.Value.{Value}
+use Rattle.kql_cells.specs.Values.{IsOfKind}
+use Rattle.kql_cells.specs.declared.value.Kind.{Kind}
+use Rattle.kql_cells.specs.declared.value.Kind.TheVariants as kind
+use Rattle.kql_cells.specs.declared.value.Value.{Value}
 use Rattle.kql_functions.specs.Kinds.{all_same, are_pairs, behind_text, beside_dynamic, has_order, is_dynamic, one_among, one_of_any, one_of_pairs, same_kind, several, several_of, two_equal, two_ordered}
 use Rattle.kql_scalar_fns.proofs.KindFacts.{Gives, test-gives}
 

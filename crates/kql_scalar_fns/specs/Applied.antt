@@ -1,6 +1,6 @@
 -- What each function and operator gives: a total function of its arguments, null in each undefined case.
 use Rattle.std.specs.Prelude.{List}
-use Rattle.kql_values.specs.declared.value.Value.{Value}
+use Rattle.kql_cells.specs.declared.value.Value.{Value}
 use Rattle.kql_functions.specs.declared.func.Func.{Func}
 use Rattle.kql_functions.specs.declared.func.Func.TheVariants as func
 use Rattle.kql_scalar_fns.specs.Arithmetic.{arithmetic}

@@ -1,8 +1,8 @@
 -- The arguments of a call, and the values that results become.
 use Rattle.std.specs.Prelude.{ℕ, ℤ, Bool, List, Option, None, Some, All, slice_index_or}
-use Rattle.kql_values.specs.Values.{IsWellFormed}
-use Rattle.kql_values.specs.declared.value.Value.{Value}
-use Rattle.kql_values.specs.declared.value.Value.TheVariants as value
+use Rattle.kql_cells.specs.Values.{IsWellFormed}
+use Rattle.kql_cells.specs.declared.value.Value.{Value}
+use Rattle.kql_cells.specs.declared.value.Value.TheVariants as value
 
 -- the argument at a place; one that is not given is null
 unfoldable pub argument : List Value → ℕ → Value

@@ -3,8 +3,8 @@ use Rattle.std.specs.Prelude.{zero, suc, ℤ, pos, negsuc, neg_ℤ, ◌+ℤ◌, 
 use Rattle.std.specs.Int.{int_bit_and, int_bit_not, int_bit_or, int_bit_xor, int_rem_euclid, int_signum, w64}
 use Rattle.kql_ticks.specs.Bins.{bin_at as bin_from}
 use Rattle.kql_ticks.specs.Ranges.{fit, fit_moment}
-use Rattle.kql_values.specs.declared.value.Value.{Value}
-use Rattle.kql_values.specs.declared.value.Value.TheVariants as value
+use Rattle.kql_cells.specs.declared.value.Value.{Value}
+use Rattle.kql_cells.specs.declared.value.Value.TheVariants as value
 use Rattle.kql_functions.specs.declared.func.ArithmeticFunc.{ArithmeticFunc}
 use Rattle.kql_functions.specs.declared.func.ArithmeticFunc.TheVariants as func
 use Rattle.kql_scalar_fns.specs.Arguments.{argument, long_or_null, moment_or_null, span_or_null}

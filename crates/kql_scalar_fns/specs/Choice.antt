@@ -1,8 +1,8 @@
 -- Tests for null, and choices among values.
 use Rattle.std.specs.Prelude.{Bool, true, false, not, List, [], ◌∷◌, fold, option_map, if◌then◌else◌}
 use Rattle.std.specs.Ordering.{is_lt}
-use Rattle.kql_values.specs.declared.value.Value.{Value}
-use Rattle.kql_values.specs.declared.value.Value.TheVariants as value
+use Rattle.kql_cells.specs.declared.value.Value.{Value}
+use Rattle.kql_cells.specs.declared.value.Value.TheVariants as value
 use Rattle.kql_functions.specs.declared.func.ChoiceFunc.{ChoiceFunc}
 use Rattle.kql_functions.specs.declared.func.ChoiceFunc.TheVariants as func
 use Rattle.kql_scalar_fns.specs.Arguments.{argument}

@@ -6,8 +6,8 @@ use Rattle.std.specs.declared.cmp.Ordering.{Ordering}
 use Rattle.kql_texts.specs.declared.folding.Fold.TheVariants.{Caseless}
 use Rattle.kql_texts.specs.Folding.{folded}
 use Rattle.kql_texts.specs.Texts.{same}
-use Rattle.kql_values.specs.declared.value.Value.{Value}
-use Rattle.kql_values.specs.declared.value.Value.TheVariants as value
+use Rattle.kql_cells.specs.declared.value.Value.{Value}
+use Rattle.kql_cells.specs.declared.value.Value.TheVariants as value
 use Rattle.kql_functions.specs.declared.func.ComparisonFunc.{ComparisonFunc}
 use Rattle.kql_functions.specs.declared.func.ComparisonFunc.TheVariants as func
 use Rattle.kql_scalar_fns.specs.Arguments.{argument, bool_or_null}

@@ -6,10 +6,10 @@ use Rattle.kql_dynamic.specs.Json.{parsed}
 use Rattle.kql_dynamic.specs.Parts.{at_index, at_name, text}
 use Rattle.kql_dynamic.specs.Sets.{set_difference, set_has_element, set_intersect, set_union}
 use Rattle.kql_ticks.specs.Texts.{moment_text, span_text}
-use Rattle.kql_values.specs.declared.dynamic.Dyn.{Dyn}
-use Rattle.kql_values.specs.declared.dynamic.Dyn.TheVariants as dyn
-use Rattle.kql_values.specs.declared.value.Value.{Value}
-use Rattle.kql_values.specs.declared.value.Value.TheVariants as value
+use Rattle.kql_cells.specs.declared.dynamic.Dyn.{Dyn}
+use Rattle.kql_cells.specs.declared.dynamic.Dyn.TheVariants as dyn
+use Rattle.kql_cells.specs.declared.value.Value.{Value}
+use Rattle.kql_cells.specs.declared.value.Value.TheVariants as value
 use Rattle.kql_functions.specs.declared.func.DynamicFunc.{DynamicFunc}
 use Rattle.kql_functions.specs.declared.func.DynamicFunc.TheVariants as func
 use Rattle.kql_scalar_fns.specs.Arguments.{argument}

@@ -5,10 +5,10 @@ use Rattle.kql_functions.specs.declared.func.ArithmeticFunc.TheVariants as arith
 use Rattle.kql_functions.specs.declared.func.ChoiceFunc.TheVariants as choice
 use Rattle.kql_functions.specs.declared.func.LogicFunc.TheVariants as logic
 use Rattle.kql_functions.specs.declared.func.Func.TheVariants as func
-use Rattle.kql_values.specs.Values.{IsOfKind}
-use Rattle.kql_values.specs.declared.value.Kind.{Kind}
-use Rattle.kql_values.specs.declared.value.Value.{Value}
-use Rattle.kql_values.specs.declared.value.Value.TheVariants as value
+use Rattle.kql_cells.specs.Values.{IsOfKind}
+use Rattle.kql_cells.specs.declared.value.Kind.{Kind}
+use Rattle.kql_cells.specs.declared.value.Value.{Value}
+use Rattle.kql_cells.specs.declared.value.Value.TheVariants as value
 use Rattle.kql_scalar_fns.specs.Applied.{applied}
 
 abbrev pub and_all : List Value → Value

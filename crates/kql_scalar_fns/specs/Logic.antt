@@ -1,7 +1,7 @@
 -- Three-valued logic: a null is what is not known.
 use Rattle.std.specs.Prelude.{Bool, true, false, not, List, fold, Option, None, Some, option_map}
-use Rattle.kql_values.specs.declared.value.Value.{Value}
-use Rattle.kql_values.specs.declared.value.Value.TheVariants as value
+use Rattle.kql_cells.specs.declared.value.Value.{Value}
+use Rattle.kql_cells.specs.declared.value.Value.TheVariants as value
 use Rattle.kql_functions.specs.declared.func.LogicFunc.{LogicFunc}
 use Rattle.kql_functions.specs.declared.func.LogicFunc.TheVariants as func
 use Rattle.kql_scalar_fns.specs.Arguments.{argument, bool_or_null}

@@ -1,4 +1,4 @@
--- How texts read as longs and bools, and how values print.
+-- How values print.
 use Rattle.std.specs.Prelude.{ℕ, ℤ, pos, neg_ℤ, ◌^◌, ◌==◌, ◌&&◌, Bool, true, false, List, [], ◌∷◌, drop, slice_index, codes, nat_le, nat_lt, Option, Some, None, if◌then◌else◌, unsigned_abs}
 use Rattle.std.specs.Fmt.{signed_decimal}
 use Rattle.std.specs.Str.{all_ascii_digits, str_eq_ignore_ascii_case}
@@ -6,28 +6,9 @@ use Rattle.std.specs.Str.Parse.{digits_value}
 use Rattle.kql_dynamic.specs.Parts.{text}
 use Rattle.kql_dynamic.specs.Printed.{printed}
 use Rattle.kql_ticks.specs.Texts.{moment_text, span_text}
-use Rattle.kql_values.specs.declared.dynamic.Dyn.{Dyn}
-use Rattle.kql_values.specs.declared.value.Value.{Value}
-use Rattle.kql_values.specs.declared.value.Value.TheVariants as value
-
--- one digit or more, and nothing else
-abbrev pub is_whole : List ℕ → Bool
-is_whole [] = false
-is_whole (d ∷ ds) = all_ascii_digits (d ∷ ds)
-
--- the long that digits write, with a minus before them or none
-unfoldable pub long_written : List ℕ → Option ℤ
-long_written t =
-    if slice_index t 0 == 45 then
-    (if is_whole (drop 1 t) && nat_le (digits_value 10 (drop 1 t)) (2 ^ 63) then Some (neg_ℤ (pos (digits_value 10 (drop 1 t)))) else None)
-    else (if is_whole t && nat_lt (digits_value 10 t) (2 ^ 63) then Some (pos (digits_value 10 t)) else None)
-
--- `true` and `false` in any case
-unfoldable pub bool_written : List ℕ → Option Bool
-bool_written t =
-    if str_eq_ignore_ascii_case t (codes "true") then Some true
-    else if str_eq_ignore_ascii_case t (codes "false") then Some false
-    else None
+use Rattle.kql_cells.specs.declared.dynamic.Dyn.{Dyn}
+use Rattle.kql_cells.specs.declared.value.Value.{Value}
+use Rattle.kql_cells.specs.declared.value.Value.TheVariants as value
 
 -- JSON, but a text without its quotes
 abbrev pub text_or : List ℕ → Option (List ℕ) → List ℕ

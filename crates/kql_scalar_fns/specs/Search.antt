@@ -3,8 +3,8 @@ use Rattle.std.specs.Prelude.{ℕ, Bool, true, false, not, List, Option, None, S
 use Rattle.kql_texts.specs.declared.folding.Fold.{Fold}
 use Rattle.kql_texts.specs.Folding.{folded}
 use Rattle.kql_texts.specs.Texts.{begins, ends, has_term, holds}
-use Rattle.kql_values.specs.declared.value.Value.{Value}
-use Rattle.kql_values.specs.declared.value.Value.TheVariants as value
+use Rattle.kql_cells.specs.declared.value.Value.{Value}
+use Rattle.kql_cells.specs.declared.value.Value.TheVariants as value
 use Rattle.kql_functions.specs.declared.func.SearchFunc.{SearchFunc}
 use Rattle.kql_functions.specs.declared.func.SearchPlace.{SearchPlace}
 use Rattle.kql_functions.specs.declared.func.SearchPlace.TheVariants as place

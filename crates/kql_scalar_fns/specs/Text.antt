@@ -8,9 +8,9 @@ use Rattle.std.specs.Str.{chars, encode_utf8_all}
 use Rattle.std.specs.declared.cmp.Ordering.{Ordering}
 use Rattle.std.specs.declared.cmp.Ordering.TheVariants.{Less, Equal, Greater}
 use Rattle.kql_texts.specs.Texts.{elements, index_of, replace, split_by, sub_text}
-use Rattle.kql_values.specs.declared.dynamic.Dyn.TheVariants as dyn
-use Rattle.kql_values.specs.declared.value.Value.{Value}
-use Rattle.kql_values.specs.declared.value.Value.TheVariants as value
+use Rattle.kql_cells.specs.declared.dynamic.Dyn.TheVariants as dyn
+use Rattle.kql_cells.specs.declared.value.Value.{Value}
+use Rattle.kql_cells.specs.declared.value.Value.TheVariants as value
 use Rattle.kql_functions.specs.declared.func.TextFunc.{TextFunc}
 use Rattle.kql_functions.specs.declared.func.TextFunc.TheVariants as func
 use Rattle.kql_scalar_fns.specs.Arguments.{argument}

@@ -7,8 +7,8 @@ use Rattle.kql_ticks.specs.Forms.{moment_at}
 use Rattle.kql_ticks.specs.Moves.{add_part}
 use Rattle.kql_ticks.specs.Periods.{end_of, field, period, since_sunday, start_of}
 use Rattle.kql_ticks.specs.Ranges.{fit_moment}
-use Rattle.kql_values.specs.declared.value.Value.{Value}
-use Rattle.kql_values.specs.declared.value.Value.TheVariants as value
+use Rattle.kql_cells.specs.declared.value.Value.{Value}
+use Rattle.kql_cells.specs.declared.value.Value.TheVariants as value
 use Rattle.kql_functions.specs.declared.func.TimeFunc.{TimeFunc}
 use Rattle.kql_functions.specs.declared.func.TimeFunc.TheVariants as func
 use Rattle.kql_scalar_fns.specs.Arguments.{argument, long_or_null, moment_or_null}

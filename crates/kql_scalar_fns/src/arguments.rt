@@ -1,9 +1,9 @@
 ghost use Rattle.std.specs.Prelude.{◌≡◌, IfSome, drop, map};
-ghost use Rattle.kql_values.specs.Seen.{seen};
-ghost use Rattle.kql_values.specs.Values.{IsMoment, IsWellFormed};
+ghost use Rattle.kql_cells.specs.Seen.{seen};
+ghost use Rattle.kql_cells.specs.Values.{IsMoment, IsWellFormed};
 ghost use Rattle.kql_scalar_fns.specs.Arguments.{AreWellFormed, argument, bool_or_null, long_or_null, moment_or_null, span_or_null};
 
-use kql_values::{CellRef, Value};
+use kql_cells::{CellRef, Value};
 
 // The argument at a place; one that is not given is null.
 #[tactic(auto, using(crate::proofs::ArgumentFacts::argument_facts), unfolding(crate::specs::Arguments::argument))]

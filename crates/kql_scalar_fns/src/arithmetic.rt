@@ -1,6 +1,6 @@
 ghost use Rattle.std.specs.Prelude.{◌≡◌, map};
-ghost use Rattle.kql_values.specs.Seen.{seen};
-ghost use Rattle.kql_values.specs.Values.{IsWellFormed};
+ghost use Rattle.kql_cells.specs.Seen.{seen};
+ghost use Rattle.kql_cells.specs.Values.{IsWellFormed};
 ghost use Rattle.kql_scalar_fns.specs.Arithmetic.{arithmetic, bin, bin_from_zero, difference, negative, product, quotient, remainder, sign, size, sum};
 
 use crate::arguments::{argument, long_or_null, moment_or_null, span_or_null};
@@ -11,7 +11,7 @@ use crate::whole::{
 };
 use kql_functions::ArithmeticFunc;
 use kql_ticks::bin_at;
-use kql_values::{CellRef, Value};
+use kql_cells::{CellRef, Value};
 
 #[tactic(auto, unfolding(crate::specs::Arithmetic::arithmetic))]
 pub(crate) fn apply_arithmetic(f: ArithmeticFunc, args: &[CellRef<'_>]) -> Value

@@ -1,10 +1,10 @@
 ghost use Rattle.std.specs.Prelude.{◌≡◌};
 ghost use Rattle.std.specs.Int.{int_bit_and, int_bit_or, int_bit_xor, w64};
-ghost use Rattle.kql_values.specs.Seen.{seen};
-ghost use Rattle.kql_values.specs.Values.{IsWellFormed};
+ghost use Rattle.kql_cells.specs.Seen.{seen};
+ghost use Rattle.kql_cells.specs.Values.{IsWellFormed};
 ghost use Rattle.kql_scalar_fns.specs.Arithmetic.{bits_of_both, bits_turned};
 
-use kql_values::{CellRef, Value};
+use kql_cells::{CellRef, Value};
 
 #[tactic(auto, unfolding(crate::specs::Arithmetic::bits_of_both))]
 pub(crate) fn bits_and(a: CellRef<'_>, b: CellRef<'_>) -> Value

@@ -1,7 +1,7 @@
 ghost use Rattle.std.specs.Prelude.{◌≡◌, IfOk, IfSome, List, map};
-ghost use Rattle.kql_values.specs.Seen.{seen};
-ghost use Rattle.kql_values.specs.Values.{IsOfKind, IsWellFormed};
-ghost use Rattle.kql_values.specs.declared.value.Kind.{Kind};
+ghost use Rattle.kql_cells.specs.Seen.{seen};
+ghost use Rattle.kql_cells.specs.Values.{IsOfKind, IsWellFormed};
+ghost use Rattle.kql_cells.specs.declared.value.Kind.{Kind};
 ghost use Rattle.kql_scalar_fns.specs.Applied.{applied};
 ghost use Rattle.kql_scalar_fns.specs.Arguments.{AreWellFormed};
 ghost use Rattle.kql_functions.specs.Kinds.{AreOfKinds, result_kind};
@@ -16,7 +16,7 @@ use crate::search::apply_search;
 use crate::text::apply_text;
 use crate::time::apply_time;
 use kql_functions::Func;
-use kql_values::{CellRef, Value};
+use kql_cells::{CellRef, Value};
 use std::alloc::{AllocError, Global};
 
 /// What a function or operator gives for these arguments, which are lent: no text of theirs is copied to be read.

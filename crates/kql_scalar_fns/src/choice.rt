@@ -1,12 +1,12 @@
 ghost use Rattle.std.specs.Prelude.{◌≡◌, IfOk, map};
-ghost use Rattle.kql_values.specs.Seen.{seen};
+ghost use Rattle.kql_cells.specs.Seen.{seen};
 ghost use Rattle.kql_scalar_fns.specs.Choice.{choice, chosen, first_case, first_given, greater, greatest, is_below, is_empty, is_null, least, lesser};
 
 use crate::arguments::argument;
 use crate::comparison::{is_less, order};
 use crate::logic::{is_true, truth};
 use kql_functions::ChoiceFunc;
-use kql_values::{CellRef, Value};
+use kql_cells::{CellRef, Value};
 use std::alloc::{AllocError, Global};
 
 #[tactic(auto, unfolding(crate::specs::Choice::choice))]

@@ -1,8 +1,8 @@
 ghost use Rattle.std.specs.Prelude.{◌≡◌, IfOk, map, option_map};
 ghost use Rattle.std.specs.Ordering.{int_eq, is_ge, is_gt, is_le, is_lt};
 ghost use Rattle.kql_texts.specs.Texts.{same};
-ghost use Rattle.kql_values.specs.Seen.{seen};
-ghost use Rattle.kql_values.specs.Values.{IsWellFormed};
+ghost use Rattle.kql_cells.specs.Seen.{seen};
+ghost use Rattle.kql_cells.specs.Values.{IsWellFormed};
 ghost use Rattle.kql_scalar_fns.specs.Comparison.{comparison, equality, is_among, is_between, is_text_among, order, same_bools, text_equality, upper_end};
 
 use crate::arguments::{argument, bool_or_null, others};
@@ -10,7 +10,7 @@ use crate::arithmetic::sum;
 use crate::logic::{both, is_true, opposite};
 use kql_functions::ComparisonFunc;
 use kql_texts::{Fold, same};
-use kql_values::{CellRef, Value};
+use kql_cells::{CellRef, Value};
 use std::alloc::{AllocError, Global};
 use std::cmp::Ordering;
 

@@ -2,8 +2,8 @@ ghost use Rattle.std.specs.Prelude.{◌≡◌, IfOk, IfSome, map, option_and_the
 ghost use Rattle.std.specs.Ordering.{int_eq};
 ghost use Rattle.kql_dynamic.specs.Parts.{text};
 ghost use Rattle.kql_ticks.specs.Forms.{span_in};
-ghost use Rattle.kql_values.specs.Seen.{seen};
-ghost use Rattle.kql_values.specs.Values.{IsMoment, IsWellFormed};
+ghost use Rattle.kql_cells.specs.Seen.{seen};
+ghost use Rattle.kql_cells.specs.Values.{IsMoment, IsWellFormed};
 ghost use Rattle.kql_scalar_fns.specs.Arguments.{AreWellFormed};
 ghost use Rattle.kql_scalar_fns.specs.Conversion.{bool_held, conversion, is_not_zero, long_held, moment_written, one_if, to_bool, to_long, to_moment, to_span};
 
@@ -11,7 +11,7 @@ use crate::arguments::{argument, bool_or_null, long_or_null, moment_or_null, spa
 use crate::readings::{read_bool, read_long, text_in, text_of};
 use kql_functions::ConversionFunc;
 use kql_ticks::{read_moment, read_span};
-use kql_values::{CellRef, Dyn, Value};
+use kql_cells::{CellRef, Dyn, Value};
 use std::alloc::{AllocError, Global};
 
 #[tactic(auto, unfolding(crate::specs::Conversion::conversion))]

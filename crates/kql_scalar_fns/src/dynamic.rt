@@ -3,9 +3,9 @@ ghost use Rattle.std.specs.List.{list_all};
 ghost use Rattle.kql_dynamic.specs.Arrays.{array_concat, array_index_of, array_length, array_reverse, array_slice, pack_array};
 ghost use Rattle.kql_dynamic.specs.Bags.{bag_has_key, bag_keys, bag_merge, bag_pack};
 ghost use Rattle.kql_dynamic.specs.Sets.{set_difference, set_has_element, set_intersect, set_union};
-ghost use Rattle.kql_values.specs.Dynamic.{is_well_formed_dynamic};
-ghost use Rattle.kql_values.specs.Seen.{seen};
-ghost use Rattle.kql_values.specs.Values.{IsWellFormed};
+ghost use Rattle.kql_cells.specs.Dynamic.{is_well_formed_dynamic};
+ghost use Rattle.kql_cells.specs.Seen.{seen};
+ghost use Rattle.kql_cells.specs.Values.{IsWellFormed};
 ghost use Rattle.kql_scalar_fns.specs.Arguments.{AreWellFormed};
 ghost use Rattle.kql_scalar_fns.specs.Dynamic.{at, dynamic_call, element, of_all, of_count, of_one, read};
 
@@ -18,7 +18,7 @@ use kql_dynamic::{
 };
 use kql_functions::DynamicFunc;
 use kql_ticks::{print_moment, print_span};
-use kql_values::{CellRef, Dyn, KText, Value, clone_dyn};
+use kql_cells::{CellRef, Dyn, KText, Value, clone_dyn};
 use std::alloc::{AllocError, Global};
 use std::slice;
 

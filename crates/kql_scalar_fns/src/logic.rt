@@ -1,11 +1,11 @@
 ghost use Rattle.std.specs.Prelude.{◌≡◌, Bool, map};
-ghost use Rattle.kql_values.specs.Seen.{seen};
-ghost use Rattle.kql_values.specs.Values.{IsWellFormed};
+ghost use Rattle.kql_cells.specs.Seen.{seen};
+ghost use Rattle.kql_cells.specs.Values.{IsWellFormed};
 ghost use Rattle.kql_scalar_fns.specs.Logic.{both, conjunction, disjunction, either, is_true, logic, opposite, truth};
 
 use crate::arguments::{argument, bool_or_null};
 use kql_functions::LogicFunc;
-use kql_values::{CellRef, Value};
+use kql_cells::{CellRef, Value};
 
 #[tactic(auto, unfolding(crate::specs::Logic::logic))]
 pub(crate) fn apply_logic(f: LogicFunc, args: &[CellRef<'_>]) -> Value

@@ -1,49 +1,15 @@
 ghost use Rattle.std.specs.Prelude.{◌≡◌, ◌++◌, ◌==◌, IfOk, IsTrue, OnOk, option_and_then, option_map, slice_index};
 ghost use Rattle.std.specs.Fmt.{signed_decimal};
 ghost use Rattle.kql_dynamic.specs.Parts.{text};
-ghost use Rattle.kql_values.specs.Dynamic.{is_well_formed_dynamic};
-ghost use Rattle.kql_values.specs.Seen.{seen};
-ghost use Rattle.kql_values.specs.Values.{IsWellFormed};
+ghost use Rattle.kql_cells.specs.Dynamic.{is_well_formed_dynamic};
+ghost use Rattle.kql_cells.specs.Seen.{seen};
+ghost use Rattle.kql_cells.specs.Values.{IsWellFormed};
 ghost use Rattle.kql_scalar_fns.specs.Readings.{bool_written, dynamic_text, long_written, text_of};
 
 use kql_dynamic::print_json;
 use kql_ticks::{print_moment, print_span};
-use kql_values::{CellRef, Dyn, KText};
+use kql_cells::{CellRef, Dyn, KText};
 use std::alloc::{AllocError, Global};
-
-// Digits with a minus before them or none, in the range of a long.
-#[tactic(auto, using(crate::proofs::NumberFacts::number_facts))]
-pub(crate) fn read_long(text: &str) -> Option<i64>
-    ensures { result ≡ long_written text.now }
-{
-    if begins_with_plus(text) {
-        return None;
-    }
-    text.parse::<i64>().ok()
-}
-
-fn begins_with_plus(text: &str) -> bool
-    ensures { result ≡ (slice_index text.now 0 == 43) }
-{
-    match text.as_bytes().first() {
-        Some(byte) => *byte == b'+',
-        None => false,
-    }
-}
-
-// `true` and `false` in any case.
-#[tactic(auto, unfolding(crate::specs::Readings::bool_written))]
-pub(crate) fn read_bool(text: &str) -> Option<bool>
-    ensures { result ≡ bool_written text.now }
-{
-    if text.eq_ignore_ascii_case("true") {
-        Some(true)
-    } else if text.eq_ignore_ascii_case("false") {
-        Some(false)
-    } else {
-        None
-    }
-}
 
 // The text of a dynamic value that is one.
 #[tactic(auto, unfolding(kql_dynamic::specs::Parts::text))]

@@ -1,13 +1,13 @@
 ghost use Rattle.std.specs.Prelude.{◌≡◌, IfOk, map};
 ghost use Rattle.kql_texts.specs.Folding.{folded};
-ghost use Rattle.kql_values.specs.Seen.{seen};
-ghost use Rattle.kql_values.specs.Values.{IsWellFormed};
+ghost use Rattle.kql_cells.specs.Seen.{seen};
+ghost use Rattle.kql_cells.specs.Values.{IsWellFormed};
 ghost use Rattle.kql_scalar_fns.specs.Search.{found, search_call, stands, turned_if};
 
 use crate::arguments::{argument, bool_or_null};
 use kql_functions::{SearchFunc, SearchPlace};
 use kql_texts::{Fold, begins, ends, has_term, holds};
-use kql_values::{CellRef, Value};
+use kql_cells::{CellRef, Value};
 use std::alloc::{AllocError, Global};
 
 #[tactic(auto, unfolding(crate::specs::Search::search_call))]

@@ -1,7 +1,7 @@
 ghost use Rattle.std.specs.Prelude.{◌≡◌, ◌++◌, IfOk, OnOk, drop, length, map};
 ghost use Rattle.std.specs.List.{flat_map};
-ghost use Rattle.kql_values.specs.Seen.{seen};
-ghost use Rattle.kql_values.specs.Values.{IsWellFormed};
+ghost use Rattle.kql_cells.specs.Seen.{seen};
+ghost use Rattle.kql_cells.specs.Values.{IsWellFormed};
 ghost use Rattle.kql_scalar_fns.specs.Arguments.{AreWellFormed};
 ghost use Rattle.kql_scalar_fns.specs.Readings.{text_of};
 ghost use Rattle.kql_scalar_fns.specs.Text.{char_count, joined, joined_with, lowered, order_number, part, pieces, place_of, raised, replaced, rest_from, reversed, text_call, text_order};
@@ -9,7 +9,7 @@ ghost use Rattle.kql_scalar_fns.specs.Text.{char_count, joined, joined_with, low
 use crate::arguments::{argument, others};
 use crate::readings::{push_text_of, text_of};
 use kql_functions::TextFunc;
-use kql_values::{CellRef, Dyn, KText, Value};
+use kql_cells::{CellRef, Dyn, KText, Value};
 use std::alloc::{AllocError, Global};
 use std::cmp::Ordering;
 

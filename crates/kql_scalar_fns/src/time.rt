@@ -3,8 +3,8 @@ ghost use Rattle.kql_ticks.specs.Forms.{moment_at};
 ghost use Rattle.kql_ticks.specs.Moves.{add_part};
 ghost use Rattle.kql_ticks.specs.Periods.{HasBounds, HasField, IsPeriod, field, period};
 ghost use Rattle.kql_ticks.specs.Ranges.{fit_moment};
-ghost use Rattle.kql_values.specs.Seen.{seen};
-ghost use Rattle.kql_values.specs.Values.{IsMoment, IsWellFormed};
+ghost use Rattle.kql_cells.specs.Seen.{seen};
+ghost use Rattle.kql_cells.specs.Values.{IsMoment, IsWellFormed};
 ghost use Rattle.kql_scalar_fns.specs.Arguments.{AreWellFormed};
 ghost use Rattle.kql_scalar_fns.specs.Time.{crossed, end, field_named, field_of, made, made_of, moved, named_field, period_named, since_1970, start, time_call, weekday};
 
@@ -12,7 +12,7 @@ use crate::arguments::{argument, long_or_null, moment_or_null};
 use crate::whole::in_moments;
 use kql_functions::TimeFunc;
 use kql_ticks::{Part, add_part, borders, day_of_week, end_of, make_moment, part_of, start_of};
-use kql_values::{CellRef, Value};
+use kql_cells::{CellRef, Value};
 
 // The ticks from 0001-01-01 to 1970-01-01.
 const START_OF_1970: i128 = 621_355_968_000_000_000;

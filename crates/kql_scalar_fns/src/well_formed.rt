@@ -1,10 +1,10 @@
 ghost use Rattle.std.specs.Prelude.{◌≡◌, ◌↔◌, IsTrue, map};
-ghost use Rattle.kql_values.specs.Dynamic.{is_null};
-ghost use Rattle.kql_values.specs.Seen.{seen};
-ghost use Rattle.kql_values.specs.Values.{IsWellFormed};
+ghost use Rattle.kql_cells.specs.Dynamic.{is_null};
+ghost use Rattle.kql_cells.specs.Seen.{seen};
+ghost use Rattle.kql_cells.specs.Values.{IsWellFormed};
 ghost use Rattle.kql_scalar_fns.specs.Arguments.{AreWellFormed};
 
-use kql_values::{CellRef, Dyn, LEVELS_TOP, MOMENT_TOP, has_form, has_levels_within};
+use kql_cells::{CellRef, Dyn, LEVELS_TOP, MOMENT_TOP, has_form, has_levels_within};
 
 /// Whether what these cells show is well formed, which `apply_cells` asks of its arguments. The cells of a table are.
 pub fn are_well_formed(cells: &[CellRef<'_>]) -> bool

@@ -2,11 +2,11 @@
 ghost use Rattle.std.specs.Prelude.{◌≡◌, ◌+ℤ◌, ◌-ℤ◌, ◌*ℤ◌, IfSome, neg_ℤ, pos, unsigned_abs, option_and_then};
 ghost use Rattle.kql_ticks.specs.Bins.{bin_at as bin_from};
 ghost use Rattle.kql_ticks.specs.Ranges.{fit, fit_moment};
-ghost use Rattle.kql_values.specs.Values.{IsMoment};
+ghost use Rattle.kql_cells.specs.Values.{IsMoment};
 ghost use Rattle.kql_scalar_fns.specs.Arithmetic.{quotient_of, remainder_of};
 
 use kql_ticks::bin_at;
-use kql_values::MOMENT_TOP;
+use kql_cells::MOMENT_TOP;
 
 #[tactic(auto, using(crate::proofs::RangeFacts::range_facts))]
 pub(crate) fn whole_sum(a: i64, b: i64) -> Option<i64>

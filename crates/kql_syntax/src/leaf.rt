@@ -11,7 +11,7 @@ use crate::tree::{
     SumSign, Word,
 };
 use kql_lexer::{Keyword, Token, TokenForm};
-use kql_values::KText;
+use kql_cells::KText;
 use std::alloc::{AllocError, Global};
 
 /// The text of a word or a string; of any other token it is empty.

@@ -3,7 +3,7 @@
 use crate::tree::{Expr, Name, Word};
 use kql_items::{Boxed, Items};
 use kql_lexer::Place;
-use kql_values::KText;
+use kql_cells::KText;
 
 /// A query: let statements, and a pipe.
 #[derive(Drop)]

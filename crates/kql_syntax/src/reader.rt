@@ -24,7 +24,7 @@ use crate::tree::{
 };
 use kql_items::{Boxed, Items};
 use kql_lexer::{Keyword, Place, Token};
-use kql_values::KText;
+use kql_cells::KText;
 use std::alloc::{AllocError, Global};
 
 /// Literals.

@@ -4,7 +4,7 @@
 
 use kql_items::{Boxed, Items};
 use kql_lexer::{Keyword, Place};
-use kql_values::KText;
+use kql_cells::KText;
 
 /// A word as it is written, reserved or not.
 #[derive(Drop)]

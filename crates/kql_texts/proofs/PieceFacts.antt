@@ -8,8 +8,8 @@ use Rattle.std.specs.Str.Replace.{ReplacesMatches}
 use Rattle.std.specs.declared.str.Split.{Split}
 use Rattle.std.proofs.lemmas.Bool.{cases_lt, eqb-true, false≢true}
 use Rattle.std.proofs.lemmas.List.{drop_at, length-drop, length-take-le, nil_from_length}
-use Rattle.kql_values.specs.declared.dynamic.Dyn.{Dyn}
-use Rattle.kql_values.specs.declared.dynamic.Dyn.TheVariants as dyn
+use Rattle.kql_cells.specs.declared.dynamic.Dyn.{Dyn}
+use Rattle.kql_cells.specs.declared.dynamic.Dyn.TheVariants as dyn
 use Rattle.kql_texts.specs.Pieces.{AreCutAt, EndsAtFirst, IsSplit, joined}
 use Rattle.kql_texts.proofs.PlaceFacts.{lacks-Holds}
 

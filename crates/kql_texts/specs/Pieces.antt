@@ -1,8 +1,8 @@
 -- A text cut at each occurrence of another, from the left and with no two overlapping.
 use Rattle.std.specs.Prelude.{◌≡◌, ℕ, List, [], ◌∷◌, ◌++◌, map}
 use Rattle.std.specs.List.{join_by}
-use Rattle.kql_values.specs.declared.dynamic.Dyn.{Dyn}
-use Rattle.kql_values.specs.declared.dynamic.Dyn.TheVariants as dyn
+use Rattle.kql_cells.specs.declared.dynamic.Dyn.{Dyn}
+use Rattle.kql_cells.specs.declared.dynamic.Dyn.TheVariants as dyn
 use Rattle.kql_texts.specs.Stands.{Holds}
 
 -- the pieces one after another, with d between each two

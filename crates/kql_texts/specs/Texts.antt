@@ -2,8 +2,8 @@
 use Rattle.std.specs.Prelude.{ℕ, zero, suc, ℤ, pos, negsuc, ◌-◌, Bool, ◌&&◌, ◌||◌, not, nat_eq, List, [], ◌∷◌, fold, length, drop, map, if◌then◌else◌}
 use Rattle.std.specs.List.{ends_with, onto_first, starts_with}
 use Rattle.std.specs.Str.{bytes_eq, chars, encode_utf8_all}
-use Rattle.kql_values.specs.declared.dynamic.Dyn.{Dyn}
-use Rattle.kql_values.specs.declared.dynamic.Dyn.TheVariants as dyn
+use Rattle.kql_cells.specs.declared.dynamic.Dyn.{Dyn}
+use Rattle.kql_cells.specs.declared.dynamic.Dyn.TheVariants as dyn
 use Rattle.kql_texts.specs.Pieces.{joined}
 use Rattle.kql_texts.specs.Places.{sub_list}
 use Rattle.kql_texts.specs.Terms.{are_joined, first_of}

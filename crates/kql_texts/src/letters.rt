@@ -4,7 +4,7 @@ ghost use Rattle.std.specs.Cmp.Lexicographic.{slice_cmp};
 ghost use Rattle.std.specs.Ordering.{nat_cmp};
 ghost use Rattle.std.specs.Str.{chars, encode_utf8_all};
 
-use kql_values::KText;
+use kql_cells::KText;
 use std::alloc::{AllocError, Global};
 use std::cmp::Ordering;
 

@@ -3,7 +3,7 @@ ghost use Rattle.kql_texts.specs.Pieces.{JoinsInto, Replaces, SplitsInto};
 ghost use Rattle.kql_texts.specs.Texts.{elements, replace, split_by};
 
 use kql_items::Items;
-use kql_values::{Dyn, DynList, KText};
+use kql_cells::{Dyn, DynList, KText};
 use std::alloc::{AllocError, Global};
 
 /// The texts between the occurrences of `separator`, which are taken from the left, no two overlapping.

@@ -4,7 +4,7 @@ ghost use Rattle.kql_texts.specs.Places.{IsIndexOf, or_zero, place_in};
 ghost use Rattle.kql_texts.specs.Stands.{Holds};
 ghost use Rattle.kql_texts.specs.Texts.{index_of, sub_text};
 
-use kql_values::KText;
+use kql_cells::KText;
 use std::alloc::{AllocError, Global};
 
 /// How many characters a text has.

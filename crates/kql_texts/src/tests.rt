@@ -1,5 +1,5 @@
 use super::*;
-use kql_values::{Dyn, DynList};
+use kql_cells::{Dyn, DynList};
 use std::alloc::{AllocError, Global};
 use std::cmp::Ordering;
 use std::test::Fail;

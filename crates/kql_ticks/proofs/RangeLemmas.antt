@@ -3,7 +3,7 @@ use Rattle.std.proofs.Common.{◌≡◌, ℕ, ◌≤◌, true, nat_le, inl, inr,
 use Rattle.std.proofs.lemmas.Bool.{cases_Bool}
 use Rattle.std.proofs.lemmas.Bool.Decides.{nat_tests}
 use Rattle.std.proofs.lemmas.Int.{ints}
-use Rattle.kql_values.specs.Values.{IsMoment}
+use Rattle.kql_cells.specs.Values.{IsMoment}
 use Rattle.kql_ticks.specs.Ranges.{fit_moment}
 
 upto : (n : ℕ) → nat_le n 3155378975999999999 ≡ true → IsMoment (pos n)

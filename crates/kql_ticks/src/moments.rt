@@ -1,6 +1,6 @@
 ghost use Rattle.std.specs.Prelude.{◌≡◌, ◌+◌, ◌<◌, ◌≤◌, pos, length, option_map, IfSome};
 ghost use Rattle.kql_ticks.specs.Forms.{before_z, date_in, day_of_date, fraction_in, minutes_in, moment_at, moment_in, moment_of, seconds_in, size_of, time_in, time_of_day_in};
-ghost use Rattle.kql_values.specs.Values.{IsMoment};
+ghost use Rattle.kql_cells.specs.Values.{IsMoment};
 
 use crate::days::day_number;
 use crate::numbers::{number, share};

@@ -1,5 +1,5 @@
 ghost use Rattle.std.specs.Prelude.{◌≡◌, ◌<◌, ◌≤◌, ◌^◌, pos, neg_ℤ, ◌+ℤ◌, ◌*ℤ◌, ◌≤ℤ◌, unsigned_abs, IfSome};
-ghost use Rattle.kql_values.specs.Values.{IsMoment};
+ghost use Rattle.kql_cells.specs.Values.{IsMoment};
 ghost use Rattle.kql_ticks.specs.Moves.{add_part, in_month, to_month};
 ghost use Rattle.kql_ticks.specs.Periods.{IsPeriod, day_at, month_number, ticks_of};
 ghost use Rattle.kql_ticks.specs.Ranges.{fit_moment};

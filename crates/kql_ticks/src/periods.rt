@@ -1,5 +1,5 @@
 ghost use Rattle.std.specs.Prelude.{◌≡◌, ◌≢◌, ◌+◌, ◌-◌, ◌<◌, ◌≤◌, pos, ◌-ℤ◌, ◌<ℤ◌, ◌≤ℤ◌, unsigned_abs, Some, IfSome};
-ghost use Rattle.kql_values.specs.Values.{IsMoment};
+ghost use Rattle.kql_cells.specs.Values.{IsMoment};
 ghost use Rattle.kql_ticks.specs.Periods.{HasBounds, HasField, IsPeriod, day_at, day_period, end_of, field, first_day, month_number, period, since_sunday, start_of};
 ghost use Rattle.kql_ticks.specs.Days.{date_number, year_on};
 

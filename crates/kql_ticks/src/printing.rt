@@ -1,5 +1,5 @@
 ghost use Rattle.std.specs.Prelude.{◌≡◌, ◌+◌, ◌/◌, ◌%◌, ◌<◌, ◌≤◌, ◌++◌, ◌∷◌, [], option_map, pos, string_bytes, unsigned_abs, Some, IfOk, OnOk};
-ghost use Rattle.kql_values.specs.Values.{IsMoment};
+ghost use Rattle.kql_cells.specs.Values.{IsMoment};
 ghost use Rattle.kql_ticks.specs.Days.{HasDate};
 ghost use Rattle.kql_ticks.specs.Forms.{moment_in, span_in};
 ghost use Rattle.kql_ticks.specs.Periods.{day_at};
@@ -7,7 +7,7 @@ ghost use Rattle.kql_ticks.specs.Texts.{clock_text, date_text, days_text, digits
 
 use crate::days::date_on;
 use crate::periods::{DAY, HOUR, MINUTE, SECOND, day_of, ticks};
-use kql_values::KText;
+use kql_cells::KText;
 use std::alloc::{AllocError, Global};
 
 /// A datetime as `yyyy-mm-ddThh:mm:ss.fffffffZ`.

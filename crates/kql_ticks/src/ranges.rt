@@ -1,7 +1,7 @@
 ghost use Rattle.std.specs.Prelude.{◌≡◌};
 ghost use Rattle.kql_ticks.specs.Ranges.{fit, fit_moment};
 
-use kql_values::MOMENT_TOP;
+use kql_cells::MOMENT_TOP;
 
 // A number as a timespan, if it is in range.
 #[tactic(auto, unfolding(crate::specs::Ranges::fit))]

@@ -5,7 +5,7 @@ use Rattle.std.proofs.Math.ListN.{set}
 use Rattle.std.proofs.Math.Seq.{drop-append_seam, drop-append-add}
 use Rattle.std.proofs.Common.{length-append}
 use Rattle.std.proofs.lemmas.List.{drop-append-le, length-drop, take-append-le, take_all}
-use Rattle.kql_values.specs.Pieces.{pieces, RisesTo, start_at}
+use Rattle.kql_cells.specs.Pieces.{pieces, RisesTo, start_at}
 
 -- a piece for each place
 pub pieces-length : {X : Type 0} (start : ℕ) (ends : List ℕ) (xs : List X) → length (pieces start ends xs) ≡ length ends

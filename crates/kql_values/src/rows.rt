@@ -1,6 +1,6 @@
 ghost use Rattle.std.specs.Prelude.{◌≡◌, ℕ, ◌<◌, ◌+◌, ◌^◌, ◌++◌, ◌∷◌, ◌↔◌, [], length, take, map, slice_index, All, IfOk, IsTrue, OnErr, OnOk};
-ghost use Rattle.kql_values.specs.Pieces.{start_at};
-ghost use Rattle.kql_values.specs.Seen.{cell_at, row_at, seen};
+ghost use Rattle.kql_cells.specs.Pieces.{start_at};
+ghost use Rattle.kql_cells.specs.Seen.{cell_at, row_at, seen};
 
 use crate::cell::CellRef;
 use crate::value::{Row, Value, clone_value};
@@ -20,9 +20,9 @@ pub struct Rows {
 impl Model for Rows {
     ghost use Rattle.std.specs.Prelude.{List, length};
     ghost use Rattle.std.specs.Coded.{codes};
-    ghost use Rattle.kql_values.specs.contracts.dynamic.Dyn as dynamic;
-    ghost use Rattle.kql_values.specs.declared.value.Value.{Value as Cell};
-    ghost use Rattle.kql_values.specs.Pieces.{RisesTo, pieces};
+    ghost use Rattle.kql_cells.specs.contracts.dynamic.Dyn as dynamic;
+    ghost use Rattle.kql_cells.specs.declared.value.Value.{Value as Cell};
+    ghost use Rattle.kql_cells.specs.Pieces.{RisesTo, pieces};
 
     ghost Value = { List (List Cell) };
 

@@ -10,7 +10,7 @@ use kql_functions::{
 };
 use kql_items::Items as List;
 use kql_texts::Fold;
-use kql_values::KText;
+use kql_cells::KText;
 use std::alloc::Global;
 use std::test::Fail;
 

@@ -6,7 +6,7 @@ use kql_bound::{
     Aggregate, BExpr, BItem, Exprs, GroupPlan, Items, Lit, Op, SeriesItem, SeriesItems, SeriesPlan,
 };
 use kql_items::Items as List;
-use kql_values::{KText, Kind, MOMENT_TOP, Names, Value};
+use kql_cells::{KText, Kind, MOMENT_TOP, Names, Value};
 use std::alloc::Global;
 use std::test::Fail;
 

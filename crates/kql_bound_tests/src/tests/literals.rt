@@ -2,7 +2,7 @@
 use super::{Made, column, lit, one, shown_expr, string, text, two};
 use kql_bound::{BExpr, Lit};
 use kql_items::Items as List;
-use kql_values::{Dyn, DynBag, DynList, KText, Kind, MOMENT_TOP, Value};
+use kql_cells::{Dyn, DynBag, DynList, KText, Kind, MOMENT_TOP, Value};
 use std::alloc::Global;
 use std::test::Fail;
 

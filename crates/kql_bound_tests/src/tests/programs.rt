@@ -7,7 +7,7 @@ use super::{
 use kql_bound::{BExpr, Items, JoinKind, Op, Ops, Plan, Plans, Program, Source, clone_program};
 use kql_functions::{ComparisonFunc, Func, LogicFunc};
 use kql_items::Items as List;
-use kql_values::{Column, Kind, NamedSchema, Schema, Schemas, Value};
+use kql_cells::{Column, Kind, NamedSchema, Schema, Schemas, Value};
 use std::alloc::Global;
 use std::test::Fail;
 

@@ -4,7 +4,7 @@ use super::{
     two, with,
 };
 use kql_bound::{BExpr, Expand, ExpandItem, ExpandItems, Op, ParsePlan, PatItem, Pattern};
-use kql_values::Kind;
+use kql_cells::Kind;
 use std::alloc::Global;
 use std::test::Fail;
 

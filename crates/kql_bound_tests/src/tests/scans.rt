@@ -3,7 +3,7 @@ use super::exprs::step_column;
 use super::{Made, item, items, lit, long, number, one, shown, string, text, truth, two};
 use kql_bound::{Decl, Decls, Items, Lit, Op, Output, ScanPlan, ScanStep, ScanSteps};
 use kql_items::Items as List;
-use kql_values::{KText, Kind, Value};
+use kql_cells::{KText, Kind, Value};
 use std::alloc::Global;
 use std::test::Fail;
 

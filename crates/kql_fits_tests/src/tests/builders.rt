@@ -3,7 +3,7 @@ use super::{is, item, items, one, text, two};
 use kql_bound::{Aggregate, BExpr, BItem, Exprs, Items, Lit, Op, Window};
 use kql_functions::{DynamicFunc, Func};
 use kql_items::{Boxed, Items as List};
-use kql_values::{Kind, Value};
+use kql_cells::{Kind, Value};
 use std::alloc::{AllocError, Global};
 
 pub(super) type Made<T> = Result<T, AllocError>;

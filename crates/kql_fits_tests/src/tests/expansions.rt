@@ -2,7 +2,7 @@
 use super::builders::{Made, both, json, list_of_one, list_of_two, none};
 use super::{column, string, text};
 use kql_bound::{BExpr, Expand, ExpandItem, ExpandItems, Op, ParsePlan, PatItem, Pattern};
-use kql_values::Kind;
+use kql_cells::Kind;
 use std::alloc::Global;
 
 fn part(alloc: Global, name: &str, e: Made<BExpr>, to: Kind) -> Made<ExpandItem> {

@@ -4,7 +4,7 @@ use super::{column, is, number, string, text};
 use kql_bound::{
     BExpr, Decl, Decls, Items, Lit, Op, Output, ScanPlan, ScanStep, ScanSteps, StepColumn, Window,
 };
-use kql_values::{KText, Kind, Value};
+use kql_cells::{KText, Kind, Value};
 use std::alloc::Global;
 
 // A declared column with the default 0.

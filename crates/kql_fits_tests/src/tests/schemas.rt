@@ -2,7 +2,7 @@
 use super::{of_a, plan, program, schema};
 use kql_fits::fits;
 use kql_items::Items as List;
-use kql_values::{Kind, Schemas};
+use kql_cells::{Kind, Schemas};
 use std::alloc::{AllocError, Global};
 use std::test::Fail;
 

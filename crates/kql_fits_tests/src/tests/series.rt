@@ -2,7 +2,7 @@
 use super::builders::{Made, aggregate, both, list_of_one, none, text_literal};
 use super::{column, long, one, text};
 use kql_bound::{Aggregate, BExpr, Lit, Op, SeriesItem, SeriesItems, SeriesPlan};
-use kql_values::{Kind, Value};
+use kql_cells::{Kind, Value};
 use std::alloc::Global;
 
 // from, to and step

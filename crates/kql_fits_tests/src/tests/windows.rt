@@ -4,7 +4,7 @@ use super::builders::{
 };
 use super::{column, number, string};
 use kql_bound::{BExpr, Exprs, Lit, Op, Window};
-use kql_values::{Kind, Value};
+use kql_cells::{Kind, Value};
 use std::alloc::Global;
 
 fn whole(n: i64) -> Made<BExpr> {

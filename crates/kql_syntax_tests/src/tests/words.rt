@@ -7,7 +7,7 @@ use kql_syntax::{
     BetweenOp, Class, Cmp, CompareOp, Expr, InOp, ProdOp, SumOp, SyntaxFault, is_name, is_of,
     parse_expr,
 };
-use kql_values::KText;
+use kql_cells::KText;
 use std::alloc::{AllocError, Global};
 use std::test::Fail;
 

@@ -1,7 +1,7 @@
 use Rattle.std.proofs.Common.{◌≡◌, ◌+◌, ◌++◌, drop, take}
 use Rattle.csv.specs.Records.{fields_of}
 use Rattle.csv_io.specs.Load.{cells_faults, cells_of}
-use Rattle.kql_values.specs.Table.{RowFits}
+use Rattle.kql_cells.specs.Table.{RowFits}
 use Rattle.csv_io.proofs.loading.read_row.Given as goal
 
 abbrev pub invariant-loop-j : goal.invariant-loop-j

@@ -3,8 +3,8 @@ use Rattle.std.proofs.lemmas.Grind.{common_steps}
 use Rattle.std.proofs.lemmas.List.{take_all}
 use Rattle.std.proofs.lemmas.List.Elements.{All-more}
 use Rattle.csv_io.specs.Reload.{ReadsBack}
-use Rattle.kql_values.specs.Seen.{row_at}
-use Rattle.kql_values.specs.declared.value.Value.TheVariants as value
+use Rattle.kql_cells.specs.Seen.{row_at}
+use Rattle.kql_cells.specs.declared.value.Value.TheVariants as value
 use Rattle.csv_io.proofs.print.push_cells.Goals as goal
 
 pub loop-j-preserved : goal.loop-j-preserved

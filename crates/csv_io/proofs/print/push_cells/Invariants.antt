@@ -3,7 +3,7 @@ use Rattle.std.specs.Prelude.{All}
 use Rattle.csv.specs.Records.{fields_of, partial_of}
 use Rattle.csv_io.specs.Reload.{ReadsBack}
 use Rattle.csv_io.specs.Text.{cell_text}
-use Rattle.kql_values.specs.Seen.{row_at}
+use Rattle.kql_cells.specs.Seen.{row_at}
 use Rattle.csv_io.proofs.print.push_cells.Given as goal
 
 abbrev pub invariant-loop-j : goal.invariant-loop-j

@@ -7,7 +7,7 @@ use Rattle.csv.specs.Records.{AllText}
 use Rattle.csv_io.specs.Reload.{ReadsBack}
 use Rattle.csv_io.specs.Text.{names_of, table_text}
 use Rattle.csv_io.proofs.Reloaded.{loads-again, row-forms}
-use Rattle.kql_values.specs.Seen.{row_at}
+use Rattle.kql_cells.specs.Seen.{row_at}
 use Rattle.csv_io.proofs.print.table_text.Goals as goal
 
 pub push_cells-requires-clause-forms : goal.push_cells-requires-clause-forms

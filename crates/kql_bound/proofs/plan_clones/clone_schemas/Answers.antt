@@ -1,6 +1,6 @@
 use Rattle.std.proofs.Common.{sym, subst, arith}
-use Rattle.kql_values.specs.Catalogues.{schema_name}
-use Rattle.kql_values.specs.Named.{HasDistinctNames}
+use Rattle.kql_cells.specs.Catalogues.{schema_name}
+use Rattle.kql_cells.specs.Named.{HasDistinctNames}
 use Rattle.kql_bound.proofs.SchemaLemmas.{absent_in_copies}
 use Rattle.kql_bound.proofs.plan_clones.clone_schemas.Goals as goal
 

@@ -1,6 +1,6 @@
 use Rattle.std.proofs.Common.{◌≡◌, filter, take}
 use Rattle.std.specs.List.{list_all}
-use Rattle.kql_values.specs.declared.schema.Column.{Column}
+use Rattle.kql_cells.specs.declared.schema.Column.{Column}
 use Rattle.kql_meaning.specs.Tables.{has_column}
 use Rattle.kql_columns.proofs.columns.common_columns.Given as goal
 

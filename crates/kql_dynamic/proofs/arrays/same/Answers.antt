@@ -1,5 +1,5 @@
 use Rattle.std.specs.Bool.{one_answer}
-use Rattle.kql_dynamic.specs.Same.{same, same-decides}
+use Rattle.kql_cells.specs.Same.{same, same-decides}
 use Rattle.kql_dynamic.proofs.arrays.same.Goals as goal
 
 pub returns : goal.returns

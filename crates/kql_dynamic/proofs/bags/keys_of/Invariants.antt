@@ -1,5 +1,5 @@
 use Rattle.std.proofs.Common.{◌≡◌, map, take}
-use Rattle.kql_values.specs.declared.dynamic.Dyn.TheVariants as V
+use Rattle.kql_cells.specs.declared.dynamic.Dyn.TheVariants as V
 use Rattle.kql_dynamic.proofs.bags.keys_of.Given as goal
 
 abbrev pub invariant-loop-entry : goal.invariant-loop-entry

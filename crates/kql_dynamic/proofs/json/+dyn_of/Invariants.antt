@@ -1,6 +1,6 @@
 use Rattle.std.proofs.Common.{◌≡◌, ◌++◌, take, map, true}
 use Rattle.std.specs.List.{list_all}
-use Rattle.kql_values.specs.Dynamic.{has_form}
+use Rattle.kql_cells.specs.Dynamic.{has_form}
 use Rattle.kql_dynamic.specs.Json.{entry_of, part_of}
 use Rattle.kql_dynamic.proofs.json.+dyn_of.Given as goal
 

@@ -1,5 +1,5 @@
 use Rattle.std.proofs.Common.{◌≡◌, min, take}
-use Rattle.kql_values.specs.Dynamic.{highest, levels}
+use Rattle.kql_cells.specs.Dynamic.{highest, levels}
 use Rattle.kql_dynamic.proofs.parts.+levels.Given as goal
 
 abbrev pub invariant-highest_part-loop-part : goal.invariant-highest_part-loop-part

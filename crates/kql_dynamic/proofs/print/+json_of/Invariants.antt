@@ -3,7 +3,7 @@ use Rattle.std.specs.List.{list_all, list_any}
 use Rattle.serde_json.specs.Data.{no_members}
 use Rattle.serde_json.specs.View.{members_view, view}
 use Rattle.serde_json.specs.Written.{members_have_float}
-use Rattle.kql_values.specs.Dynamic.{ascends, has_form}
+use Rattle.kql_cells.specs.Dynamic.{ascends, has_form}
 use Rattle.kql_dynamic.specs.Json.{entry_of, part_of}
 use Rattle.kql_dynamic.specs.Printed.{data_of, entry_data, is_float_value, puts}
 use Rattle.kql_dynamic.proofs.print.+json_of.Given as goal

@@ -1,7 +1,7 @@
 use Rattle.std.proofs.Common.{◌≡◌, ◌<◌, ◌∙◌, Bor, Vec, Global, map, length, ap, arith}
 use Rattle.std.proofs.lemmas.Grind.{common_steps}
 use Rattle.std.proofs.lemmas.List.{map-append}
-use Rattle.kql_values.specs.declared.dynamic.Dyn.{Dyn}
+use Rattle.kql_cells.specs.declared.dynamic.Dyn.{Dyn}
 use Rattle.kql_dynamic.specs.Sets.{is_among}
 use Rattle.kql_dynamic.proofs.SetLemmas.{chosen-left, chosen-taken}
 use Rattle.kql_dynamic.proofs.sets.chosen.Goals as goal

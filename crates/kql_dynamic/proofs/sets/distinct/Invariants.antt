@@ -1,7 +1,7 @@
 use Rattle.std.proofs.Common.{◌≡◌, take, map}
 use Rattle.std.specs.HashSet.{contains}
-use Rattle.kql_values.specs.declared.dynamic.Dyn.{Dyn}
-use Rattle.kql_dynamic.specs.Same.{same}
+use Rattle.kql_cells.specs.declared.dynamic.Dyn.{Dyn}
+use Rattle.kql_cells.specs.Same.{same}
 use Rattle.kql_dynamic.specs.Sets.{distinct, is_among}
 use Rattle.kql_dynamic.proofs.sets.distinct.Given as goal
 

@@ -3,7 +3,7 @@ use Rattle.std.proofs.lemmas.Grind.{common_steps}
 use Rattle.std.proofs.lemmas.List.{take_all}
 use Rattle.std.proofs.lemmas.List.Elements.{All-filter}
 use Rattle.std.specs.Prelude.{filter}
-use Rattle.kql_values.specs.Table.{RowFits}
+use Rattle.kql_cells.specs.Table.{RowFits}
 use Rattle.kql_program.specs.Binding.{meets_all}
 use Rattle.kql_program.proofs.RowFacts.{kept-together}
 use Rattle.kql_program.proofs.rows.keep_rows.Goals as goal

@@ -1,6 +1,6 @@
 use Rattle.std.proofs.Common.{◌≡◌, true, take}
 use Rattle.std.specs.List.{list_all}
-use Rattle.kql_values.specs.Seen.{row_at}
+use Rattle.kql_cells.specs.Seen.{row_at}
 use Rattle.kql_program.specs.Binding.{meets}
 use Rattle.kql_program.proofs.rows.meets_all.Given as goal
 

@@ -1,5 +1,5 @@
 use Rattle.std.proofs.Common.{◌≡◌, map, take}
-use Rattle.kql_values.specs.Seen.{seen}
+use Rattle.kql_cells.specs.Seen.{seen}
 use Rattle.kql_scalar_fns.proofs.calls.cells_of.Given as goal
 
 abbrev pub invariant-arguments : goal.invariant-arguments

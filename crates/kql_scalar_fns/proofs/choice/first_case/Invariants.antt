@@ -1,5 +1,5 @@
 use Rattle.std.proofs.Common.{◌≡◌, length, map}
-use Rattle.kql_values.specs.Seen.{seen}
+use Rattle.kql_cells.specs.Seen.{seen}
 use Rattle.kql_scalar_fns.specs.Choice.{first_case}
 use Rattle.kql_scalar_fns.proofs.choice.first_case.Given as goal
 

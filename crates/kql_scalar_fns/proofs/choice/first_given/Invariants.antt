@@ -1,5 +1,5 @@
 use Rattle.std.proofs.Common.{◌≡◌, length, map}
-use Rattle.kql_values.specs.Seen.{seen}
+use Rattle.kql_cells.specs.Seen.{seen}
 use Rattle.kql_scalar_fns.specs.Choice.{first_given}
 use Rattle.kql_scalar_fns.proofs.choice.first_given.Given as goal
 

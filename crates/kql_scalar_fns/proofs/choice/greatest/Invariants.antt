@@ -1,7 +1,7 @@
 use Rattle.std.proofs.Common.{◌≡◌, length, map}
 use Rattle.std.specs.Prelude.{fold}
-use Rattle.kql_values.specs.Seen.{seen}
-use Rattle.kql_values.specs.declared.value.Value.TheVariants as value
+use Rattle.kql_cells.specs.Seen.{seen}
+use Rattle.kql_cells.specs.declared.value.Value.TheVariants as value
 use Rattle.kql_scalar_fns.specs.Choice.{greater}
 use Rattle.kql_scalar_fns.proofs.choice.greatest.Given as goal
 

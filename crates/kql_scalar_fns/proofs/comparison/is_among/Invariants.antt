@@ -1,5 +1,5 @@
 use Rattle.std.proofs.Common.{◌≡◌, length, map}
-use Rattle.kql_values.specs.Seen.{seen}
+use Rattle.kql_cells.specs.Seen.{seen}
 use Rattle.kql_scalar_fns.specs.Comparison.{is_among}
 use Rattle.kql_scalar_fns.proofs.comparison.is_among.Given as goal
 

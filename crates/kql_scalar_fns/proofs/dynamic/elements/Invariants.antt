@@ -1,7 +1,7 @@
 use Rattle.std.proofs.Common.{◌≡◌, true, map, take}
 use Rattle.std.specs.List.{list_all}
-use Rattle.kql_values.specs.Dynamic.{is_well_formed_dynamic}
-use Rattle.kql_values.specs.Seen.{seen}
+use Rattle.kql_cells.specs.Dynamic.{is_well_formed_dynamic}
+use Rattle.kql_cells.specs.Seen.{seen}
 use Rattle.kql_scalar_fns.specs.Dynamic.{element}
 use Rattle.kql_scalar_fns.proofs.dynamic.elements.Given as goal
 

@@ -1,6 +1,6 @@
 use Rattle.std.proofs.Common.{◌≡◌, length, map}
 use Rattle.std.specs.Prelude.{Some, false, fold}
-use Rattle.kql_values.specs.Seen.{seen}
+use Rattle.kql_cells.specs.Seen.{seen}
 use Rattle.kql_scalar_fns.specs.Logic.{either_known}
 use Rattle.kql_scalar_fns.proofs.logic.disjunction.Given as goal
 

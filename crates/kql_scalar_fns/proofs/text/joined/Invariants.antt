@@ -1,6 +1,6 @@
 use Rattle.std.proofs.Common.{◌≡◌, ◌++◌, length, map}
 use Rattle.std.specs.List.{flat_map}
-use Rattle.kql_values.specs.Seen.{seen}
+use Rattle.kql_cells.specs.Seen.{seen}
 use Rattle.kql_scalar_fns.specs.Arguments.{AreWellFormed}
 use Rattle.kql_scalar_fns.specs.Readings.{text_of}
 use Rattle.kql_scalar_fns.proofs.text.joined.Given as goal

@@ -1,6 +1,6 @@
 use Rattle.std.proofs.Common.{ℕ, List, ◌++◌, append_assoc, arith, ap, ◌∙◌}
-use Rattle.kql_values.specs.Seen.{seen}
-use Rattle.kql_values.specs.declared.value.Value.{Value}
+use Rattle.kql_cells.specs.Seen.{seen}
+use Rattle.kql_cells.specs.declared.value.Value.{Value}
 use Rattle.kql_scalar_fns.specs.Readings.{text_of}
 use Rattle.kql_scalar_fns.proofs.ArgumentFacts.{tail-form}
 use Rattle.kql_scalar_fns.proofs.JoinFacts.{join-step}

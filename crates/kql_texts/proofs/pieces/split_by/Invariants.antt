@@ -1,5 +1,5 @@
 use Rattle.std.proofs.Common.{◌≡◌, List, ℕ, Bor, map}
-use Rattle.kql_values.specs.declared.dynamic.Dyn.TheVariants as dyn
+use Rattle.kql_cells.specs.declared.dynamic.Dyn.TheVariants as dyn
 use Rattle.kql_texts.proofs.pieces.split_by.Given as goal
 
 abbrev pub invariant-loop-piece : goal.invariant-loop-piece

@@ -1,7 +1,7 @@
 use Rattle.std.proofs.Common.{◌<◌, length, add-one, arith}
 use Rattle.std.proofs.lemmas.Grind.{common_steps}
-use Rattle.kql_values.proofs.PieceFacts.{shift-step}
-use Rattle.kql_values.proofs.rows.shift.Goals as goal
+use Rattle.kql_cells.proofs.PieceFacts.{shift-step}
+use Rattle.kql_cells.proofs.rows.shift.Goals as goal
 
 pub loop-end-preserved : goal.loop-end-preserved
 loop-end-preserved c =

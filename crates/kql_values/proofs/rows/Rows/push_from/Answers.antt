@@ -1,6 +1,6 @@
 use Rattle.std.proofs.Common.{◌≡◌, length, rules}
-use Rattle.kql_values.proofs.PieceFacts.{grown}
-use Rattle.kql_values.proofs.rows.Rows.push_from.Goals as goal
+use Rattle.kql_cells.proofs.PieceFacts.{grown}
+use Rattle.kql_cells.proofs.rows.Rows.push_from.Goals as goal
 
 pub invariant_of-self-2 : goal.invariant_of-self-2
 invariant_of-self-2 c =

@@ -1,0 +1,10 @@
+pub mod Catalogues
+pub mod Dynamic
+pub mod Hashed
+pub mod Named
+pub mod Ordered
+pub mod Readings
+pub mod Same
+pub mod Seen
+pub mod Table
+pub mod Values
