@@ -1,6 +1,7 @@
 pub mod Catalogues
 pub mod Dynamic
 pub mod Hashed
+pub mod Keys
 pub mod Named
 pub mod Ordered
 pub mod Readings

@@ -1,15 +1,13 @@
--- Whether two dynamic values, or two rows of values, are identical, as tests that compute.
-use Rattle.std.specs.Prelude.{◌≡◌, ◌==◌, ◌&&◌, ℕ, Bool, true, false, List, refl}
+-- Whether two dynamic values are identical, as a test that computes.
+use Rattle.std.specs.Prelude.{◌≡◌, ◌==◌, ◌&&◌, ℕ, Bool, true, false, refl}
 use Rattle.std.specs.Bool.{Decides, one_answer}
-use Rattle.std.specs.Coded.{Coded, coded_list}
+use Rattle.std.specs.Coded.{Coded}
 use Rattle.std.specs.Cmp.{IsEquivalence}
 use Rattle.std.proofs.Common.{ap, sym, rules}
 use Rattle.std.proofs.lemmas.Bool.{eqb-true}
 use base.Stored.{Gv, gnil, gnum, gcons}
 use Rattle.kql_cells.specs.declared.dynamic.Dyn.{Dyn}
 use Rattle.kql_cells.specs.contracts.dynamic.Dyn as dynamic
-use Rattle.kql_cells.specs.declared.value.Value.{Value}
-use Rattle.kql_cells.specs.contracts.value.Value as value
 
 -- whether two codes are the same; each type has a one-to-one map into these
 abbrev pub gv_eq : Gv → Gv → Bool
@@ -69,25 +67,3 @@ same-equiv = record {
 -- what is identical has the same of everything
 pub same_alike : {X : Type 0} (f : Dyn → X) (x y : Dyn) → same x y ≡ true → f x ≡ f y
 same_alike f x y e = ap f ((same-decides x y).0 e)
-
-abbrev coded_cells : Coded (List Value)
-coded_cells = coded_list value.the_row.coded
-
--- whether two rows of values are identical
-unfoldable pub same_cells : List Value → List Value → Bool
-same_cells a b = gv_eq (coded_cells.code a) (coded_cells.code b)
-
-pub same_cells-decides : (a b : List Value) → Decides (same_cells a b) (a ≡ b)
-unfolding same_cells
-same_cells-decides a b = (λ e. coded_cells.inj a b (gv_eq-true _ _ e), λ p. rw p (gv_eq-refl (coded_cells.code b)))
-
-pub same_cells-equiv : IsEquivalence same_cells
-same_cells-equiv = record {
-  refl = λ x. (same_cells-decides x x).1 refl;
-  symm = λ x y. one_answer (same_cells x y) (same_cells y x) (same_cells-decides x y) (λ e. sym ((same_cells-decides y x).0 e), λ p. (same_cells-decides y x).1 (sym p));
-  congr = λ x y z e. ap (λ w. same_cells w z) ((same_cells-decides x y).0 e);
-}
-
--- what is identical has the same of everything
-pub same_cells_alike : {X : Type 0} (f : List Value → X) (x y : List Value) → same_cells x y ≡ true → f x ≡ f y
-same_cells_alike f x y e = ap f ((same_cells-decides x y).0 e)

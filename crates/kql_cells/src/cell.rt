@@ -1,4 +1,5 @@
 ghost use Rattle.std.specs.Prelude.{◌≡◌, ◌↔◌, IfOk, IsTrue};
+ghost use Rattle.kql_cells.specs.Keys.{is_null};
 ghost use Rattle.kql_cells.specs.Seen.{seen};
 
 use crate::dynamic::{Dyn, clone_dyn, same_dyn};
@@ -19,6 +20,14 @@ pub enum CellRef<'a> {
 }
 
 impl CellRef<'_> {
+    /// Whether it shows null.
+    #[tactic(auto, unfolding(crate::specs::Keys::is_null))]
+    pub fn is_null(self) -> bool
+        ensures null { result ≡ is_null (seen self.entry) }
+    {
+        matches!(self, CellRef::Null)
+    }
+
     /// A value of its own, as the cell shows it.
     pub fn to_value(self, alloc: Global) -> Result<Value, AllocError>
         ensures same { IfOk result (λ v. v ≡ seen self.entry) }

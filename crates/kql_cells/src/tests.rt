@@ -139,7 +139,11 @@ const READINGS: &[(&str, Option<i64>, Option<bool>)] = &[
     ("-", None, None),
     ("9223372036854775807", Some(9_223_372_036_854_775_807), None),
     ("9223372036854775808", None, None),
-    ("-9223372036854775808", Some(-9_223_372_036_854_775_808), None),
+    (
+        "-9223372036854775808",
+        Some(-9_223_372_036_854_775_808),
+        None,
+    ),
     ("-9223372036854775809", None, None),
     ("true", None, Some(true)),
     ("FALSE", None, Some(false)),
@@ -150,8 +154,7 @@ const READINGS: &[(&str, Option<i64>, Option<bool>)] = &[
 
 // The first row that reads otherwise.
 fn first_misread(rows: &[(&str, Option<i64>, Option<bool>)]) -> Option<usize> {
-    rows.iter()
-        .position(|row| read_long(row.0) != row.1 || read_bool(row.0) != row.2)
+    rows.iter().position(|row| read_long(row.0) != row.1 || read_bool(row.0) != row.2)
 }
 
 #[test]

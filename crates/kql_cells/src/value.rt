@@ -1,4 +1,5 @@
 ghost use Rattle.std.specs.Prelude.{◌≡◌, ◌↔◌, IfOk, IsTrue};
+ghost use Rattle.kql_cells.specs.Seen.{seen};
 ghost use Rattle.kql_cells.specs.Values.{IsOfKind, IsWellFormed};
 
 use crate::cell::CellRef;
@@ -21,6 +22,22 @@ pub enum Kind {
     Dynamic,
 }
 
+impl Kind {
+    ghost use Rattle.kql_cells.specs.Keys.{absent};
+
+    /// What stands in a column of this type where there is no value: null, and the empty text in one of strings.
+    /// It takes no memory.
+    #[tactic(auto, unfolding(crate::specs::Keys::absent))]
+    pub fn absent(self) -> CellRef<'static>
+        ensures value { seen result ≡ absent self }
+    {
+        match self {
+            Kind::Text => CellRef::Text(""),
+            _ => CellRef::Null,
+        }
+    }
+}
+
 /// The values of one row.
 pub type Row = Items<Value>;
 
@@ -40,8 +57,6 @@ pub enum Value {
 }
 
 impl Value {
-    ghost use Rattle.kql_cells.specs.Seen.{seen};
-
     /// The value as a cell that lends it.
     pub fn as_cell(&self) -> CellRef<'_>
         ensures same { seen result ≡ self.now }
