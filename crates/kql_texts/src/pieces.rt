@@ -2,8 +2,8 @@ ghost use Rattle.std.specs.Prelude.{◌≡◌, ◌∷◌, ◌++◌, [], IfOk, On
 ghost use Rattle.kql_texts.specs.Pieces.{JoinsInto, Replaces, SplitsInto};
 ghost use Rattle.kql_texts.specs.Texts.{elements, replace, split_by};
 
-use kql_items::Items;
 use kql_cells::{Dyn, DynList, KText};
+use kql_items::Items;
 use std::alloc::{AllocError, Global};
 
 /// The texts between the occurrences of `separator`, which are taken from the left, no two overlapping.
