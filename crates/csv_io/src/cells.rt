@@ -1,9 +1,9 @@
 ghost use Rattle.std.specs.Prelude.{◌≡◌, ◌==◌, IfOk, IfSome, slice_index};
 ghost use Rattle.csv_io.specs.Cells.{FitsKind, bool_of, empty_cell, long_of, read_cell, read_filled};
 
+use kql_cells::{KText, Kind, Value};
 use kql_dynamic::parse_json;
 use kql_ticks::{read_moment, read_span};
-use kql_cells::{KText, Kind, Value};
 use std::alloc::{AllocError, Global};
 
 // The value of a field in a column of this type, or none where it is of another form.

@@ -12,8 +12,8 @@ use crate::feed::Feed;
 use crate::fields::field;
 use crate::header::read_header;
 use csv::ByteRecord;
-use kql_items::Items;
 use kql_cells::{Column, Kind, Row, Schema, Table, Value};
+use kql_items::Items;
 use std::alloc::Global;
 use std::str;
 

@@ -11,10 +11,10 @@ ghost use Rattle.csv_io.specs.Text.{cell_text, names_of, table_text};
 use crate::writing::{finish, new_writer, write_line};
 use csv::ByteRecord;
 use itoa::Buffer;
+use kql_cells::{Bytes, CellRef, Column, Dyn, Rows, Table};
 use kql_dynamic::print_json;
 use kql_items::Items;
 use kql_ticks::{print_moment, print_span};
-use kql_cells::{Bytes, CellRef, Column, Dyn, Rows, Table};
 use std::alloc::{AllocError, Global};
 
 /// The text of a table: a line of the columns' names, without their types, and a line for each row. A null is an empty

@@ -5,9 +5,9 @@ ghost use Rattle.kql_program.specs.declared.query.Slot.TheVariants as slot;
 ghost use Rattle.kql_program.specs.declared.refusal.Refusal.TheVariants as refusal;
 
 use crate::refusal::{Refusal, Stop};
+use kql_cells::KText;
 use kql_items::Items;
 use kql_lexer::{Keyword, Place, Token, TokenForm};
-use kql_cells::KText;
 use std::alloc::{AllocError, Global};
 
 /// What has to stand next in a query of the form.

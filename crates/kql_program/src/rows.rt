@@ -8,8 +8,8 @@ ghost use Rattle.kql_program.specs.Refusals.{Gives};
 
 use crate::query::{Filter, Label, Request};
 use crate::refusal::{Refusal, Stop};
-use kql_items::Items;
 use kql_cells::{Catalogue, CellRef, Column, Kind, Named, Rows, Schema, Table};
+use kql_items::Items;
 use std::alloc::{AllocError, Global};
 
 /// A filter over the columns of a table: the place of its column, and its number.

@@ -15,8 +15,8 @@ use crate::refusal::{Refusal, Stop};
 use crate::rows::request_rows;
 use crate::syntax::check_syntax;
 use csv_io::table_text;
-use kql_outside::{Gate, Shelf, Sink, write_all};
 use kql_cells::{Bytes, Table};
+use kql_outside::{Gate, Shelf, Sink, write_all};
 use std::alloc::Global;
 use std::thread::Threads;
 
