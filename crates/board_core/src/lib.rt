@@ -13,6 +13,3 @@ mod machine;
 pub use events::{Claim, Claims, Event, Stepped};
 pub use laws::{claims_are_replayed, every_order_is_lawful};
 pub use machine::{Core, run_all};
-
-#[cfg(test)]
-mod tests;

@@ -11,8 +11,6 @@ mod failing;
 mod gates;
 mod host;
 mod outside;
-#[cfg(test)]
-mod tests;
 mod transfers;
 
 pub use clean::{CleanShelf, CleanSink};

@@ -9,8 +9,6 @@ mod pieces;
 mod places;
 mod search;
 mod terms;
-#[cfg(test)]
-mod tests;
 
 pub use folding::Fold;
 pub use letters::{compare, reverse_chars, to_lower, to_upper};

@@ -14,8 +14,6 @@ mod periods;
 mod printing;
 mod ranges;
 mod spans;
-#[cfg(test)]
-mod tests;
 
 pub use bins::bin_at;
 pub use moments::{make_moment, read_moment};

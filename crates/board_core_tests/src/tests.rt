@@ -1,4 +1,4 @@
-use crate::{
+use board_core::{
     Claim, Claims, Core, Event, Stepped, claims_are_replayed, every_order_is_lawful, run_all,
 };
 use std::alloc::{AllocError, Global};

@@ -1,5 +1,5 @@
-use super::*;
 use kql_cells::{Dyn, DynList};
+use kql_texts::*;
 use std::alloc::{AllocError, Global};
 use std::cmp::Ordering;
 use std::test::Fail;

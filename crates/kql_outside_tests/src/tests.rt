@@ -1,4 +1,4 @@
-use super::*;
+use kql_outside::*;
 use std::test::Fail;
 use std::{fs, process};
 

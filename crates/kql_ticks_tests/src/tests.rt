@@ -1,10 +1,10 @@
 ghost use Rattle.kql_cells.specs.Values.{IsMoment};
 
-use crate::{
+use kql_cells::MOMENT_TOP;
+use kql_ticks::{
     Part, add_part, bin_at, borders, day_of_week, end_of, make_moment, part_of, print_moment,
     print_span, read_moment, read_span, start_of,
 };
-use kql_cells::MOMENT_TOP;
 use std::process::Abort;
 use std::test::Fail;
 
