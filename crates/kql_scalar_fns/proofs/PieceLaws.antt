@@ -2,7 +2,7 @@
 use Rattle.std.proofs.Common.{◌≡◌, ℕ, true, List, [], ◌∷◌, map, refl}
 use Rattle.std.specs.List.{list_all}
 use Rattle.std.proofs.lemmas.Bool.{and_from}
-use Rattle.kql_dynamic.proofs.FormLemmas.{array-form, fits, fits-Text}
+use Rattle.kql_dynamic.proofs.FormLaws.{array-form, fits, fits-Text}
 use Rattle.kql_texts.specs.Texts.{elements}
 use Rattle.kql_cells.specs.Values.{IsWellFormed}
 use Rattle.kql_cells.specs.declared.dynamic.Dyn.{Dyn}

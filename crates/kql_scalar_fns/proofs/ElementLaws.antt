@@ -1,7 +1,7 @@
 -- Elements are well formed where the values are.
 use Rattle.std.proofs.Common.{ℕ, Bool, List, rules}
 use Rattle.std.specs.Prelude.{ℤ, IsTrue}
-use Rattle.kql_dynamic.proofs.FormLemmas.{fits-Null, fits-Bool, fits-Long, fits-Text}
+use Rattle.kql_dynamic.proofs.FormLaws.{fits-Null, fits-Bool, fits-Long, fits-Text}
 use Rattle.kql_cells.specs.Dynamic.{is_well_formed_dynamic}
 use Rattle.kql_cells.specs.declared.dynamic.Dyn.TheVariants as V
 

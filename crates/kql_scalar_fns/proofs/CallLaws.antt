@@ -15,7 +15,7 @@ use Rattle.kql_scalar_fns.proofs.ChoiceKinds.{choice_gives}
 use Rattle.kql_scalar_fns.proofs.ComparisonKinds.{comparison_gives}
 use Rattle.kql_scalar_fns.proofs.ConversionKinds.{conversion_gives}
 use Rattle.kql_scalar_fns.proofs.DynamicKinds.{dynamic_gives}
-use Rattle.kql_scalar_fns.proofs.KindFacts.{Gives, bool-kind, row-any}
+use Rattle.kql_scalar_fns.proofs.KindLaws.{Gives, bool-kind, row-any}
 use Rattle.kql_scalar_fns.proofs.LogicKinds.{logic_gives}
 use Rattle.kql_scalar_fns.proofs.TextKinds.{text_gives}
 use Rattle.kql_scalar_fns.proofs.TimeKinds.{time_gives}
