@@ -18,7 +18,7 @@ use Rattle.kql_functions.specs.Kinds.{has_order}
 use Rattle.kql_scalar_fns.specs.Arguments.{long_or_null}
 use Rattle.kql_scalar_fns.specs.Choice.{greater, greatest, is_below, is_null, least, lesser}
 use Rattle.kql_scalar_fns.specs.Dynamic.{element}
-use Rattle.kql_scalar_fns.proofs.KindFacts.{long-kind}
+use Rattle.kql_scalar_fns.proofs.KindLaws.{long-kind}
 use Rattle.kql_bound.specs.declared.expr.Aggregate.{Aggregate}
 use Rattle.kql_bound.specs.declared.expr.Aggregate.TheVariants as aggregate
 use Rattle.kql_bound.specs.declared.expr.BExpr.{BExpr}

@@ -18,11 +18,11 @@ use Rattle.kql_dynamic.specs.Arrays.{array_concat, array_index_of, array_length,
 use Rattle.kql_dynamic.specs.Bags.{bag_has_key, bag_keys, bag_merge, bag_of, bag_pack, pairs}
 use Rattle.kql_dynamic.specs.Parts.{argument as part_at, elements, entries, text, value_within_levels}
 use Rattle.kql_dynamic.specs.Sets.{set_difference, set_has_element, set_intersect, set_union}
-use Rattle.kql_dynamic.proofs.ArrayLemmas.{concat-form, pack-form as packed-form, reverse-form, slice-form}
-use Rattle.kql_dynamic.proofs.BagForms.{keys-form, merge-form, pack-form}
-use Rattle.kql_dynamic.proofs.FormLemmas.{value-form}
-use Rattle.kql_dynamic.proofs.PartLemmas.{at_index-form, at_name-form, or-null-form}
-use Rattle.kql_dynamic.proofs.SetLemmas.{difference-form as set_difference-form, intersect-form, union-form}
+use Rattle.kql_dynamic.proofs.ArrayFormLaws.{concat-form, pack-form as packed-form, reverse-form, slice-form}
+use Rattle.kql_dynamic.proofs.BagFormLaws.{keys-form, merge-form, pack-form}
+use Rattle.kql_dynamic.proofs.FormLaws.{value-form}
+use Rattle.kql_dynamic.proofs.PartLaws.{at_index-form, at_name-form, or-null-form}
+use Rattle.kql_dynamic.proofs.SetFormLaws.{difference-form as set_difference-form, intersect-form, union-form}
 use Rattle.kql_functions.specs.declared.func.ArithmeticFunc.TheVariants as func
 use Rattle.kql_functions.specs.declared.func.ArithmeticFunc.{ArithmeticFunc}
 use Rattle.kql_functions.specs.declared.func.ChoiceFunc.{ChoiceFunc}
@@ -52,9 +52,9 @@ use Rattle.kql_scalar_fns.specs.Logic.{logic}
 use Rattle.kql_scalar_fns.specs.Search.{search_call}
 use Rattle.kql_scalar_fns.specs.Text.{char_count, lowered, part, pieces, place_of, raised, replaced, rest_from, reversed, text_call, text_order}
 use Rattle.kql_scalar_fns.specs.Time.{crossed, end, field_of, made, moved, named_field, period_named, since_1970, start, time_call, weekday}
-use Rattle.kql_scalar_fns.proofs.ChoiceForms.{argument-form, choice_form}
-use Rattle.kql_scalar_fns.proofs.ElementFacts.{form-Bool, form-Long, form-Null, form-Text}
-use Rattle.kql_scalar_fns.proofs.PieceForms.{texts_form}
+use Rattle.kql_scalar_fns.proofs.ChoiceFormLaws.{argument-form, choice_form}
+use Rattle.kql_scalar_fns.proofs.ElementLaws.{form-Bool, form-Long, form-Null, form-Text}
+use Rattle.kql_scalar_fns.proofs.PieceLaws.{texts_form}
 use Rattle.kql_fit_laws.proofs.MomentForms.{add_part-range, moment_at-range, moment_in-range}
 use Rattle.kql_fit_laws.proofs.ReadForms.{parsed-form}
 

@@ -2,7 +2,7 @@
 use Rattle.std.proofs.Common.{◌≡◌, ℕ, refl}
 use Rattle.std.specs.Prelude.{IfSome, Ok, Option, Some}
 use Rattle.kql_functions.specs.Kinds.{result_kind}
-use Rattle.kql_scalar_fns.proofs.CallKinds.{call_gives}
+use Rattle.kql_scalar_fns.proofs.CallLaws.{call_gives}
 use Rattle.kql_scalar_fns.specs.Applied.{applied}
 use Rattle.kql_cells.specs.Values.{IsOfKind}
 use Rattle.kql_cells.specs.declared.value.Kind.{Kind}

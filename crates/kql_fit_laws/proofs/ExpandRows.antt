@@ -15,8 +15,8 @@ use Rattle.kql_cells.specs.declared.value.Kind.TheVariants as kind
 use Rattle.kql_cells.specs.declared.value.Value.{Value}
 use Rattle.kql_cells.specs.declared.value.Value.TheVariants as value
 use Rattle.kql_dynamic.specs.Parts.{elements, elements_step, entries, entries_step, text, value_of}
-use Rattle.kql_dynamic.proofs.FormLemmas.{array-form, bag-form, fits, fits-Text, fits-weaker, value-form}
-use Rattle.kql_dynamic.proofs.PartLemmas.{elements-fit, entries-fit}
+use Rattle.kql_dynamic.proofs.FormLaws.{array-form, bag-form, fits, fits-Text, fits-weaker, value-form}
+use Rattle.kql_dynamic.proofs.PartLaws.{elements-fit, entries-fit}
 use Rattle.kql_scalar_fns.specs.Arguments.{bool_or_null, long_or_null, moment_or_null, span_or_null}
 use Rattle.kql_scalar_fns.specs.Conversion.{moment_written, to_bool, to_long, to_moment, to_span}
 use Rattle.kql_bound.specs.declared.parts.Expand.{Expand}

@@ -11,7 +11,7 @@ use Rattle.kql_cells.specs.declared.schema.Column.{Column}
 use Rattle.kql_cells.specs.declared.value.Kind.{Kind}
 use Rattle.kql_cells.specs.declared.value.Value.{Value}
 use Rattle.kql_functions.specs.Kinds.{AreOfKinds, result_kind, same_kind}
-use Rattle.kql_scalar_fns.proofs.KindFacts.{same-kind}
+use Rattle.kql_scalar_fns.proofs.KindLaws.{same-kind}
 use Rattle.kql_functions.specs.declared.func.Func.{Func}
 use Rattle.kql_scalar_fns.specs.Applied.{applied}
 use Rattle.kql_bound.specs.Words.{sign_func}

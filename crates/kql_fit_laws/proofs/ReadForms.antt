@@ -17,9 +17,9 @@ use Rattle.serde_json.proofs.Nesting.{depth-read}
 use Rattle.kql_dynamic.specs.Bags.{put}
 use Rattle.kql_dynamic.specs.Json.{dyn_of, dyns_of, entries_of, long_or_null, parsed, read_or_text}
 use Rattle.kql_dynamic.specs.Parts.{value_of}
-use Rattle.kql_dynamic.proofs.BagLemmas.{ascends-bag_of, each-bag_of}
-use Rattle.kql_dynamic.proofs.FormLemmas.{text-form, value-form}
-use Rattle.kql_dynamic.proofs.JsonForms.{has-Array, has-Bag, levels-dyn_of}
+use Rattle.kql_dynamic.proofs.BagPutLaws.{ascends-bag_of, each-bag_of}
+use Rattle.kql_dynamic.proofs.FormLaws.{text-form, value-form}
+use Rattle.kql_dynamic.proofs.JsonFormLaws.{has-Array, has-Bag, levels-dyn_of}
 use Rattle.kql_cells.proofs.FormLaws.{has_form-Bool, has_form-Long, has_form-Null, has_form-Text}
 use Rattle.kql_cells.specs.Dynamic.{has_form, levels}
 use Rattle.kql_cells.specs.Values.{IsWellFormed}

@@ -13,7 +13,7 @@ use Rattle.kql_cells.specs.declared.value.Kind.TheVariants as kind
 use Rattle.kql_cells.specs.declared.value.Value.{Value}
 use Rattle.kql_cells.specs.declared.value.Value.TheVariants as value
 use Rattle.kql_dynamic.specs.Arrays.{array}
-use Rattle.kql_dynamic.proofs.FormLemmas.{array-form, fits, fits-Bool, fits-Long, fits-Null, fits-Text}
+use Rattle.kql_dynamic.proofs.FormLaws.{array-form, fits, fits-Bool, fits-Long, fits-Null, fits-Text}
 use Rattle.kql_functions.specs.Kinds.{has_order, same_kind}
 use Rattle.kql_scalar_fns.specs.Dynamic.{element}
 use Rattle.kql_bound.specs.declared.expr.Aggregate.{Aggregate}

@@ -11,7 +11,7 @@ use Rattle.kql_cells.specs.declared.value.Kind.TheVariants as kind
 use Rattle.kql_cells.specs.declared.value.Value.{Value}
 use Rattle.kql_cells.specs.declared.value.Value.TheVariants as value
 use Rattle.kql_scalar_fns.specs.Arithmetic.{sum}
-use Rattle.kql_scalar_fns.proofs.KindFacts.{by-long, long-kind, same-kind, span-kind}
+use Rattle.kql_scalar_fns.proofs.KindLaws.{by-long, long-kind, same-kind, span-kind}
 use Rattle.kql_bound.specs.declared.expr.BExpr.{BExpr, out-BExpr, roll-BExpr, roll-out-BExpr}
 use Rattle.kql_bound.specs.declared.expr.BExpr.TheOpen.{BExpr-F}
 use Rattle.kql_bound.specs.declared.expr.BExpr.TheVariants as V

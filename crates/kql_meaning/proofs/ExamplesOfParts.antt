@@ -8,7 +8,7 @@ use Rattle.kql_dynamic.specs.Arrays.{array}
 use Rattle.kql_dynamic.specs.Parts.{value_of}
 use Rattle.kql_scalar_fns.specs.Conversion.{long_held, one_if, to_long}
 use Rattle.kql_scalar_fns.specs.Dynamic.{element}
-use Rattle.kql_scalar_fns.specs.Readings.{long_written}
+use Rattle.kql_cells.specs.Readings.{long_written}
 use Rattle.kql_cells.specs.declared.dynamic.Dyn.TheVariants as dyn
 use Rattle.kql_cells.specs.declared.schema.Column.{Column}
 use Rattle.kql_cells.specs.declared.value.Kind.TheVariants as kind

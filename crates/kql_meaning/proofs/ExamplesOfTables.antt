@@ -10,7 +10,7 @@ use Rattle.kql_cells.specs.declared.value.Value.{Value}
 use Rattle.kql_bound.specs.declared.parts.BKey.{BKey}
 use Rattle.kql_bound.specs.declared.parts.ParsePlan.{ParsePlan}
 use Rattle.kql_ticks.specs.Ranges.{fit}
-use Rattle.kql_scalar_fns.specs.Readings.{long_written}
+use Rattle.kql_cells.specs.Readings.{long_written}
 use Rattle.kql_meaning.specs.Cuts.{behind_dash, cut, digits_length, filled_piece_read, is_allowed, is_between_characters, is_cut, is_cut_from, is_end, is_number_before_star, number_length, piece_read, rising_lists, star_follows}
 use Rattle.kql_meaning.specs.Examples.{ParseMessage, ParseMessageRelaxed, ParseNumber, ParseRelaxed, ParseSimple, PartitionCounts, PartitionTakesFirsts, RangeTerms, SortAscending, SortDescending, SortNullsFirst, TopTwo, UnionInner, UnionOuter, by_k, by_pattern, column, keyed, messages}
 use Rattle.kql_meaning.specs.Groups.{distinct_keys, group_of}

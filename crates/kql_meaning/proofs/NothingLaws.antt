@@ -9,7 +9,7 @@ use Rattle.kql_cells.specs.declared.value.Kind.TheVariants as kind
 use Rattle.kql_cells.specs.declared.value.Value.{Value}
 use Rattle.kql_cells.specs.declared.value.Value.TheVariants as value
 use Rattle.kql_cells.proofs.LevelLaws.{levels-Array}
-use Rattle.kql_dynamic.proofs.FormLemmas.{null-Array}
+use Rattle.kql_dynamic.proofs.FormLaws.{null-Array}
 use Rattle.kql_ticks.specs.Ranges.{fit}
 use Rattle.kql_scalar_fns.specs.Choice.{greatest, least}
 use Rattle.kql_bound.specs.declared.expr.Aggregate.TheVariants as aggregate

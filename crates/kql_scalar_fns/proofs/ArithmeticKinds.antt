@@ -11,7 +11,7 @@ use Rattle.kql_functions.specs.declared.func.ArithmeticFunc.TheVariants as func
 use Rattle.kql_scalar_fns.specs.Arguments.{argument}
 use Rattle.kql_scalar_fns.specs.Arithmetic.{arithmetic, bin, bin_from_zero, bits_of_both, bits_turned, difference, negative, product, quotient, remainder, sign, size, sum}
 use Rattle.kql_functions.specs.Kinds.{AreOfKinds, arithmetic_kind}
-use Rattle.kql_scalar_fns.proofs.KindFacts.{Gives, by-long, by-moment, by-span, either-gives, first-kind, long-kind, moment-kind, row-any, row-fits, second-kind, span-kind, third-kind}
+use Rattle.kql_scalar_fns.proofs.KindLaws.{Gives, by-long, by-moment, by-span, either-gives, first-kind, long-kind, moment-kind, row-any, row-fits, second-kind, span-kind, third-kind}
 
 sum-LL : (a b : Value) → IsOfKind kind.Long a → IsOfKind kind.Long b → IsOfKind kind.Long (sum a b)
 unfolding sum

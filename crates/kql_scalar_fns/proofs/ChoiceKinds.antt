@@ -15,8 +15,8 @@ use Rattle.std.proofs.lemmas.Bool.{and_parts}
 use Rattle.kql_scalar_fns.specs.Choice.{choice, chosen, first_case, first_given, greater, greatest, is_below, is_empty, is_null, least, lesser}
 use Rattle.kql_functions.specs.Kinds.{all_same, cases_of, has_order, one_of_cases, one_of_two, same_kind, two_or_more, two_or_more_ordered}
 use Rattle.kql_scalar_fns.specs.Logic.{is_true, truth}
-use Rattle.kql_scalar_fns.proofs.KindFacts.{same-kind, test-gives}
-use Rattle.kql_scalar_fns.proofs.KindFacts.{Gives, second-kind, third-kind}
+use Rattle.kql_scalar_fns.proofs.KindLaws.{same-kind, test-gives}
+use Rattle.kql_scalar_fns.proofs.KindLaws.{Gives, second-kind, third-kind}
 use Rattle.kql_scalar_fns.proofs.ShapeKinds.{one_of_any-any}
 
 test-kind : (k : Kind) (b : Bool) (v w : Value) → IsOfKind k v → IsOfKind k w → IsOfKind k (if b then v else w)

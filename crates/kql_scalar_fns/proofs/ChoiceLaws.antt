@@ -15,7 +15,7 @@ use Rattle.kql_scalar_fns.specs.Applied.{applied}
 use Rattle.kql_scalar_fns.specs.Choice.{choice, first_given, greater, greatest, is_empty, is_null, least, lesser}
 use Rattle.kql_scalar_fns.specs.Comparison.{order}
 use Rattle.kql_scalar_fns.specs.Laws.{FirstIsTaken, GreatestIsTaken, IsAtMost, IsBlank, LastIsTaken, LeastIsTaken}
-use Rattle.kql_scalar_fns.proofs.KindFacts.{by-long, by-moment, by-span}
+use Rattle.kql_scalar_fns.proofs.KindLaws.{by-long, by-moment, by-span}
 use Rattle.kql_scalar_fns.proofs.ListFacts.{cons-cases, here, later}
 
 -- ---- `coalesce`

@@ -7,7 +7,7 @@ use Rattle.kql_functions.specs.declared.func.ComparisonFunc.{ComparisonFunc}
 use Rattle.kql_functions.specs.declared.func.ComparisonFunc.TheVariants as func
 use Rattle.kql_functions.specs.Kinds.{comparison_kind}
 use Rattle.kql_scalar_fns.specs.Comparison.{comparison}
-use Rattle.kql_scalar_fns.proofs.KindFacts.{Gives, bool-kind, either-gives, row-any}
+use Rattle.kql_scalar_fns.proofs.KindLaws.{Gives, bool-kind, either-gives, row-any}
 use Rattle.kql_scalar_fns.proofs.ShapeKinds.{one_among-any, several_of-any, two_equal-any, two_ordered-any}
 
 pub comparison_gives : (f : ComparisonFunc) (ks : List Kind) (vs : List Value) → Gives (comparison_kind f ks) (comparison f vs)

@@ -9,7 +9,7 @@ use Rattle.kql_functions.specs.declared.func.ConversionFunc.{ConversionFunc}
 use Rattle.kql_functions.specs.declared.func.ConversionFunc.TheVariants as func
 use Rattle.kql_functions.specs.Kinds.{conversion_kind}
 use Rattle.kql_scalar_fns.specs.Conversion.{conversion, to_bool, to_long, to_moment, to_span}
-use Rattle.kql_scalar_fns.proofs.KindFacts.{Gives, bool-kind, either-gives, long-kind, moment-kind, row-any, span-kind}
+use Rattle.kql_scalar_fns.proofs.KindLaws.{Gives, bool-kind, either-gives, long-kind, moment-kind, row-any, span-kind}
 use Rattle.kql_scalar_fns.proofs.ShapeKinds.{one_of_any-any}
 
 to_long-kind : (v : Value) → IsOfKind kind.Long (to_long v)

@@ -20,7 +20,7 @@ use Rattle.kql_cells.specs.declared.dynamic.Dyn.TheVariants as dyn
 use Rattle.kql_cells.specs.Dynamic.{is_null, levels}
 use Rattle.kql_cells.specs.declared.dynamic.Dyn.{Dyn}
 use Rattle.kql_scalar_fns.specs.Dynamic.{at, dynamic_call, of_all, of_count, of_one, read, read_or_itself}
-use Rattle.kql_scalar_fns.proofs.KindFacts.{Gives, either-gives, row-any}
+use Rattle.kql_scalar_fns.proofs.KindLaws.{Gives, either-gives, row-any}
 use Rattle.kql_scalar_fns.proofs.ShapeKinds.{beside_dynamic-any, one_of_pairs-any, several-any, several_of-any}
 
 -- what is made of what is there

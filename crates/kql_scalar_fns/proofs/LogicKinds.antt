@@ -7,7 +7,7 @@ use Rattle.kql_functions.specs.declared.func.LogicFunc.{LogicFunc}
 use Rattle.kql_functions.specs.declared.func.LogicFunc.TheVariants as func
 use Rattle.kql_functions.specs.Kinds.{logic_kind}
 use Rattle.kql_scalar_fns.specs.Logic.{logic}
-use Rattle.kql_scalar_fns.proofs.KindFacts.{Gives, bool-kind, row-any}
+use Rattle.kql_scalar_fns.proofs.KindLaws.{Gives, bool-kind, row-any}
 use Rattle.kql_scalar_fns.proofs.ShapeKinds.{several_of-any}
 
 pub logic_gives : (f : LogicFunc) (ks : List Kind) (vs : List Value) → Gives (logic_kind f ks) (logic f vs)

@@ -6,7 +6,7 @@ use Rattle.kql_cells.specs.declared.value.Kind.{Kind}
 use Rattle.kql_cells.specs.declared.value.Kind.TheVariants as kind
 use Rattle.kql_cells.specs.declared.value.Value.{Value}
 use Rattle.kql_functions.specs.Kinds.{all_same, are_pairs, behind_text, beside_dynamic, has_order, is_dynamic, one_among, one_of_any, one_of_pairs, same_kind, several, several_of, two_equal, two_ordered}
-use Rattle.kql_scalar_fns.proofs.KindFacts.{Gives, test-gives}
+use Rattle.kql_scalar_fns.proofs.KindLaws.{Gives, test-gives}
 
 pub one_of_any-any : (k : Kind) (ks : List Kind) (v : Value) → IsOfKind k v → Gives (one_of_any k ks) v
 unfolding one_of_any

@@ -11,7 +11,7 @@ use Rattle.kql_functions.specs.declared.func.TextFunc.TheVariants as func
 use Rattle.kql_scalar_fns.specs.Arguments.{argument}
 use Rattle.kql_functions.specs.Kinds.{AreOfKinds, text_kind}
 use Rattle.kql_scalar_fns.specs.Text.{char_count, lowered, part, pieces, place_of, raised, replaced, rest_from, reversed, text_call, text_order}
-use Rattle.kql_scalar_fns.proofs.KindFacts.{Gives, by-text, either-gives, first-kind, row-any, row-fits, second-kind, third-kind}
+use Rattle.kql_scalar_fns.proofs.KindLaws.{Gives, by-text, either-gives, first-kind, row-any, row-fits, second-kind, third-kind}
 use Rattle.kql_scalar_fns.proofs.ShapeKinds.{behind_text-any, several-any}
 
 char_count-kind : (v : Value) → IsOfKind kind.Long (char_count v)

@@ -11,7 +11,7 @@ use Rattle.kql_functions.specs.declared.func.TimeFunc.TheVariants as func
 use Rattle.kql_functions.specs.Kinds.{time_kind}
 use Rattle.kql_ticks.specs.declared.part.Part.{Part}
 use Rattle.kql_scalar_fns.specs.Time.{crossed, end, field_of, made, made_of, moved, named_field, since_1970, start, time_call, weekday}
-use Rattle.kql_scalar_fns.proofs.KindFacts.{Gives, either-gives, long-kind, moment-kind, row-any}
+use Rattle.kql_scalar_fns.proofs.KindLaws.{Gives, either-gives, long-kind, moment-kind, row-any}
 
 start-kind : (p : Part) (v : Value) → IsOfKind kind.Moment (start p v)
 unfolding start

@@ -3,6 +3,7 @@ use Rattle.std.specs.Prelude.{ℕ, ℤ, pos, Bool, true, false, not, List, Optio
 use Rattle.std.specs.Ordering.{int_eq}
 use Rattle.kql_dynamic.specs.Parts.{text}
 use Rattle.kql_ticks.specs.Forms.{moment_in, span_in}
+use Rattle.kql_cells.specs.Readings.{bool_written, long_written}
 use Rattle.kql_cells.specs.declared.dynamic.Dyn.{Dyn, out-Dyn}
 use Rattle.kql_cells.specs.declared.dynamic.Dyn.TheOpen.{Dyn-F}
 use Rattle.kql_cells.specs.declared.value.Value.{Value}
@@ -10,7 +11,7 @@ use Rattle.kql_cells.specs.declared.value.Value.TheVariants as value
 use Rattle.kql_functions.specs.declared.func.ConversionFunc.{ConversionFunc}
 use Rattle.kql_functions.specs.declared.func.ConversionFunc.TheVariants as func
 use Rattle.kql_scalar_fns.specs.Arguments.{argument, bool_or_null, long_or_null, moment_or_null, span_or_null}
-use Rattle.kql_scalar_fns.specs.Readings.{bool_written, long_written, text_of}
+use Rattle.kql_scalar_fns.specs.Readings.{text_of}
 
 abbrev pub one_if : Bool → ℤ
 one_if true = pos 1

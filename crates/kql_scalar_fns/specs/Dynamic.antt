@@ -12,6 +12,8 @@ use Rattle.kql_cells.specs.declared.value.Value.{Value}
 use Rattle.kql_cells.specs.declared.value.Value.TheVariants as value
 use Rattle.kql_functions.specs.declared.func.DynamicFunc.{DynamicFunc}
 use Rattle.kql_functions.specs.declared.func.DynamicFunc.TheVariants as func
+use Rattle.kql_scalar_fns.specs.declared.dynamic.Operand.{Operand}
+use Rattle.kql_scalar_fns.specs.declared.dynamic.Operand.TheVariants as an
 use Rattle.kql_scalar_fns.specs.Arguments.{argument}
 
 -- a value as an element: a datetime or timespan is its printed text
@@ -23,6 +25,11 @@ element (value.Text t) = dyn.Text t
 element (value.Moment n) = dyn.Text (moment_text (unsigned_abs n))
 element (value.Span n) = dyn.Text (span_text n)
 element (value.Dynamic d) = d
+
+-- an argument as an element
+abbrev pub held : Operand → Dyn
+held (an.Lent d) = d.now
+held (an.Made d) = d
 
 -- the entry of a name, or the element of an index
 unfoldable pub at : Value → Value → Value
@@ -53,22 +60,33 @@ of_count n make args = if length args == n then make (map element args) else val
 unfoldable pub of_all : (List Dyn → Value) → List Value → Value
 of_all make args = make (map element args)
 
+-- the functions of one dynamic value, and those of their arguments as elements
+abbrev pub call_of_one : DynamicFunc → Value → Value
+call_of_one func.ArrayLength v = of_one array_length v
+call_of_one func.ArrayReverse v = of_one array_reverse v
+call_of_one func.BagKeys v = of_one bag_keys v
+call_of_one _ v = value.Null
+
+abbrev pub call_of_elements : DynamicFunc → List Value → Value
+call_of_elements func.ArrayConcat args = of_all array_concat args
+call_of_elements func.ArraySlice args = of_count 3 array_slice args
+call_of_elements func.ArrayIndexOf args = of_count 2 array_index_of args
+call_of_elements func.BagHasKey args = of_count 2 bag_has_key args
+call_of_elements func.BagMerge args = of_all bag_merge args
+call_of_elements func.PackArray args = of_all pack_array args
+call_of_elements func.BagPack args = of_all bag_pack args
+call_of_elements func.SetUnion args = of_count 2 set_union args
+call_of_elements func.SetIntersect args = of_count 2 set_intersect args
+call_of_elements func.SetDifference args = of_count 2 set_difference args
+call_of_elements func.SetHasElement args = of_count 2 set_has_element args
+call_of_elements _ args = value.Null
+
 -- what each function gives
 unfoldable pub dynamic_call : DynamicFunc → List Value → Value
 dynamic_call func.At args = at (argument args 0) (argument args 1)
 dynamic_call func.ParseJson args = read (argument args 0)
 dynamic_call func.ToDynamic args = read (argument args 0)
-dynamic_call func.ArrayLength args = of_one array_length (argument args 0)
-dynamic_call func.ArrayConcat args = of_all array_concat args
-dynamic_call func.ArraySlice args = of_count 3 array_slice args
-dynamic_call func.ArrayReverse args = of_one array_reverse (argument args 0)
-dynamic_call func.ArrayIndexOf args = of_count 2 array_index_of args
-dynamic_call func.BagKeys args = of_one bag_keys (argument args 0)
-dynamic_call func.BagHasKey args = of_count 2 bag_has_key args
-dynamic_call func.BagMerge args = of_all bag_merge args
-dynamic_call func.PackArray args = of_all pack_array args
-dynamic_call func.BagPack args = of_all bag_pack args
-dynamic_call func.SetUnion args = of_count 2 set_union args
-dynamic_call func.SetIntersect args = of_count 2 set_intersect args
-dynamic_call func.SetDifference args = of_count 2 set_difference args
-dynamic_call func.SetHasElement args = of_count 2 set_has_element args
+dynamic_call func.ArrayLength args = call_of_one func.ArrayLength (argument args 0)
+dynamic_call func.ArrayReverse args = call_of_one func.ArrayReverse (argument args 0)
+dynamic_call func.BagKeys args = call_of_one func.BagKeys (argument args 0)
+dynamic_call f args = call_of_elements f args

@@ -1,8 +1,6 @@
 -- How values print.
-use Rattle.std.specs.Prelude.{ℕ, ℤ, pos, neg_ℤ, ◌^◌, ◌==◌, ◌&&◌, Bool, true, false, List, [], ◌∷◌, drop, slice_index, codes, nat_le, nat_lt, Option, Some, None, if◌then◌else◌, unsigned_abs}
+use Rattle.std.specs.Prelude.{ℕ, Bool, true, false, List, [], codes, Option, Some, None, unsigned_abs}
 use Rattle.std.specs.Fmt.{signed_decimal}
-use Rattle.std.specs.Str.{all_ascii_digits, str_eq_ignore_ascii_case}
-use Rattle.std.specs.Str.Parse.{digits_value}
 use Rattle.kql_dynamic.specs.Parts.{text}
 use Rattle.kql_dynamic.specs.Printed.{printed}
 use Rattle.kql_ticks.specs.Texts.{moment_text, span_text}

@@ -9,9 +9,9 @@ use crate::whole::{
     moment_bin, moment_difference, moment_sum, whole_difference, whole_negative, whole_product,
     whole_quotient, whole_remainder, whole_size, whole_sum,
 };
+use kql_cells::{CellRef, Value};
 use kql_functions::ArithmeticFunc;
 use kql_ticks::bin_at;
-use kql_cells::{CellRef, Value};
 
 #[tactic(auto, unfolding(crate::specs::Arithmetic::arithmetic))]
 pub(crate) fn apply_arithmetic(f: ArithmeticFunc, args: &[CellRef<'_>]) -> Value

@@ -15,8 +15,8 @@ use crate::logic::apply_logic;
 use crate::search::apply_search;
 use crate::text::apply_text;
 use crate::time::apply_time;
-use kql_functions::Func;
 use kql_cells::{CellRef, Value};
+use kql_functions::Func;
 use std::alloc::{AllocError, Global};
 
 /// What a function or operator gives for these arguments, which are lent: no text of theirs is copied to be read.

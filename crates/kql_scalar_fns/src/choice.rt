@@ -5,8 +5,8 @@ ghost use Rattle.kql_scalar_fns.specs.Choice.{choice, chosen, first_case, first_
 use crate::arguments::argument;
 use crate::comparison::{is_less, order};
 use crate::logic::{is_true, truth};
-use kql_functions::ChoiceFunc;
 use kql_cells::{CellRef, Value};
+use kql_functions::ChoiceFunc;
 use std::alloc::{AllocError, Global};
 
 #[tactic(auto, unfolding(crate::specs::Choice::choice))]

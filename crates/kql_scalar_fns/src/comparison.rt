@@ -8,9 +8,9 @@ ghost use Rattle.kql_scalar_fns.specs.Comparison.{comparison, equality, is_among
 use crate::arguments::{argument, bool_or_null, others};
 use crate::arithmetic::sum;
 use crate::logic::{both, is_true, opposite};
+use kql_cells::{CellRef, Value};
 use kql_functions::ComparisonFunc;
 use kql_texts::{Fold, same};
-use kql_cells::{CellRef, Value};
 use std::alloc::{AllocError, Global};
 use std::cmp::Ordering;
 

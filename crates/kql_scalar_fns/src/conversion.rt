@@ -8,10 +8,10 @@ ghost use Rattle.kql_scalar_fns.specs.Arguments.{AreWellFormed};
 ghost use Rattle.kql_scalar_fns.specs.Conversion.{bool_held, conversion, is_not_zero, long_held, moment_written, one_if, to_bool, to_long, to_moment, to_span};
 
 use crate::arguments::{argument, bool_or_null, long_or_null, moment_or_null, span_or_null};
-use crate::readings::{read_bool, read_long, text_in, text_of};
+use crate::readings::{text_in, text_of};
+use kql_cells::{CellRef, Dyn, Value, read_bool, read_long};
 use kql_functions::ConversionFunc;
 use kql_ticks::{read_moment, read_span};
-use kql_cells::{CellRef, Dyn, Value};
 use std::alloc::{AllocError, Global};
 
 #[tactic(auto, unfolding(crate::specs::Conversion::conversion))]

@@ -1,16 +1,14 @@
 ghost use Rattle.std.specs.Prelude.{◌≡◌, IfOk, IsTrue, length, map};
 ghost use Rattle.std.specs.List.{list_all};
-ghost use Rattle.kql_dynamic.specs.Arrays.{array_concat, array_index_of, array_length, array_reverse, array_slice, pack_array};
-ghost use Rattle.kql_dynamic.specs.Bags.{bag_has_key, bag_keys, bag_merge, bag_pack};
-ghost use Rattle.kql_dynamic.specs.Sets.{set_difference, set_has_element, set_intersect, set_union};
 ghost use Rattle.kql_cells.specs.Dynamic.{is_well_formed_dynamic};
 ghost use Rattle.kql_cells.specs.Seen.{seen};
 ghost use Rattle.kql_cells.specs.Values.{IsWellFormed};
 ghost use Rattle.kql_scalar_fns.specs.Arguments.{AreWellFormed};
-ghost use Rattle.kql_scalar_fns.specs.Dynamic.{at, dynamic_call, element, of_all, of_count, of_one, read};
+ghost use Rattle.kql_scalar_fns.specs.Dynamic.{at, call_of_elements, call_of_one, dynamic_call, element, held, read};
 
 use crate::arguments::argument;
 use crate::readings::text_in;
+use kql_cells::{CellRef, Dyn, KText, Value, clone_dyn};
 use kql_dynamic::{
     array_concat, array_index_of, array_length, array_reverse, array_slice, at_index, at_name,
     bag_has_key, bag_keys, bag_merge, bag_pack, pack_array, parse_json, set_difference,
@@ -18,9 +16,7 @@ use kql_dynamic::{
 };
 use kql_functions::DynamicFunc;
 use kql_ticks::{print_moment, print_span};
-use kql_cells::{CellRef, Dyn, KText, Value, clone_dyn};
 use std::alloc::{AllocError, Global};
-use std::slice;
 
 #[tactic(auto, unfolding(crate::specs::Dynamic::dynamic_call))]
 pub(crate) fn apply_dynamic(
@@ -34,55 +30,75 @@ pub(crate) fn apply_dynamic(
 {
     match f {
         DynamicFunc::At => at(alloc, argument(args, 0), argument(args, 1)),
-        DynamicFunc::ParseJson => read(alloc, argument(args, 0)),
-        DynamicFunc::ToDynamic => read(alloc, argument(args, 0)),
-        DynamicFunc::ArrayLength => length_of(alloc, argument(args, 0)),
-        DynamicFunc::ArrayReverse => reverse_of(alloc, argument(args, 0)),
-        DynamicFunc::BagKeys => keys_of(alloc, argument(args, 0)),
-        DynamicFunc::ArraySlice => slice_of(alloc, args),
-        DynamicFunc::ArrayIndexOf => index_of(alloc, args),
-        DynamicFunc::BagHasKey => has_key(alloc, args),
-        DynamicFunc::SetUnion => union_of(alloc, args),
-        DynamicFunc::SetIntersect => intersection_of(alloc, args),
-        DynamicFunc::SetDifference => difference_of(alloc, args),
-        DynamicFunc::SetHasElement => has_element(alloc, args),
-        DynamicFunc::ArrayConcat => concat_of(alloc, args),
-        DynamicFunc::BagMerge => merge_of(alloc, args),
-        DynamicFunc::PackArray => array_of(alloc, args),
-        DynamicFunc::BagPack => bag_of(alloc, args),
+        DynamicFunc::ParseJson | DynamicFunc::ToDynamic => read(alloc, argument(args, 0)),
+        DynamicFunc::ArrayLength | DynamicFunc::ArrayReverse | DynamicFunc::BagKeys => {
+            call_of_one(alloc, f, argument(args, 0))
+        }
+        _ => call_of_elements(alloc, f, args),
+    }
+}
+
+// An argument as an element: a dynamic value is lent, and another is made.
+#[derive(Drop)]
+pub(crate) enum Operand<'a> {
+    Lent(&'a Dyn),
+    Made(Dyn),
+}
+
+impl<'a> Operand<'a> {
+    fn value(&self) -> &Dyn
+        ensures { result.now ≡ held self.now }
+    {
+        match self {
+            Operand::Lent(d) => d,
+            Operand::Made(d) => d,
+        }
     }
 }
 
 // A value as an element: a datetime or timespan is its printed text.
-#[tactic(auto, using(crate::proofs::ElementFacts::element_facts), unfolding(crate::specs::Dynamic::element))]
-fn element(alloc: Global, a: CellRef<'_>) -> Result<Dyn, AllocError>
+#[tactic(auto, using(crate::proofs::ElementLaws::element_facts), unfolding(crate::specs::Dynamic::element))]
+fn element(alloc: Global, a: CellRef<'_>) -> Result<Operand<'_>, AllocError>
     requires { IsWellFormed (seen a) }
-    ensures value { IfOk result (λ d. d ≡ element (seen a.entry)) }
-    ensures form { IfOk result (λ d. IsTrue (is_well_formed_dynamic d)) }
+    ensures value { IfOk result (λ e. held e ≡ element (seen a.entry)) }
+    ensures form { IfOk result (λ e. IsTrue (is_well_formed_dynamic (held e))) }
 {
     match a {
-        CellRef::Null => Ok(Dyn::Null),
-        CellRef::Bool(b) => Ok(Dyn::Bool(b)),
-        CellRef::Long(n) => Ok(Dyn::Long(n)),
-        CellRef::Text(t) => Ok(Dyn::Text(KText::from_str(alloc, t)?)),
-        CellRef::Moment(n) => Ok(Dyn::Text(print_moment(alloc, n)?)),
-        CellRef::Span(n) => Ok(Dyn::Text(print_span(alloc, n)?)),
-        CellRef::Dynamic(d) => clone_dyn(alloc, d),
+        CellRef::Null => Ok(Operand::Made(Dyn::Null)),
+        CellRef::Bool(b) => Ok(Operand::Made(Dyn::Bool(b))),
+        CellRef::Long(n) => Ok(Operand::Made(Dyn::Long(n))),
+        CellRef::Text(t) => Ok(Operand::Made(Dyn::Text(KText::from_str(alloc, t)?))),
+        CellRef::Moment(n) => Ok(Operand::Made(Dyn::Text(print_moment(alloc, n)?))),
+        CellRef::Span(n) => Ok(Operand::Made(Dyn::Text(print_span(alloc, n)?))),
+        CellRef::Dynamic(d) => Ok(Operand::Lent(d)),
     }
 }
 
-// The arguments as elements.
-#[tactic(auto, using(crate::proofs::ArgumentFacts::argument_facts, crate::proofs::ElementFacts::element_facts))]
-fn elements(alloc: Global, args: &[CellRef<'_>]) -> Result<Vec<Dyn>, AllocError>
+// The arguments as elements. No dynamic value is copied.
+#[tactic(auto, using(crate::proofs::ArgumentFacts::argument_facts, crate::proofs::ElementLaws::element_facts))]
+fn elements<'a>(alloc: Global, args: &[CellRef<'a>]) -> Result<Vec<Operand<'a>>, AllocError>
     requires { AreWellFormed (map seen args.now) }
-    ensures value { IfOk result (λ v. v.items ≡ map element (map seen args.now)) }
-    ensures form { IfOk result (λ v. IsTrue (list_all is_well_formed_dynamic v.items)) }
+    ensures value { IfOk result (λ v. map held v.items ≡ map element (map seen args.now)) }
+    ensures form { IfOk result (λ v. IsTrue (list_all is_well_formed_dynamic (map held v.items))) }
+    ensures count { IfOk result (λ v. length v.items ≡ length args.now) }
 {
     let mut elements = Vec::with_capacity(alloc, args.len())?;
     'arguments: for arg in args {
         elements.push(element(alloc, *arg)?)?;
     }
     Ok(elements)
+}
+
+// These, lent.
+fn lent<'a>(alloc: Global, elements: &'a [Operand<'a>]) -> Result<Vec<&'a Dyn>, AllocError>
+    ensures value { IfOk result (λ v. map (λ d. d.now) v.items ≡ map held elements.now) }
+    ensures count { IfOk result (λ v. length v.items ≡ length elements.now) }
+{
+    let mut values = Vec::with_capacity(alloc, elements.len())?;
+    'elements: for element in elements {
+        values.push(element.value())?;
+    }
+    Ok(values)
 }
 
 #[tactic(auto, unfolding(crate::specs::Dynamic::at))]
@@ -115,169 +131,50 @@ fn read(alloc: Global, a: CellRef<'_>) -> Result<Value, AllocError>
     }
 }
 
+// A call on one dynamic value.
 #[tactic(auto, unfolding(crate::specs::Dynamic::of_one))]
-fn length_of(alloc: Global, a: CellRef<'_>) -> Result<Value, AllocError>
+fn call_of_one(alloc: Global, f: DynamicFunc, a: CellRef<'_>) -> Result<Value, AllocError>
     requires { IsWellFormed (seen a) }
-    ensures value { IfOk result (λ v. v ≡ of_one array_length (seen a.entry)) }
+    ensures value { IfOk result (λ v. v ≡ call_of_one f (seen a.entry)) }
     ensures form { IfOk result IsWellFormed }
 {
-    match a {
-        CellRef::Dynamic(d) => array_length(alloc, slice::from_ref(d)),
+    let CellRef::Dynamic(d) = a else {
+        return Ok(Value::Null);
+    };
+    match f {
+        DynamicFunc::ArrayLength => array_length(alloc, &[d]),
+        DynamicFunc::ArrayReverse => array_reverse(alloc, &[d]),
+        DynamicFunc::BagKeys => bag_keys(alloc, &[d]),
         _ => Ok(Value::Null),
     }
 }
 
-#[tactic(auto, unfolding(crate::specs::Dynamic::of_one))]
-fn reverse_of(alloc: Global, a: CellRef<'_>) -> Result<Value, AllocError>
-    requires { IsWellFormed (seen a) }
-    ensures value { IfOk result (λ v. v ≡ of_one array_reverse (seen a.entry)) }
+// A call on the arguments as elements.
+#[tactic(auto, unfolding(crate::specs::Dynamic::of_all, crate::specs::Dynamic::of_count))]
+fn call_of_elements(
+    alloc: Global,
+    f: DynamicFunc,
+    args: &[CellRef<'_>],
+) -> Result<Value, AllocError>
+    requires { AreWellFormed (map seen args.now) }
+    ensures value { IfOk result (λ v. v ≡ call_of_elements f (map seen args.now)) }
     ensures form { IfOk result IsWellFormed }
 {
-    match a {
-        CellRef::Dynamic(d) => array_reverse(alloc, slice::from_ref(d)),
+    let elements = elements(alloc, args)?;
+    let values = lent(alloc, &elements)?;
+    let count = values.len();
+    match f {
+        DynamicFunc::ArrayConcat => array_concat(alloc, &values),
+        DynamicFunc::BagMerge => bag_merge(alloc, &values),
+        DynamicFunc::PackArray => pack_array(alloc, &values),
+        DynamicFunc::BagPack => bag_pack(alloc, &values),
+        DynamicFunc::ArraySlice if count == 3 => array_slice(alloc, &values),
+        DynamicFunc::ArrayIndexOf if count == 2 => array_index_of(alloc, &values),
+        DynamicFunc::BagHasKey if count == 2 => bag_has_key(alloc, &values),
+        DynamicFunc::SetUnion if count == 2 => set_union(alloc, &values),
+        DynamicFunc::SetIntersect if count == 2 => set_intersect(alloc, &values),
+        DynamicFunc::SetDifference if count == 2 => set_difference(alloc, &values),
+        DynamicFunc::SetHasElement if count == 2 => set_has_element(alloc, &values),
         _ => Ok(Value::Null),
     }
-}
-
-#[tactic(auto, unfolding(crate::specs::Dynamic::of_one))]
-fn keys_of(alloc: Global, a: CellRef<'_>) -> Result<Value, AllocError>
-    requires { IsWellFormed (seen a) }
-    ensures value { IfOk result (λ v. v ≡ of_one bag_keys (seen a.entry)) }
-    ensures form { IfOk result IsWellFormed }
-{
-    match a {
-        CellRef::Dynamic(d) => bag_keys(alloc, slice::from_ref(d)),
-        _ => Ok(Value::Null),
-    }
-}
-
-#[tactic(auto, unfolding(crate::specs::Dynamic::of_count))]
-fn slice_of(alloc: Global, args: &[CellRef<'_>]) -> Result<Value, AllocError>
-    requires { AreWellFormed (map seen args.now) }
-    ensures value { IfOk result (λ v. v ≡ of_count 3 array_slice (map seen args.now)) }
-    ensures form { IfOk result IsWellFormed }
-{
-    if args.len() != 3 {
-        return Ok(Value::Null);
-    }
-    let elements = elements(alloc, args)?;
-    array_slice(alloc, &elements)
-}
-
-#[tactic(auto, unfolding(crate::specs::Dynamic::of_count))]
-fn index_of(alloc: Global, args: &[CellRef<'_>]) -> Result<Value, AllocError>
-    requires { AreWellFormed (map seen args.now) }
-    ensures value { IfOk result (λ v. v ≡ of_count 2 array_index_of (map seen args.now)) }
-    ensures form { IfOk result IsWellFormed }
-{
-    if args.len() != 2 {
-        return Ok(Value::Null);
-    }
-    let elements = elements(alloc, args)?;
-    array_index_of(alloc, &elements)
-}
-
-#[tactic(auto, unfolding(crate::specs::Dynamic::of_count))]
-fn has_key(alloc: Global, args: &[CellRef<'_>]) -> Result<Value, AllocError>
-    requires { AreWellFormed (map seen args.now) }
-    ensures value { IfOk result (λ v. v ≡ of_count 2 bag_has_key (map seen args.now)) }
-    ensures form { IfOk result IsWellFormed }
-{
-    if args.len() != 2 {
-        return Ok(Value::Null);
-    }
-    let elements = elements(alloc, args)?;
-    bag_has_key(alloc, &elements)
-}
-
-#[tactic(auto, unfolding(crate::specs::Dynamic::of_count))]
-fn union_of(alloc: Global, args: &[CellRef<'_>]) -> Result<Value, AllocError>
-    requires { AreWellFormed (map seen args.now) }
-    ensures value { IfOk result (λ v. v ≡ of_count 2 set_union (map seen args.now)) }
-    ensures form { IfOk result IsWellFormed }
-{
-    if args.len() != 2 {
-        return Ok(Value::Null);
-    }
-    let elements = elements(alloc, args)?;
-    set_union(alloc, &elements)
-}
-
-#[tactic(auto, unfolding(crate::specs::Dynamic::of_count))]
-fn intersection_of(alloc: Global, args: &[CellRef<'_>]) -> Result<Value, AllocError>
-    requires { AreWellFormed (map seen args.now) }
-    ensures value { IfOk result (λ v. v ≡ of_count 2 set_intersect (map seen args.now)) }
-    ensures form { IfOk result IsWellFormed }
-{
-    if args.len() != 2 {
-        return Ok(Value::Null);
-    }
-    let elements = elements(alloc, args)?;
-    set_intersect(alloc, &elements)
-}
-
-#[tactic(auto, unfolding(crate::specs::Dynamic::of_count))]
-fn difference_of(alloc: Global, args: &[CellRef<'_>]) -> Result<Value, AllocError>
-    requires { AreWellFormed (map seen args.now) }
-    ensures value { IfOk result (λ v. v ≡ of_count 2 set_difference (map seen args.now)) }
-    ensures form { IfOk result IsWellFormed }
-{
-    if args.len() != 2 {
-        return Ok(Value::Null);
-    }
-    let elements = elements(alloc, args)?;
-    set_difference(alloc, &elements)
-}
-
-#[tactic(auto, unfolding(crate::specs::Dynamic::of_count))]
-fn has_element(alloc: Global, args: &[CellRef<'_>]) -> Result<Value, AllocError>
-    requires { AreWellFormed (map seen args.now) }
-    ensures value { IfOk result (λ v. v ≡ of_count 2 set_has_element (map seen args.now)) }
-    ensures form { IfOk result IsWellFormed }
-{
-    if args.len() != 2 {
-        return Ok(Value::Null);
-    }
-    let elements = elements(alloc, args)?;
-    set_has_element(alloc, &elements)
-}
-
-#[tactic(auto, unfolding(crate::specs::Dynamic::of_all))]
-fn concat_of(alloc: Global, args: &[CellRef<'_>]) -> Result<Value, AllocError>
-    requires { AreWellFormed (map seen args.now) }
-    ensures value { IfOk result (λ v. v ≡ of_all array_concat (map seen args.now)) }
-    ensures form { IfOk result IsWellFormed }
-{
-    let elements = elements(alloc, args)?;
-    array_concat(alloc, &elements)
-}
-
-#[tactic(auto, unfolding(crate::specs::Dynamic::of_all))]
-fn merge_of(alloc: Global, args: &[CellRef<'_>]) -> Result<Value, AllocError>
-    requires { AreWellFormed (map seen args.now) }
-    ensures value { IfOk result (λ v. v ≡ of_all bag_merge (map seen args.now)) }
-    ensures form { IfOk result IsWellFormed }
-{
-    let elements = elements(alloc, args)?;
-    bag_merge(alloc, &elements)
-}
-
-#[tactic(auto, unfolding(crate::specs::Dynamic::of_all))]
-fn array_of(alloc: Global, args: &[CellRef<'_>]) -> Result<Value, AllocError>
-    requires { AreWellFormed (map seen args.now) }
-    ensures value { IfOk result (λ v. v ≡ of_all pack_array (map seen args.now)) }
-    ensures form { IfOk result IsWellFormed }
-{
-    let elements = elements(alloc, args)?;
-    pack_array(alloc, &elements)
-}
-
-#[tactic(auto, unfolding(crate::specs::Dynamic::of_all))]
-fn bag_of(alloc: Global, args: &[CellRef<'_>]) -> Result<Value, AllocError>
-    requires { AreWellFormed (map seen args.now) }
-    ensures value { IfOk result (λ v. v ≡ of_all bag_pack (map seen args.now)) }
-    ensures form { IfOk result IsWellFormed }
-{
-    let elements = elements(alloc, args)?;
-    bag_pack(alloc, &elements)
 }

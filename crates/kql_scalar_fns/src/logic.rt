@@ -4,8 +4,8 @@ ghost use Rattle.kql_cells.specs.Values.{IsWellFormed};
 ghost use Rattle.kql_scalar_fns.specs.Logic.{both, conjunction, disjunction, either, is_true, logic, opposite, truth};
 
 use crate::arguments::{argument, bool_or_null};
-use kql_functions::LogicFunc;
 use kql_cells::{CellRef, Value};
+use kql_functions::LogicFunc;
 
 #[tactic(auto, unfolding(crate::specs::Logic::logic))]
 pub(crate) fn apply_logic(f: LogicFunc, args: &[CellRef<'_>]) -> Value

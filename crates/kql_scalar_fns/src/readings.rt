@@ -1,14 +1,14 @@
-ghost use Rattle.std.specs.Prelude.{◌≡◌, ◌++◌, ◌==◌, IfOk, IsTrue, OnOk, option_and_then, option_map, slice_index};
+ghost use Rattle.std.specs.Prelude.{◌≡◌, ◌++◌, IfOk, IsTrue, OnOk, option_map};
 ghost use Rattle.std.specs.Fmt.{signed_decimal};
 ghost use Rattle.kql_dynamic.specs.Parts.{text};
 ghost use Rattle.kql_cells.specs.Dynamic.{is_well_formed_dynamic};
 ghost use Rattle.kql_cells.specs.Seen.{seen};
 ghost use Rattle.kql_cells.specs.Values.{IsWellFormed};
-ghost use Rattle.kql_scalar_fns.specs.Readings.{bool_written, dynamic_text, long_written, text_of};
+ghost use Rattle.kql_scalar_fns.specs.Readings.{dynamic_text, text_of};
 
+use kql_cells::{CellRef, Dyn, KText};
 use kql_dynamic::print_json;
 use kql_ticks::{print_moment, print_span};
-use kql_cells::{CellRef, Dyn, KText};
 use std::alloc::{AllocError, Global};
 
 // The text of a dynamic value that is one.

@@ -5,9 +5,9 @@ ghost use Rattle.kql_cells.specs.Values.{IsWellFormed};
 ghost use Rattle.kql_scalar_fns.specs.Search.{found, search_call, stands, turned_if};
 
 use crate::arguments::{argument, bool_or_null};
+use kql_cells::{CellRef, Value};
 use kql_functions::{SearchFunc, SearchPlace};
 use kql_texts::{Fold, begins, ends, has_term, holds};
-use kql_cells::{CellRef, Value};
 use std::alloc::{AllocError, Global};
 
 #[tactic(auto, unfolding(crate::specs::Search::search_call))]

@@ -8,8 +8,8 @@ ghost use Rattle.kql_scalar_fns.specs.Text.{char_count, joined, joined_with, low
 
 use crate::arguments::{argument, others};
 use crate::readings::{push_text_of, text_of};
-use kql_functions::TextFunc;
 use kql_cells::{CellRef, Dyn, KText, Value};
+use kql_functions::TextFunc;
 use std::alloc::{AllocError, Global};
 use std::cmp::Ordering;
 

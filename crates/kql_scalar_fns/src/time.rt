@@ -10,9 +10,9 @@ ghost use Rattle.kql_scalar_fns.specs.Time.{crossed, end, field_named, field_of,
 
 use crate::arguments::{argument, long_or_null, moment_or_null};
 use crate::whole::in_moments;
+use kql_cells::{CellRef, Value};
 use kql_functions::TimeFunc;
 use kql_ticks::{Part, add_part, borders, day_of_week, end_of, make_moment, part_of, start_of};
-use kql_cells::{CellRef, Value};
 
 // The ticks from 0001-01-01 to 1970-01-01.
 const START_OF_1970: i128 = 621_355_968_000_000_000;

@@ -5,8 +5,8 @@ ghost use Rattle.kql_ticks.specs.Ranges.{fit, fit_moment};
 ghost use Rattle.kql_cells.specs.Values.{IsMoment};
 ghost use Rattle.kql_scalar_fns.specs.Arithmetic.{quotient_of, remainder_of};
 
-use kql_ticks::bin_at;
 use kql_cells::MOMENT_TOP;
+use kql_ticks::bin_at;
 
 #[tactic(auto, using(crate::proofs::RangeFacts::range_facts))]
 pub(crate) fn whole_sum(a: i64, b: i64) -> Option<i64>

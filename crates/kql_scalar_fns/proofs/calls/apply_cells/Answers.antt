@@ -1,4 +1,4 @@
-use Rattle.kql_scalar_fns.proofs.CallKinds.{call_gives}
+use Rattle.kql_scalar_fns.proofs.CallLaws.{call_gives}
 use Rattle.kql_scalar_fns.proofs.calls.apply_cells.Goals as goal
 
 pub returns-clause-kind : goal.returns-clause-kind

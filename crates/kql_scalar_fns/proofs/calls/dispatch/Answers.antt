@@ -1,4 +1,4 @@
-use Rattle.kql_scalar_fns.proofs.ChoiceForms.{choice_form}
+use Rattle.kql_scalar_fns.proofs.ChoiceFormLaws.{choice_form}
 use Rattle.kql_scalar_fns.proofs.calls.dispatch.Goals as goal
 
 pub returns-in-Choice-clause-form : goal.returns-in-Choice-clause-form

@@ -1,4 +1,4 @@
-use Rattle.kql_scalar_fns.proofs.PieceForms.{pieces_form}
+use Rattle.kql_scalar_fns.proofs.PieceLaws.{pieces_form}
 use Rattle.kql_scalar_fns.proofs.text.pieces.Goals as goal
 
 pub returns-in_ok-split_by-in-Text-Text-clause-form : goal.returns-in_ok-split_by-in-Text-Text-clause-form
