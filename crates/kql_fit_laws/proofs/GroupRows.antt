@@ -28,20 +28,21 @@ use Rattle.kql_meaning.specs.Expressions.{aggregate_kind, first_kind, kind_of, k
 use Rattle.kql_meaning.specs.FittingExpressions.{aggregate_takes, call_or_expr_fits, expr_fits, fits_as, has_kind, is_addable, is_key, is_kind, one_of, one_of_if, scope_of, takes_aggregate, takes_columns}
 use Rattle.kql_meaning.specs.FittingOperators.{group_item_fits, has_its_names, key_item_fits, summarize_fits}
 use Rattle.kql_meaning.specs.Groups.{distinct_keys, group_of, key_by}
-use Rattle.kql_meaning.specs.Items.{aggregate_result_kinds, items_columns, items_values, named_columns, result_kinds, results, results_step, typed}
+use Rattle.kql_meaning.specs.Items.{items_columns, items_values, named_columns}
+use Rattle.kql_meaning.specs.Results.{aggregate_result_kinds, result_kinds, results, results_step, typed}
 use Rattle.kql_meaning.specs.Numbers.{counted, fitted, sum_of}
 use Rattle.kql_meaning.specs.Plans.{op_means}
 use Rattle.kql_meaning.specs.Readings.{Reading, reading_at}
 use Rattle.kql_meaning.specs.Summarize.{group_columns, group_row, group_rows, summarize_table}
 use Rattle.kql_meaning.specs.Tables.{cell, has_column, places}
 use Rattle.kql_meaning.specs.Values.{same_keys}
-use Rattle.kql_meaning.proofs.KindSteps.{kind-Aggregate}
-use Rattle.kql_meaning.proofs.ListFacts.{every-distinct}
-use Rattle.kql_meaning.proofs.Members.{Member, contains-member, every-of-members, member-of-map, of-member}
-use Rattle.kql_meaning.proofs.ValueSteps.{val-Aggregate, val-Column}
-use Rattle.kql_columns.proofs.ColumnSteps.{result-Aggregate, result-Column}
-use Rattle.kql_fits.proofs.FitSteps.{aggregate-checked, call-Aggregate, fits-Column}
-use Rattle.kql_fits.proofs.FitsSteps.{op-Summarize}
+use Rattle.kql_meaning.proofs.KindLaws.{kind-Aggregate}
+use Rattle.kql_meaning.proofs.ListLaws.{every-distinct}
+use Rattle.kql_meaning.proofs.MemberLaws.{Member, contains-member, every-of-members, member-of-map, of-member}
+use Rattle.kql_meaning.proofs.ValueLaws.{val-Aggregate, val-Column}
+use Rattle.kql_meaning.proofs.ResultLaws.{result-Aggregate, result-Column}
+use Rattle.kql_meaning.proofs.ExpressionFitLaws.{aggregate-checked, call-Aggregate, fits-Column}
+use Rattle.kql_meaning.proofs.OperatorFitLaws.{op-Summarize}
 use Rattle.kql_fit_laws.proofs.ItemRows.{has-found, one-fits, typed-column}
 use Rattle.kql_fit_laws.proofs.PlanRows.{group-table}
 use Rattle.kql_fit_laws.proofs.RowFacts.{all-members, answer-some, cell-named-fits, place-below, rows-append}

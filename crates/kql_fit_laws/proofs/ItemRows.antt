@@ -24,20 +24,21 @@ use Rattle.kql_meaning.specs.Extend.{extend_columns, extend_table}
 use Rattle.kql_meaning.specs.Fits.{source_columns}
 use Rattle.kql_meaning.specs.FittingExpressions.{expr_fits, scope_of, takes_columns}
 use Rattle.kql_meaning.specs.FittingOperators.{has_its_names, item_fits, items_fit}
-use Rattle.kql_meaning.specs.Items.{cells_in, items_columns, items_names, items_values, named_columns, result_kinds, results, results_step, typed, without}
+use Rattle.kql_meaning.specs.Items.{cells_in, items_columns, items_names, items_values, named_columns, without}
+use Rattle.kql_meaning.specs.Results.{result_kinds, results, results_step, typed}
 use Rattle.kql_meaning.specs.Literals.{is_of_kind, is_well_formed, literal_fits}
 use Rattle.kql_meaning.specs.Plans.{op_means, source_table}
 use Rattle.kql_meaning.specs.Project.{project_table}
 use Rattle.kql_meaning.specs.Sources.{one_row, print_table}
 use Rattle.kql_meaning.specs.Tables.{cell, has_column, is_name_among, names_of, places}
-use Rattle.kql_meaning.proofs.KindSteps.{kind-Column, kind-Literal}
-use Rattle.kql_meaning.proofs.LiteralFacts.{is_of_kind-decides}
-use Rattle.kql_meaning.proofs.Members.{Member, contains-member, member-of-filter, member-of-map, pairs-of}
-use Rattle.kql_meaning.proofs.ValueSteps.{val-Column, val-Literal}
-use Rattle.kql_columns.proofs.ColumnSteps.{result-Column, result-Literal}
-use Rattle.kql_fits.proofs.FitSteps.{fits-Column, fits-Literal, rolled-Column, rolled-Literal}
-use Rattle.kql_fits.proofs.FitsSteps.{op-Extend, op-Project}
-use Rattle.kql_fits.proofs.LiteralFacts.{is_well_formed-decides}
+use Rattle.kql_meaning.proofs.KindLaws.{kind-Column, kind-Literal}
+use Rattle.kql_meaning.proofs.LiteralLaws.{is_of_kind-decides}
+use Rattle.kql_meaning.proofs.MemberLaws.{Member, contains-member, member-of-filter, member-of-map, pairs-of}
+use Rattle.kql_meaning.proofs.ValueLaws.{val-Column, val-Literal}
+use Rattle.kql_meaning.proofs.ResultLaws.{result-Column, result-Literal}
+use Rattle.kql_meaning.proofs.ExpressionFitLaws.{fits-Column, fits-Literal, rolled-Column, rolled-Literal}
+use Rattle.kql_meaning.proofs.OperatorFitLaws.{op-Extend, op-Project}
+use Rattle.kql_meaning.proofs.LiteralLaws.{is_well_formed-decides}
 use Rattle.kql_fit_laws.proofs.RowFacts.{all-members, answer-some, cell-named-fits, cells-fit, different, place-below, rows-append}
 use Rattle.kql_fit_laws.proofs.RowLaws.{made, means}
 use Rattle.kql_fit_laws.specs.LawsOfPrograms.{ColumnItemKeeps, ExtendKeeps, ItemKeeps, LiteralItemKeeps, PrintKeeps, ProjectKeeps}

@@ -11,7 +11,8 @@ use Rattle.kql_bound.specs.declared.plan.Op.TheVariants as op
 use Rattle.kql_meaning.specs.Expressions.{val}
 use Rattle.kql_meaning.specs.Fits.{Known}
 use Rattle.kql_meaning.specs.FittingOperators.{group_item_fits, key_item_fits}
-use Rattle.kql_meaning.specs.Items.{named_columns, result_kinds, results}
+use Rattle.kql_meaning.specs.Items.{named_columns}
+use Rattle.kql_meaning.specs.Results.{result_kinds, results}
 use Rattle.kql_meaning.specs.Plans.{World}
 use Rattle.kql_fit_laws.specs.LawsOfRows.{IsTable, OpKeeps}
 

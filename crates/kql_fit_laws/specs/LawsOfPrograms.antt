@@ -18,7 +18,8 @@ use Rattle.kql_meaning.specs.declared.position.Position.TheVariants as position
 use Rattle.kql_meaning.specs.Fits.{Known, program_columns, source_columns, table_columns}
 use Rattle.kql_meaning.specs.FittingExpressions.{scope_of}
 use Rattle.kql_meaning.specs.FittingOperators.{item_fits}
-use Rattle.kql_meaning.specs.Items.{named_columns, result_kinds, results}
+use Rattle.kql_meaning.specs.Items.{named_columns}
+use Rattle.kql_meaning.specs.Results.{result_kinds, results}
 use Rattle.kql_meaning.specs.Plans.{World, means, source_table}
 use Rattle.kql_meaning.specs.Sources.{named_table}
 use Rattle.kql_fit_laws.specs.LawsOfRows.{IsTable, IsTableOf, OpKeeps, PlanKeeps}

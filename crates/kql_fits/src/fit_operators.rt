@@ -15,10 +15,10 @@ use kql_bound::{
     BExpr, BItem, BKey, Expand, ExpandItem, GroupPlan, JoinKind, JoinPlan, Lit, OnPair, ParsePlan,
     PatItem, SeriesItem, SeriesPlan,
 };
+use kql_cells::{Column, KText, Kind, Names, Value};
 use kql_columns::{has_column, is_name_among, result_kinds};
 use kql_items::Items;
 use kql_meaning::{Position, column_kind, kind_of};
-use kql_cells::{Column, KText, Kind, Names, Value};
 use std::alloc::{AllocError, Global};
 
 // Columns of an answer.

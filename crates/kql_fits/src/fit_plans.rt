@@ -23,13 +23,13 @@ use kql_bound::{
     BExpr, BItem, BKey, Expand, GroupPlan, JoinPlan, Lit, Op, ParsePlan, Plan, ScanPlan,
     SeriesPlan, Source,
 };
+use kql_cells::{Column, KText, NamedSchema};
 use kql_columns::{
     clone_columns, count_columns, expand_columns, extend_columns, group_columns, items_columns,
     join_columns, parse_columns, range_columns, scan_columns, series_columns, union_columns,
 };
 use kql_items::Items;
 use kql_meaning::{Position, column_kind};
-use kql_cells::{Column, KText, NamedSchema};
 use std::alloc::{AllocError, Global};
 
 // Sources.
@@ -70,7 +70,7 @@ fn let_columns(
     }
 }
 
-#[tactic(auto, using(crate::proofs::FitsSteps::answer_steps))]
+#[tactic(auto, using(kql_meaning::proofs::OperatorFitLaws::answer_steps))]
 fn ranged(
     alloc: Global,
     column: &KText,
@@ -112,7 +112,7 @@ fn source_columns(
 
 // Operators.
 
-#[tactic(auto, using(crate::proofs::FitsSteps::answer_steps))]
+#[tactic(auto, using(kql_meaning::proofs::OperatorFitLaws::answer_steps))]
 fn projected(
     alloc: Global,
     items: &[BItem],
@@ -129,7 +129,7 @@ fn projected(
     }
 }
 
-#[tactic(auto, using(crate::proofs::FitsSteps::answer_steps))]
+#[tactic(auto, using(kql_meaning::proofs::OperatorFitLaws::answer_steps))]
 fn extended(
     alloc: Global,
     items: &[BItem],
@@ -145,7 +145,7 @@ fn extended(
     }
 }
 
-#[tactic(auto, using(crate::proofs::FitsSteps::answer_steps))]
+#[tactic(auto, using(kql_meaning::proofs::OperatorFitLaws::answer_steps))]
 fn summarized(
     alloc: Global,
     group: &GroupPlan,
@@ -161,7 +161,7 @@ fn summarized(
     }
 }
 
-#[tactic(auto, using(crate::proofs::FitsSteps::answer_steps))]
+#[tactic(auto, using(kql_meaning::proofs::OperatorFitLaws::answer_steps))]
 fn as_series(
     alloc: Global,
     series: &SeriesPlan,
@@ -177,7 +177,7 @@ fn as_series(
     }
 }
 
-#[tactic(auto, using(crate::proofs::FitsSteps::answer_steps))]
+#[tactic(auto, using(kql_meaning::proofs::OperatorFitLaws::answer_steps))]
 fn expanded(
     alloc: Global,
     expand: &Expand,
@@ -193,7 +193,7 @@ fn expanded(
     }
 }
 
-#[tactic(auto, using(crate::proofs::FitsSteps::answer_steps))]
+#[tactic(auto, using(kql_meaning::proofs::OperatorFitLaws::answer_steps))]
 fn parsed(
     alloc: Global,
     parse: &ParsePlan,
@@ -209,7 +209,7 @@ fn parsed(
     }
 }
 
-#[tactic(auto, using(crate::proofs::FitsSteps::answer_steps))]
+#[tactic(auto, using(kql_meaning::proofs::OperatorFitLaws::answer_steps))]
 fn scanned(
     alloc: Global,
     scan: &ScanPlan,
@@ -269,7 +269,7 @@ fn counted(alloc: Global) -> Result<Option<Items<Column>>, AllocError>
     Ok(Some(columns))
 }
 
-#[tactic(auto, using(crate::proofs::FitsSteps::answer_steps), unfolding(kql_meaning::specs::Fits::joined_columns))]
+#[tactic(auto, using(kql_meaning::proofs::OperatorFitLaws::answer_steps), unfolding(kql_meaning::specs::Fits::joined_columns))]
 fn joined(
     alloc: Global,
     join: &JoinPlan,
@@ -289,7 +289,7 @@ fn joined(
     }
 }
 
-#[tactic(auto, using(crate::proofs::FitsSteps::answer_steps), unfolding(kql_meaning::specs::Fits::united_columns))]
+#[tactic(auto, using(kql_meaning::proofs::OperatorFitLaws::answer_steps), unfolding(kql_meaning::specs::Fits::united_columns))]
 fn united(
     alloc: Global,
     inner: bool,
@@ -311,7 +311,7 @@ fn united(
 
 // The columns that an operator makes.
 #[cycle(plan_columns)]
-#[tactic(auto, using(crate::proofs::FitsSteps::op_steps))]
+#[tactic(auto, using(kql_meaning::proofs::OperatorFitLaws::op_steps))]
 fn op_columns(
     alloc: Global,
     op: &Op,
@@ -364,7 +364,7 @@ fn op_columns(
 
 // The columns after operators, one after another.
 #[cycle(plan_columns)]
-#[tactic(auto, using(crate::proofs::FitsSteps::ops_steps))]
+#[tactic(auto, using(kql_meaning::proofs::OperatorFitLaws::ops_steps))]
 fn ops_columns(
     alloc: Global,
     ops: &[Op],
@@ -387,7 +387,7 @@ fn ops_columns(
 
 // The columns of several plans, where all of them fit.
 #[cycle(plan_columns)]
-#[tactic(auto, using(crate::proofs::FitsSteps::plans_steps))]
+#[tactic(auto, using(kql_meaning::proofs::OperatorFitLaws::plans_steps))]
 fn plans_columns(
     alloc: Global,
     plans: &[Plan],
@@ -408,7 +408,7 @@ fn plans_columns(
 
 /// The columns of a plan that fits.
 #[cycle(plan_columns)]
-#[tactic(auto, using(crate::proofs::FitsSteps::plan_steps))]
+#[tactic(auto, using(kql_meaning::proofs::OperatorFitLaws::plan_steps))]
 pub(crate) fn plan_columns(
     alloc: Global,
     plan: &Plan,

@@ -13,10 +13,10 @@ use crate::kind_tests::{KindTest, same_known};
 use crate::literals::literal_fits;
 use crate::scope::Scope;
 use kql_bound::{BExpr, BItem, Decl, ScanPlan, ScanStep};
+use kql_cells::{Column, KText, Kind, Names, Value, Values};
 use kql_columns::{clone_columns, declared_columns};
 use kql_items::Items;
 use kql_meaning::{Position, column_kind, kind_of};
-use kql_cells::{Column, KText, Kind, Names, Value, Values};
 use std::alloc::{AllocError, Global};
 
 // Copies of names and values.
