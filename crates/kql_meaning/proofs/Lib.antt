@@ -14,6 +14,7 @@ pub mod NothingLaws
 pub mod NumberLaws
 pub mod OperatorFitLaws
 pub mod OuterLaws
+pub mod PartRowLaws
 pub mod PlainLaws
 pub mod PlanLaws
 pub mod ReadingLaws

@@ -163,11 +163,11 @@ filter-same p q h (x ∷ xs) = elim (cases_Bool (q x)) [
   | inr n ↦ rw (h x, n) (filter-same p q h xs)
 ]
 
-map-same : {X Y : Type 0} (f g : X → Y) → ((x : X) → f x ≡ g x) → (xs : List X) → map f xs ≡ map g xs
+pub map-same : {X Y : Type 0} (f g : X → Y) → ((x : X) → f x ≡ g x) → (xs : List X) → map f xs ≡ map g xs
 map-same f g h [] = refl
 map-same f g h (x ∷ xs) = ap₂ (λ y ys. y ∷ ys) (h x) (map-same f g h xs)
 
-rows-at-all : (t : Grid) → map (row_at t.lines) (places t) ≡ t.lines
+pub rows-at-all : (t : Grid) → map (row_at t.lines) (places t) ≡ t.lines
 rows-at-all t = ap (λ (u : Grid). u.lines) (gathered-all t)
 
 -- `where`.
@@ -202,7 +202,7 @@ where_takes_each_row e r columns xs ys =
 pub record MakesOfEach (f : Grid → Grid) (columns_made : List Column → List Column) (made : List Column → List Value → List Value) : Type 0 where
   pub rows : (t : Grid) → f t ≡ grid_of (columns_made t.columns) (map (made t.columns) t.lines)
 
-takes-each : (f : Grid → Grid) (c : List Column → List Column) (g : List Column → List Value → List Value) → MakesOfEach f c g → TakesEachRow f
+pub takes-each : (f : Grid → Grid) (c : List Column → List Column) (g : List Column → List Value → List Value) → MakesOfEach f c g → TakesEachRow f
 takes-each f c g each columns xs ys =
     ap (λ (t : Grid). t.lines) (each.rows (grid_of columns (xs ++ ys)))
     ∙ (map-append (g columns) xs ys
@@ -213,14 +213,14 @@ rows-of-map g lines [] h = refl
 rows-of-map g lines (i ∷ is) h =
     ap₂ (λ x xs. x ∷ xs) (sym (row-of-map g lines i [] (All-head (λ i. i < length lines) i is h))) (rows-of-map g lines is (All-tail (λ i. i < length lines) i is h))
 
-of-gathered : (f : Grid → Grid) (c : List Column → List Column) (g : List Column → List Value → List Value) → MakesOfEach f c g → (t : Grid) (rows : List ℕ) → All (λ i. i < length t.lines) rows → f (gathered t rows) ≡ gathered (f t) rows
+pub of-gathered : (f : Grid → Grid) (c : List Column → List Column) (g : List Column → List Value → List Value) → MakesOfEach f c g → (t : Grid) (rows : List ℕ) → All (λ i. i < length t.lines) rows → f (gathered t rows) ≡ gathered (f t) rows
 of-gathered f c g each t rows h =
     each.rows (gathered t rows)
     ∙ (ap (grid_of (c t.columns)) (rows-of-map (g t.columns) t.lines rows h)
     ∙ sym (ap (λ (u : Grid). gathered u rows) (each.rows t)))
 
 -- What is made of each row by its place, where it is made of the row alone.
-made-of-rows : {Y : Type 0} (t : Grid) (f : ℕ → Y) (g : List Value → Y) → ((i : ℕ) → f i ≡ g (row_at t.lines i)) → map f (places t) ≡ map g t.lines
+pub made-of-rows : {Y : Type 0} (t : Grid) (f : ℕ → Y) (g : List Value → Y) → ((i : ℕ) → f i ≡ g (row_at t.lines i)) → map f (places t) ≡ map g t.lines
 made-of-rows t f g h = map-same f (λ i. g (row_at t.lines i)) h (places t) ∙ (sym (map-map g (row_at t.lines) (places t)) ∙ ap (map g) (rows-at-all t))
 
 results-one : (e : BExpr) → is_plain e ≡ true → (y : BExpr-F BExpr) → out-BExpr e ≡ y → (v : Value) (t : Grid) (s : Records) → results_step y v t s ≡ v ∷ []

@@ -8,6 +8,7 @@ use Rattle.kql_bound.specs.declared.expr.BExpr.{BExpr, fold-BExpr}
 use Rattle.kql_bound.specs.declared.expr.BExpr.TheOpen.{BExpr-F}
 use Rattle.kql_bound.specs.declared.expr.ChainSign.{ChainSign}
 use Rattle.kql_bound.specs.declared.parts.BItem.{BItem}
+use Rattle.kql_bound.specs.declared.parts.ExpandItem.{ExpandItem}
 
 -- Whether an expression is plain: neither a window function nor an aggregate stands anywhere in it.
 abbrev pub is_plain_step : BExpr-F Bool → Bool
@@ -26,6 +27,9 @@ is_plain = fold-BExpr Bool is_plain_step
 -- Whether all of these items are.
 unfoldable pub are_plain : List BItem → Bool
 are_plain items = list_all (λ (b : BItem). is_plain b.expr) items
+
+unfoldable pub are_plain_parts : List ExpandItem → Bool
+are_plain_parts items = list_all (λ (item : ExpandItem). is_plain item.expr) items
 
 -- A table of these columns and rows.
 abbrev pub grid_of : List Column → List (List Value) → Grid
