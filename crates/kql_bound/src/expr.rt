@@ -1,7 +1,7 @@
 use crate::literal::Lit;
+use kql_cells::KText;
 use kql_functions::Func;
 use kql_items::{Boxed, Items};
-use kql_cells::KText;
 
 /// A sign between the parts of a chain.
 #[derive(Clone, Copy, Debug, PartialEq, Eq)]

@@ -27,7 +27,7 @@ pub use part_clones::{
     clone_series,
 };
 pub use parts::{
-    BItem, BKey, Decl, Decls, Expand, ExpandItem, ExpandItems, GroupPlan, Items, JoinKind,
+    BItem, BItems, BKey, Decl, Decls, Expand, ExpandItem, ExpandItems, GroupPlan, JoinKind,
     JoinPlan, Keys, OnPair, OnPairs, Output, ParsePlan, PatItem, Pattern, ScanPlan, ScanStep,
     ScanSteps, SeriesItem, SeriesItems, SeriesPlan,
 };

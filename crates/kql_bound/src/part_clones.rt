@@ -2,14 +2,13 @@
 ghost use Rattle.std.specs.Prelude.{◌≡◌, IfOk};
 
 use crate::expr_clones::{clone_expr, clone_lit};
-use crate::parts;
 use crate::parts::{
-    BItem, BKey, Decl, Decls, Expand, ExpandItem, ExpandItems, GroupPlan, JoinPlan, Keys, OnPair,
-    OnPairs, ParsePlan, PatItem, Pattern, ScanPlan, ScanStep, ScanSteps, SeriesItem, SeriesItems,
-    SeriesPlan,
+    BItem, BItems, BKey, Decl, Decls, Expand, ExpandItem, ExpandItems, GroupPlan, JoinPlan, Keys,
+    OnPair, OnPairs, ParsePlan, PatItem, Pattern, ScanPlan, ScanStep, ScanSteps, SeriesItem,
+    SeriesItems, SeriesPlan,
 };
-use kql_items::Items;
 use kql_cells::{KText, Names};
+use kql_items::Items;
 use std::alloc::{AllocError, Global};
 
 /// Equal names.
@@ -34,7 +33,7 @@ fn clone_item(alloc: Global, item: &BItem) -> Result<BItem, AllocError>
 }
 
 /// Equal items.
-pub fn clone_items(alloc: Global, items: &parts::Items) -> Result<parts::Items, AllocError>
+pub fn clone_items(alloc: Global, items: &BItems) -> Result<BItems, AllocError>
     ensures same { IfOk result (λ c. c ≡ items.now) }
 {
     let mut copies = Items::with_capacity(alloc, items.len())?;

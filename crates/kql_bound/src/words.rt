@@ -4,8 +4,8 @@ ghost use Rattle.kql_bound.specs.Words.{aggregate_name, join_word, kind_word, ou
 
 use crate::expr::{Aggregate, ChainSign, Window};
 use crate::parts::{JoinKind, Output};
-use kql_functions::{ArithmeticFunc, Func};
 use kql_cells::Kind;
+use kql_functions::{ArithmeticFunc, Func};
 
 /// The word of a type.
 #[tactic(auto, unfolding(crate::specs::Words::kind_word))]

@@ -10,10 +10,10 @@ ghost use Rattle.kql_bound.specs.Literals.{escaped_byte, escaped_char, lit_text,
 use crate::literal::Lit;
 use crate::words::kind_word;
 use itoa::Buffer;
+use kql_cells::{Dyn, KText, Kind, LEVELS_TOP, MOMENT_TOP, Value, has_form, has_levels_within};
 use kql_dynamic::print_json;
 use kql_lexer::{is_reserved, is_word};
 use kql_ticks::{print_moment, print_span};
-use kql_cells::{Dyn, KText, Kind, LEVELS_TOP, MOMENT_TOP, Value, has_form, has_levels_within};
 use std::alloc::{AllocError, Global};
 
 /// Adds a name: itself where it is a word that is not reserved, and else `['name']`.

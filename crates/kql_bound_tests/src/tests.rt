@@ -2,12 +2,12 @@
 //!
 //! What builds a plan takes the results of what builds its parts, so that a sample is one expression.
 use kql_bound::{
-    BExpr, BItem, BKey, ChainSign, Exprs, Items, Link, Lit, Op, Plan, Program, Source,
+    BExpr, BItem, BItems, BKey, ChainSign, Exprs, Link, Lit, Op, Plan, Program, Source,
     clone_program, plan_text,
 };
-use kql_functions::{ComparisonFunc, Func};
-use kql_items::{Boxed, Items as List};
 use kql_cells::{KText, Kind, Schemas, Value};
+use kql_functions::{ComparisonFunc, Func};
+use kql_items::{Boxed, Items};
 use std::alloc::{AllocError, Global};
 
 mod exprs;
@@ -24,25 +24,25 @@ fn text(alloc: Global, t: &str) -> Made<KText> {
     KText::from_str(alloc, t)
 }
 
-fn one<T: Drop>(alloc: Global, x: Made<T>) -> Made<List<T>> {
+fn one<T: Drop>(alloc: Global, x: Made<T>) -> Made<Items<T>> {
     let x = x?;
-    let mut list = List::new(alloc);
+    let mut list = Items::new(alloc);
     list.push(x)?;
     Ok(list)
 }
 
 // A list with one thing more.
-fn with<T: Drop>(list: Made<List<T>>, x: Made<T>) -> Made<List<T>> {
+fn with<T: Drop>(list: Made<Items<T>>, x: Made<T>) -> Made<Items<T>> {
     let mut list = list?;
     list.push(x?)?;
     Ok(list)
 }
 
-fn two<T: Drop>(alloc: Global, x: Made<T>, y: Made<T>) -> Made<List<T>> {
+fn two<T: Drop>(alloc: Global, x: Made<T>, y: Made<T>) -> Made<Items<T>> {
     with(one(alloc, x), y)
 }
 
-fn three<T: Drop>(alloc: Global, x: Made<T>, y: Made<T>, z: Made<T>) -> Made<List<T>> {
+fn three<T: Drop>(alloc: Global, x: Made<T>, y: Made<T>, z: Made<T>) -> Made<Items<T>> {
     with(two(alloc, x, y), z)
 }
 
@@ -90,7 +90,7 @@ fn boxed(alloc: Global, e: Made<BExpr>) -> Made<Boxed<BExpr>> {
     Boxed::new(alloc, e?)
 }
 
-fn chain(alloc: Global, first: Made<BExpr>, links: Made<List<Link>>) -> Made<BExpr> {
+fn chain(alloc: Global, first: Made<BExpr>, links: Made<Items<Link>>) -> Made<BExpr> {
     let first = boxed(alloc, first)?;
     Ok(BExpr::Chain(first, links?))
 }
@@ -111,12 +111,12 @@ fn item(alloc: Global, name: &str, expr: Made<BExpr>) -> Made<BItem> {
     Ok(BItem { names, expr })
 }
 
-fn items(alloc: Global, name: &str, expr: Made<BExpr>) -> Made<Items> {
+fn items(alloc: Global, name: &str, expr: Made<BExpr>) -> Made<BItems> {
     one(alloc, item(alloc, name, expr))
 }
 
 // name=name
-fn own_name(alloc: Global, name: &str) -> Made<Items> {
+fn own_name(alloc: Global, name: &str) -> Made<BItems> {
     items(alloc, name, column(alloc, name))
 }
 
@@ -133,7 +133,7 @@ fn filter(e: Made<BExpr>) -> Made<Op> {
     Ok(Op::Where(e?))
 }
 
-fn extend(items: Made<Items>) -> Made<Op> {
+fn extend(items: Made<BItems>) -> Made<Op> {
     Ok(Op::Extend(items?))
 }
 
@@ -142,14 +142,14 @@ fn top(alloc: Global, n: u64, key: Made<BKey>) -> Made<Op> {
     Ok(Op::Top(n, one(alloc, key)?))
 }
 
-fn plan(alloc: Global, table: &str, ops: Made<List<Op>>) -> Made<Plan> {
+fn plan(alloc: Global, table: &str, ops: Made<Items<Op>>) -> Made<Plan> {
     let ops = ops?;
     let source = Source::Table(text(alloc, table)?);
     Ok(Plan { source, ops })
 }
 
 fn bare_plan(alloc: Global, table: &str) -> Made<Plan> {
-    plan(alloc, table, Ok(List::new(alloc)))
+    plan(alloc, table, Ok(Items::new(alloc)))
 }
 
 // A plan with one operator.
@@ -160,7 +160,7 @@ fn plan_of(alloc: Global, table: &str, op: Made<Op>) -> Made<Plan> {
 fn program(alloc: Global, main: Made<Plan>) -> Made<Program> {
     let main = main?;
     let tables = Schemas::new(alloc);
-    let lets = List::new(alloc);
+    let lets = Items::new(alloc);
     Ok(Program { tables, lets, main })
 }
 

@@ -4,13 +4,13 @@ use super::{
     shown_expr, string, sum, text, three, two,
 };
 use kql_bound::{Aggregate, BExpr, ChainSign, Exprs, Links, StepColumn, Window};
+use kql_cells::KText;
 use kql_functions::{
     ArithmeticFunc, ChoiceFunc, ComparisonFunc, ConversionFunc, DynamicFunc, Func, LogicFunc,
     SearchFunc, SearchPlace,
 };
-use kql_items::Items as List;
+use kql_items::Items;
 use kql_texts::Fold;
-use kql_cells::KText;
 use std::alloc::Global;
 use std::test::Fail;
 
@@ -205,7 +205,7 @@ fn sample_look(alloc: Global, i: usize) -> Made<BExpr> {
         0 => before_or(alloc),
         1 => restarted_sum(alloc),
         2 => window(Window::Next, one(alloc, column(alloc, "x"))),
-        3 => window(Window::RowNumber, Ok(List::new(alloc))),
+        3 => window(Window::RowNumber, Ok(Items::new(alloc))),
         4 => step_column(alloc, "s1", "i"),
         _ => step_column(alloc, "a b", "by"),
     }
@@ -293,7 +293,7 @@ fn aggregates(rt: HostRuntime) -> Result<(), Fail> {
     let mut i = 0;
     for name in AGGREGATE_NAMES.split(' ') {
         if i < AGGREGATES.len() {
-            let call = BExpr::Aggregate(AGGREGATES[i], List::new(alloc));
+            let call = BExpr::Aggregate(AGGREGATES[i], Items::new(alloc));
             let got = shown_expr(alloc, Ok(call))?;
             assert_eq!(rt; got.as_str().strip_suffix("()"), Some(name));
             i += 1;
@@ -305,7 +305,7 @@ fn aggregates(rt: HostRuntime) -> Result<(), Fail> {
 
 // + 1 + 1 and so on, with this many signs
 fn long_links(alloc: Global, signs: usize) -> Made<Links> {
-    let mut links = List::new(alloc);
+    let mut links = Items::new(alloc);
     for _ in 0..signs {
         let link = (ChainSign::Add, BExpr::Literal(long(1)));
         links.push(link)?;

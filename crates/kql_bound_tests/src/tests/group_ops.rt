@@ -3,14 +3,14 @@ use super::{
     Made, column, columns, item, lit, long, number, one, own_name, shown, text, two, with,
 };
 use kql_bound::{
-    Aggregate, BExpr, BItem, Exprs, GroupPlan, Items, Lit, Op, SeriesItem, SeriesItems, SeriesPlan,
+    Aggregate, BExpr, BItem, BItems, Exprs, GroupPlan, Lit, Op, SeriesItem, SeriesItems, SeriesPlan,
 };
-use kql_items::Items as List;
 use kql_cells::{KText, Kind, MOMENT_TOP, Names, Value};
+use kql_items::Items;
 use std::alloc::Global;
 use std::test::Fail;
 
-fn group(items: Made<Items>, keys: Made<Items>) -> Made<Op> {
+fn group(items: Made<BItems>, keys: Made<BItems>) -> Made<Op> {
     let items = items?;
     let keys = keys?;
     Ok(Op::Summarize(GroupPlan { items, keys }))
@@ -20,8 +20,8 @@ fn group(items: Made<Items>, keys: Made<Items>) -> Made<Op> {
 fn sample_group(alloc: Global, i: usize) -> Made<Op> {
     match i {
         0 => group(one(alloc, greatest(alloc)), two_keys(alloc)),
-        1 => group(Ok(List::new(alloc)), own_name(alloc, "k")),
-        _ => group(counted(alloc), Ok(List::new(alloc))),
+        1 => group(Ok(Items::new(alloc)), own_name(alloc, "k")),
+        _ => group(counted(alloc), Ok(Items::new(alloc))),
     }
 }
 
@@ -38,11 +38,11 @@ fn aggregate(f: Aggregate, args: Made<Exprs>) -> Made<BExpr> {
 }
 
 fn count_call(alloc: Global) -> Made<BExpr> {
-    aggregate(Aggregate::Count, Ok(List::new(alloc)))
+    aggregate(Aggregate::Count, Ok(Items::new(alloc)))
 }
 
 // count_=count(), one=1
-fn counted(alloc: Global) -> Made<Items> {
+fn counted(alloc: Global) -> Made<BItems> {
     let first = item(alloc, "count_", count_call(alloc));
     two(alloc, first, item(alloc, "one", number(1)))
 }
@@ -63,7 +63,7 @@ fn greatest(alloc: Global) -> Made<BItem> {
 }
 
 // by h, i
-fn two_keys(alloc: Global) -> Made<Items> {
+fn two_keys(alloc: Global) -> Made<BItems> {
     with(own_name(alloc, "h"), item(alloc, "on", column(alloc, "i")))
 }
 
@@ -100,7 +100,7 @@ fn sums_and_counts(alloc: Global) -> Made<SeriesItems> {
 }
 
 // A series from 0 to 10 at steps of 5.
-fn numbered(axis: Made<KText>, items: Made<SeriesItems>, keys: Made<Items>) -> Made<Op> {
+fn numbered(axis: Made<KText>, items: Made<SeriesItems>, keys: Made<BItems>) -> Made<Op> {
     let axis = axis?;
     let items = items?;
     let keys = keys?;
@@ -124,7 +124,7 @@ fn dated(alloc: Global, axis: Made<KText>, items: Made<SeriesItems>) -> Made<Op>
         from: lit(Kind::Moment, Value::Moment(0)),
         to: lit(Kind::Moment, Value::Moment(MOMENT_TOP)),
         step: lit(Kind::Span, Value::Span(864_000_000_000)),
-        keys: List::new(alloc),
+        keys: Items::new(alloc),
     }))
 }
 

@@ -1,8 +1,8 @@
 //! Names and literals.
 use super::{Made, column, lit, one, shown_expr, string, text, two};
 use kql_bound::{BExpr, Lit};
-use kql_items::Items as List;
 use kql_cells::{Dyn, DynBag, DynList, KText, Kind, MOMENT_TOP, Value};
+use kql_items::Items;
 use std::alloc::Global;
 use std::test::Fail;
 
@@ -138,7 +138,7 @@ fn sample_dynamic(alloc: Global, i: usize) -> Made<Dyn> {
     match i {
         0 => Ok(Dyn::Long(-5)),
         1 => dynamic_text(alloc, "say \"hi\"\n"),
-        2 => array(Ok(List::new(alloc))),
+        2 => array(Ok(Items::new(alloc))),
         3 => sample_bag(alloc),
         _ => small_bag(alloc),
     }

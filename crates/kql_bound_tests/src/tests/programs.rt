@@ -4,10 +4,10 @@ use super::{
     Made, bare_plan, call, column, compared, copied_text, extend, filter, item, items, key, lit,
     number, one, plan, plan_of, program, string, sum, text, top, two, with,
 };
-use kql_bound::{BExpr, Items, JoinKind, Op, Ops, Plan, Plans, Program, Source, clone_program};
-use kql_functions::{ComparisonFunc, Func, LogicFunc};
-use kql_items::Items as List;
+use kql_bound::{BExpr, BItems, JoinKind, Op, Ops, Plan, Plans, Program, Source, clone_program};
 use kql_cells::{Column, Kind, NamedSchema, Schema, Schemas, Value};
+use kql_functions::{ComparisonFunc, Func, LogicFunc};
+use kql_items::Items;
 use std::alloc::Global;
 use std::test::Fail;
 
@@ -142,14 +142,14 @@ fn nested(alloc: Global) -> Made<Ops> {
     with(two(alloc, union, join), Ok(Op::Count))
 }
 
-fn two_items(alloc: Global) -> Made<Items> {
+fn two_items(alloc: Global) -> Made<BItems> {
     let first = item(alloc, "print_0", number(1));
     two(alloc, first, item(alloc, "by", number(2)))
 }
 
-fn printed(alloc: Global, items: Made<Items>) -> Made<Plan> {
+fn printed(alloc: Global, items: Made<BItems>) -> Made<Plan> {
     let source = Source::Print(items?);
-    let ops = List::new(alloc);
+    let ops = Items::new(alloc);
     Ok(Plan { source, ops })
 }
 

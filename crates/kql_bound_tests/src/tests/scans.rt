@@ -1,9 +1,9 @@
 //! Scans.
 use super::exprs::step_column;
 use super::{Made, item, items, lit, long, number, one, shown, string, text, truth, two};
-use kql_bound::{Decl, Decls, Items, Lit, Op, Output, ScanPlan, ScanStep, ScanSteps};
-use kql_items::Items as List;
+use kql_bound::{BItems, Decl, Decls, Lit, Op, Output, ScanPlan, ScanStep, ScanSteps};
 use kql_cells::{KText, Kind, Value};
+use kql_items::Items;
 use std::alloc::Global;
 use std::test::Fail;
 
@@ -12,7 +12,7 @@ fn step(
     name: &str,
     output: Output,
     condition: bool,
-    sets: Made<Items>,
+    sets: Made<BItems>,
 ) -> Made<ScanStep> {
     let name = text(alloc, name)?;
     let sets = sets?;
@@ -42,7 +42,7 @@ fn scan(match_id: Option<KText>, declared: Made<Decls>, steps: Made<ScanSteps>) 
 fn two_steps(alloc: Global) -> Made<ScanSteps> {
     let sets = items(alloc, "n", number(1));
     let first = step(alloc, "s1", Output::All, true, sets);
-    let none = Ok(List::new(alloc));
+    let none = Ok(Items::new(alloc));
     two(alloc, first, step(alloc, "s2", Output::Last, false, none))
 }
 
@@ -53,12 +53,12 @@ fn scan_of_two_steps(alloc: Global) -> Made<Op> {
 }
 
 fn bare_scan(alloc: Global) -> Made<Op> {
-    let only = step(alloc, "s", Output::Nothing, true, Ok(List::new(alloc)));
-    scan(None, Ok(List::new(alloc)), one(alloc, only))
+    let only = step(alloc, "s", Output::Nothing, true, Ok(Items::new(alloc)));
+    scan(None, Ok(Items::new(alloc)), one(alloc, only))
 }
 
 // n = s.t, t = "x"
-fn sets_of_both(alloc: Global) -> Made<Items> {
+fn sets_of_both(alloc: Global) -> Made<BItems> {
     let first = item(alloc, "n", step_column(alloc, "s", "t"));
     two(alloc, first, item(alloc, "t", string(alloc, "x")))
 }
