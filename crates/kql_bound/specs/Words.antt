@@ -1,7 +1,5 @@
--- The words that the text of a plan has for types, signs, functions, kinds and outputs.
+-- The functions that signs stand for, and the names of window functions and aggregates.
 use Rattle.std.specs.Prelude.{ℕ, List, codes}
-use Rattle.kql_cells.specs.declared.value.Kind.{Kind}
-use Rattle.kql_cells.specs.declared.value.Kind.TheVariants as kind
 use Rattle.kql_functions.specs.declared.func.ArithmeticFunc.TheVariants as arithmetic
 use Rattle.kql_functions.specs.declared.func.Func.{Func}
 use Rattle.kql_functions.specs.declared.func.Func.TheVariants as func
@@ -11,19 +9,6 @@ use Rattle.kql_bound.specs.declared.expr.Window.{Window}
 use Rattle.kql_bound.specs.declared.expr.Window.TheVariants as window
 use Rattle.kql_bound.specs.declared.expr.Aggregate.{Aggregate}
 use Rattle.kql_bound.specs.declared.expr.Aggregate.TheVariants as aggregate
-use Rattle.kql_bound.specs.declared.parts.JoinKind.{JoinKind}
-use Rattle.kql_bound.specs.declared.parts.JoinKind.TheVariants as join
-use Rattle.kql_bound.specs.declared.parts.Output.{Output}
-use Rattle.kql_bound.specs.declared.parts.Output.TheVariants as output
-
--- the word of a type
-unfoldable pub kind_word : Kind → List ℕ
-kind_word kind.Bool = codes "bool"
-kind_word kind.Long = codes "long"
-kind_word kind.Text = codes "string"
-kind_word kind.Moment = codes "datetime"
-kind_word kind.Span = codes "timespan"
-kind_word kind.Dynamic = codes "dynamic"
 
 -- the function that a sign of a chain stands for
 unfoldable pub sign_func : ChainSign → Func
@@ -60,21 +45,3 @@ aggregate_name aggregate.TakeAny = codes "take_any"
 aggregate_name aggregate.BinaryAllAnd = codes "binary_all_and"
 aggregate_name aggregate.BinaryAllOr = codes "binary_all_or"
 aggregate_name aggregate.BinaryAllXor = codes "binary_all_xor"
-
--- the word of a kind of join
-unfoldable pub join_word : JoinKind → List ℕ
-join_word join.InnerUnique = codes "innerunique"
-join_word join.Inner = codes "inner"
-join_word join.LeftOuter = codes "leftouter"
-join_word join.RightOuter = codes "rightouter"
-join_word join.FullOuter = codes "fullouter"
-join_word join.LeftSemi = codes "leftsemi"
-join_word join.RightSemi = codes "rightsemi"
-join_word join.LeftAnti = codes "leftanti"
-join_word join.RightAnti = codes "rightanti"
-
--- which records of a step are emitted
-unfoldable pub output_word : Output → List ℕ
-output_word output.All = codes "all"
-output_word output.Last = codes "last"
-output_word output.Nothing = codes "none"

@@ -1,26 +1,9 @@
-//! The words that the text of a plan has for types, signs, functions, kinds and outputs.
+//! The functions that signs stand for, and the names of window functions and aggregates.
 ghost use Rattle.std.specs.Prelude.{◌≡◌};
-ghost use Rattle.kql_bound.specs.Words.{aggregate_name, join_word, kind_word, output_word, sign_func, window_name};
+ghost use Rattle.kql_bound.specs.Words.{aggregate_name, sign_func, window_name};
 
 use crate::expr::{Aggregate, ChainSign, Window};
-use crate::parts::{JoinKind, Output};
-use kql_cells::Kind;
 use kql_functions::{ArithmeticFunc, Func};
-
-/// The word of a type.
-#[tactic(auto, unfolding(crate::specs::Words::kind_word))]
-pub fn kind_word(kind: Kind) -> &'static str
-    ensures word { result.now ≡ kind_word kind }
-{
-    match kind {
-        Kind::Bool => "bool",
-        Kind::Long => "long",
-        Kind::Text => "string",
-        Kind::Moment => "datetime",
-        Kind::Span => "timespan",
-        Kind::Dynamic => "dynamic",
-    }
-}
 
 impl ChainSign {
     /// The function that the sign stands for.
@@ -80,40 +63,6 @@ impl Aggregate {
             Aggregate::BinaryAllAnd => "binary_all_and",
             Aggregate::BinaryAllOr => "binary_all_or",
             Aggregate::BinaryAllXor => "binary_all_xor",
-        }
-    }
-}
-
-impl JoinKind {
-    /// The kind's word.
-    #[tactic(auto, unfolding(crate::specs::Words::join_word))]
-    pub fn word(self) -> &'static str
-        ensures word { result.now ≡ join_word self }
-    {
-        match self {
-            JoinKind::InnerUnique => "innerunique",
-            JoinKind::Inner => "inner",
-            JoinKind::LeftOuter => "leftouter",
-            JoinKind::RightOuter => "rightouter",
-            JoinKind::FullOuter => "fullouter",
-            JoinKind::LeftSemi => "leftsemi",
-            JoinKind::RightSemi => "rightsemi",
-            JoinKind::LeftAnti => "leftanti",
-            JoinKind::RightAnti => "rightanti",
-        }
-    }
-}
-
-impl Output {
-    /// The output's word.
-    #[tactic(auto, unfolding(crate::specs::Words::output_word))]
-    pub fn word(self) -> &'static str
-        ensures word { result.now ≡ output_word self }
-    {
-        match self {
-            Output::All => "all",
-            Output::Last => "last",
-            Output::Nothing => "none",
         }
     }
 }

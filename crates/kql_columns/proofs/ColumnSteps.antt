@@ -22,22 +22,6 @@ use Rattle.kql_meaning.specs.Join.{first_free, free_name, numbered_names, rename
 use Rattle.kql_meaning.specs.Tables.{distinct_by, has_column, is_name_among, names_of}
 use Rattle.kql_meaning.specs.Union.{all_in_order, same_name}
 
--- Whether a name stands in a list.
-
-pub has_item-none : (n : List ℕ) → is_name_among (items_names []) n ≡ false
-unfolding is_name_among items_names
-has_item-none n = refl
-
-pub has_item-more : (n : List ℕ) (b : BItem) (bs : List BItem) → is_name_among (items_names (b ∷ bs)) n ≡ (is_name_among b.names n || is_name_among (items_names bs) n)
-unfolding is_name_among items_names
-has_item-more n b bs = list_any-append (λ m. bytes_eq m n) b.names (items_names bs)
-
-pub has_item-stop : (n : List ℕ) (items : List BItem) (r : Bool) → length items ≡ 0 → is_name_among (items_names items) n ≡ r → false ≡ r
-has_item-stop n [] r e h = sym (has_item-none n) ∙ h
-has_item-stop n (b ∷ bs) r e h = absurd (omega (arith, e))
-
-pub ruleset has_steps = (has_item-none, has_item-more)
-
 -- The types of the result columns of each variant of an expression.
 
 pub result-Literal : (l : Lit) (columns : List Column) → result_kinds (V.Literal l) columns ≡ typed (V.Literal l) columns ∷ []
