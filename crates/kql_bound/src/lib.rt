@@ -8,9 +8,9 @@ mod part_clones;
 mod parts;
 mod plan;
 mod plan_clones;
-mod words;
+mod signs;
 
-pub use expr::{Aggregate, BExpr, ChainSign, Exprs, Link, Links, StepColumn, WinCall, Window};
+pub use expr::{BExpr, ChainSign, Exprs, Link, Links, StepColumn, WinCall};
 pub use expr_clones::{clone_expr, clone_exprs, clone_lit};
 pub use literal::Lit;
 pub use part_clones::{

@@ -17,12 +17,13 @@ ghost use Rattle.kql_meaning.specs.TakeAndCount.{count_columns};
 ghost use Rattle.kql_meaning.specs.Union.{all_in_order, same_name, union_columns};
 
 use kql_bound::{
-    Aggregate, BExpr, BItem, Decl, Expand, ExpandItem, GroupPlan, JoinKind, JoinPlan, Lit, OnPair,
-    ParsePlan, PatItem, ScanPlan, SeriesItem, SeriesPlan,
+    BExpr, BItem, Decl, Expand, ExpandItem, GroupPlan, JoinKind, JoinPlan, Lit, OnPair, ParsePlan,
+    PatItem, ScanPlan, SeriesItem, SeriesPlan,
 };
+use kql_cells::{Column, KText, Kind, Names, copy_columns, copy_names};
+use kql_functions::Aggregate;
 use kql_items::Items;
 use kql_meaning::kind_of;
-use kql_cells::{Column, KText, Kind, Names, copy_columns, copy_names};
 use std::alloc::{AllocError, Global};
 
 /// Whether a name is one of these.

@@ -1,8 +1,8 @@
 -- What `summarize` that fits gives.
 use Rattle.std.specs.Prelude.{◌<◌, ℕ, Bool, true, false, List, [], ◌∷◌, Contains, IsTrue, length}
 use Rattle.kql_cells.specs.Table.{Grid, RowFits}
-use Rattle.kql_bound.specs.declared.expr.Aggregate.{Aggregate}
-use Rattle.kql_bound.specs.declared.expr.Aggregate.TheVariants as aggregate
+use Rattle.kql_functions.specs.declared.aggregate.Aggregate.{Aggregate}
+use Rattle.kql_functions.specs.declared.aggregate.Aggregate.TheVariants as aggregate
 use Rattle.kql_bound.specs.declared.expr.BExpr.{BExpr}
 use Rattle.kql_bound.specs.declared.expr.BExpr.TheVariants as expr
 use Rattle.kql_bound.specs.declared.parts.BItem.{BItem}

@@ -5,8 +5,8 @@ ghost use Rattle.kql_meaning.specs.Fits.{fits, has_columns, lets_columns, progra
 use crate::fit_plans::{plan_columns, table_columns};
 use crate::kind_tests::same_kind;
 use kql_bound::{Plan, Program};
-use kql_items::Items;
 use kql_cells::{Column, NamedSchema, Schemas};
+use kql_items::Items;
 use std::alloc::{AllocError, Global};
 
 /// Whether a program fits these schemas: its tables stand there with exactly its columns, and each operator fits the columns of the

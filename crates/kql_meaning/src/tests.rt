@@ -9,10 +9,10 @@ use crate::{
     law_of_nothing, law_of_outer_joins, law_of_partition, law_of_runs, law_of_scan,
     law_of_semi_joins, law_of_sort, law_of_summarize, law_of_terms, law_of_union,
 };
-use kql_bound::{Aggregate, BExpr, ChainSign, Exprs, Link, Links, Lit, StepColumn, Window};
-use kql_functions::{ComparisonFunc, Func};
-use kql_items::{Boxed, Items};
+use kql_bound::{BExpr, ChainSign, Exprs, Link, Links, Lit, StepColumn};
 use kql_cells::{Column, KText, Kind, Value};
+use kql_functions::{Aggregate, ComparisonFunc, Func, Window};
+use kql_items::{Boxed, Items};
 use std::alloc::{AllocError, Global};
 use std::test::Fail;
 

@@ -4,7 +4,7 @@ use Rattle.std.specs.Prelude.{codes}
 use Rattle.std.specs.List.{flat_map}
 use Rattle.kql_functions.specs.Names.{func_name}
 use Rattle.kql_functions.specs.declared.func.Func.{Func}
-use Rattle.kql_bound.specs.Words.{sign_func}
+use Rattle.kql_bound.specs.Signs.{sign_func}
 use Rattle.kql_plan_text.specs.Exprs.{argument_end, chain_end, chain_front, chain_text, expr_text, pair_text, path_end, path_front, path_text}
 use Rattle.kql_bound.specs.declared.expr.BExpr.{BExpr}
 use Rattle.kql_bound.specs.declared.expr.ChainSign.{ChainSign}

@@ -5,13 +5,13 @@ use Rattle.kql_functions.specs.Names.{func_name}
 use Rattle.kql_functions.specs.declared.func.Func.{Func}
 use Rattle.kql_plan_text.specs.Exprs.{call_text, chain_end, chain_front, expr_step, expr_text, path_end, path_front, step_text, with_commas}
 use Rattle.kql_plan_text.specs.Literals.{lit_text, name_text}
-use Rattle.kql_bound.specs.Words.{aggregate_name, window_name}
-use Rattle.kql_bound.specs.declared.expr.Aggregate.{Aggregate}
+use Rattle.kql_functions.specs.Names.{aggregate_name, window_name}
+use Rattle.kql_functions.specs.declared.aggregate.Aggregate.{Aggregate}
 use Rattle.kql_bound.specs.declared.expr.BExpr.{BExpr, fold-roll-BExpr}
 use Rattle.kql_bound.specs.declared.expr.BExpr.TheOpen.{BExpr-F}
 use Rattle.kql_bound.specs.declared.expr.BExpr.TheVariants as V
 use Rattle.kql_bound.specs.declared.expr.StepColumn.{StepColumn}
-use Rattle.kql_bound.specs.declared.expr.Window.{Window}
+use Rattle.kql_functions.specs.declared.window.Window.{Window}
 use Rattle.kql_bound.specs.declared.literal.Lit.{Lit}
 use Rattle.kql_plan_text.proofs.Chains.{Links, chain-split, path-split}
 use Rattle.kql_plan_text.proofs.Separated.{join_by-map}

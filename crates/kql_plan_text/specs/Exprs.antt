@@ -3,7 +3,8 @@ use Rattle.std.specs.Prelude.{ℕ, List, [], ◌∷◌, ◌++◌, codes}
 use Rattle.std.specs.List.{concat, flat_map, join_by}
 use Rattle.kql_functions.specs.Names.{func_name}
 use Rattle.kql_plan_text.specs.Literals.{lit_text, name_text}
-use Rattle.kql_bound.specs.Words.{aggregate_name, sign_func, window_name}
+use Rattle.kql_functions.specs.Names.{aggregate_name, window_name}
+use Rattle.kql_bound.specs.Signs.{sign_func}
 use Rattle.kql_bound.specs.declared.expr.BExpr.{BExpr, fold-BExpr}
 use Rattle.kql_bound.specs.declared.expr.BExpr.TheOpen.{BExpr-F}
 use Rattle.kql_bound.specs.declared.expr.ChainSign.{ChainSign}

@@ -1,8 +1,8 @@
 //! Builders that take the results of the builders of their parts: so a sample is one expression, and only a builder lets parts go.
 use super::{is, item, items, one, text, two};
-use kql_bound::{Aggregate, BExpr, BItem, BItems, Exprs, Lit, Op, Window};
+use kql_bound::{BExpr, BItem, BItems, Exprs, Lit, Op};
 use kql_cells::{Kind, Value};
-use kql_functions::{DynamicFunc, Func};
+use kql_functions::{Aggregate, DynamicFunc, Func, Window};
 use kql_items::{Boxed, Items};
 use std::alloc::{AllocError, Global};
 

@@ -1,6 +1,7 @@
 //! Operators over the table A with one column k, a long.
 use super::{column, is, item, items, number, one, op_fits, ops_fit, string, sum, two};
-use kql_bound::{Aggregate, BExpr, BItems, GroupPlan, Op};
+use kql_bound::{BExpr, BItems, GroupPlan, Op};
+use kql_functions::Aggregate;
 use kql_items::Items;
 use std::alloc::{AllocError, Global};
 use std::test::Fail;

@@ -2,9 +2,10 @@
 use super::builders::{Made, both, is_k, list_of_one, list_of_two, made_item, none, set, window};
 use super::{column, is, number, string, text};
 use kql_bound::{
-    BExpr, BItems, Decl, Decls, Lit, Op, Output, ScanPlan, ScanStep, ScanSteps, StepColumn, Window,
+    BExpr, BItems, Decl, Decls, Lit, Op, Output, ScanPlan, ScanStep, ScanSteps, StepColumn,
 };
 use kql_cells::{KText, Kind, Value};
+use kql_functions::Window;
 use std::alloc::Global;
 
 // A declared column with the default 0.

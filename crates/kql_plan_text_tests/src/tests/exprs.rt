@@ -3,11 +3,11 @@ use super::{
     Made, boxed, call, chain, chained, column, columns, compared, link, long, number, one,
     shown_expr, string, sum, text, three, two,
 };
-use kql_bound::{Aggregate, BExpr, ChainSign, Exprs, Links, StepColumn, Window};
+use kql_bound::{BExpr, ChainSign, Exprs, Links, StepColumn};
 use kql_cells::KText;
 use kql_functions::{
-    ArithmeticFunc, ChoiceFunc, ComparisonFunc, ConversionFunc, DynamicFunc, Func, LogicFunc,
-    SearchFunc, SearchPlace,
+    Aggregate, ArithmeticFunc, ChoiceFunc, ComparisonFunc, ConversionFunc, DynamicFunc, Func,
+    LogicFunc, SearchFunc, SearchPlace, Window,
 };
 use kql_items::Items;
 use kql_texts::Fold;

@@ -3,9 +3,10 @@ use super::{
     Made, column, columns, item, lit, long, number, one, own_name, shown, text, two, with,
 };
 use kql_bound::{
-    Aggregate, BExpr, BItem, BItems, Exprs, GroupPlan, Lit, Op, SeriesItem, SeriesItems, SeriesPlan,
+    BExpr, BItem, BItems, Exprs, GroupPlan, Lit, Op, SeriesItem, SeriesItems, SeriesPlan,
 };
 use kql_cells::{KText, Kind, MOMENT_TOP, Names, Value};
+use kql_functions::Aggregate;
 use kql_items::Items;
 use std::alloc::Global;
 use std::test::Fail;
