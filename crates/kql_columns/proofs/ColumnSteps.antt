@@ -4,30 +4,11 @@ use Rattle.std.specs.Prelude.{not, ◌&&◌, ◌||◌, bytes_eq, decimal, find, 
 use Rattle.std.specs.List.{flat_map, range_with_len}
 use Rattle.std.proofs.lemmas.Bool.{cases_Bool}
 use Rattle.std.proofs.lemmas.List.{append_assoc, map-append}
-use Rattle.std.proofs.lemmas.List.Folds.{list_any-append}
 use Rattle.std.proofs.lemmas.Slice.Eq.{bytes_eq-Decides}
 use Rattle.kql_cells.specs.declared.schema.Column.{Column}
-use Rattle.kql_bound.specs.declared.parts.BItem.{BItem}
-use Rattle.kql_meaning.specs.Items.{items_names}
 use Rattle.kql_meaning.specs.Join.{first_free, free_name, numbered_names, renamed}
 use Rattle.kql_meaning.specs.Tables.{distinct_by, has_column, is_name_among, names_of}
 use Rattle.kql_meaning.specs.Union.{all_in_order, same_name}
-
--- Whether a name stands in a list.
-
-pub has_item-none : (n : List ℕ) → is_name_among (items_names []) n ≡ false
-unfolding is_name_among items_names
-has_item-none n = refl
-
-pub has_item-more : (n : List ℕ) (b : BItem) (bs : List BItem) → is_name_among (items_names (b ∷ bs)) n ≡ (is_name_among b.names n || is_name_among (items_names bs) n)
-unfolding is_name_among items_names
-has_item-more n b bs = list_any-append (λ m. bytes_eq m n) b.names (items_names bs)
-
-pub has_item-stop : (n : List ℕ) (items : List BItem) (r : Bool) → length items ≡ 0 → is_name_among (items_names items) n ≡ r → false ≡ r
-has_item-stop n [] r e h = sym (has_item-none n) ∙ h
-has_item-stop n (b ∷ bs) r e h = absurd (omega (arith, e))
-
-pub ruleset has_steps = (has_item-none, has_item-more)
 
 -- The first free name from a number on, of so many.
 

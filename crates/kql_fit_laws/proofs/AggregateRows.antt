@@ -19,8 +19,8 @@ use Rattle.kql_scalar_fns.specs.Arguments.{long_or_null}
 use Rattle.kql_scalar_fns.specs.Choice.{greater, greatest, is_below, is_null, least, lesser}
 use Rattle.kql_scalar_fns.specs.Dynamic.{element}
 use Rattle.kql_scalar_fns.proofs.KindFacts.{long-kind}
-use Rattle.kql_bound.specs.declared.expr.Aggregate.{Aggregate}
-use Rattle.kql_bound.specs.declared.expr.Aggregate.TheVariants as aggregate
+use Rattle.kql_functions.specs.declared.aggregate.Aggregate.{Aggregate}
+use Rattle.kql_functions.specs.declared.aggregate.Aggregate.TheVariants as aggregate
 use Rattle.kql_bound.specs.declared.expr.BExpr.{BExpr}
 use Rattle.kql_bound.specs.declared.expr.BExpr.TheVariants as V
 use Rattle.kql_meaning.specs.declared.position.Position.{Position}

@@ -14,7 +14,7 @@ use Rattle.kql_functions.specs.Kinds.{AreOfKinds, result_kind, same_kind}
 use Rattle.kql_scalar_fns.proofs.KindFacts.{same-kind}
 use Rattle.kql_functions.specs.declared.func.Func.{Func}
 use Rattle.kql_scalar_fns.specs.Applied.{applied}
-use Rattle.kql_bound.specs.Words.{sign_func}
+use Rattle.kql_bound.specs.Signs.{sign_func}
 use Rattle.kql_bound.specs.declared.expr.BExpr.{BExpr}
 use Rattle.kql_bound.specs.declared.expr.BExpr.TheVariants as V
 use Rattle.kql_bound.specs.declared.expr.ChainSign.{ChainSign}

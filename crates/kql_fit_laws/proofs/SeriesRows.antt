@@ -16,8 +16,8 @@ use Rattle.kql_dynamic.specs.Arrays.{array}
 use Rattle.kql_dynamic.proofs.FormLemmas.{array-form, fits, fits-Bool, fits-Long, fits-Null, fits-Text}
 use Rattle.kql_functions.specs.Kinds.{has_order, same_kind}
 use Rattle.kql_scalar_fns.specs.Dynamic.{element}
-use Rattle.kql_bound.specs.declared.expr.Aggregate.{Aggregate}
-use Rattle.kql_bound.specs.declared.expr.Aggregate.TheVariants as aggregate
+use Rattle.kql_functions.specs.declared.aggregate.Aggregate.{Aggregate}
+use Rattle.kql_functions.specs.declared.aggregate.Aggregate.TheVariants as aggregate
 use Rattle.kql_bound.specs.declared.expr.BExpr.{BExpr, out-BExpr, roll-BExpr, roll-out-BExpr}
 use Rattle.kql_bound.specs.declared.expr.BExpr.TheOpen.{BExpr-F}
 use Rattle.kql_bound.specs.declared.expr.BExpr.TheVariants as V

@@ -15,8 +15,8 @@ use Rattle.kql_scalar_fns.proofs.KindFacts.{by-long, long-kind, same-kind, span-
 use Rattle.kql_bound.specs.declared.expr.BExpr.{BExpr, out-BExpr, roll-BExpr, roll-out-BExpr}
 use Rattle.kql_bound.specs.declared.expr.BExpr.TheOpen.{BExpr-F}
 use Rattle.kql_bound.specs.declared.expr.BExpr.TheVariants as V
-use Rattle.kql_bound.specs.declared.expr.Window.{Window}
-use Rattle.kql_bound.specs.declared.expr.Window.TheVariants as window
+use Rattle.kql_functions.specs.declared.window.Window.{Window}
+use Rattle.kql_functions.specs.declared.window.Window.TheVariants as window
 use Rattle.kql_bound.specs.declared.literal.Lit.{Lit}
 use Rattle.kql_meaning.specs.declared.position.Position.TheVariants as position
 use Rattle.kql_meaning.specs.Expressions.{first_kind, kind_of, kinds_in, reading, val, window_kind}

@@ -7,8 +7,9 @@ ghost use Rattle.kql_fits.specs.KindTests.{meets};
 use crate::kind_tests::{KindTest, has_kind, is_kind};
 use crate::literals::is_count;
 use crate::scope::{are_plain_columns, is_plain_column};
-use kql_bound::{Aggregate, BExpr};
+use kql_bound::BExpr;
 use kql_cells::{Column, Kind};
+use kql_functions::Aggregate;
 use kql_meaning::{Position, kind_of};
 use std::alloc::{AllocError, Global};
 

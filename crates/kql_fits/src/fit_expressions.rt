@@ -12,10 +12,10 @@ use crate::fit_calls::{
 use crate::kind_tests::{KindTest, has_kind};
 use crate::literals::{is_constant_of, literal_fits};
 use crate::scope::{Scope, step_fits};
-use kql_bound::{Aggregate, BExpr, Link, Window};
+use kql_bound::{BExpr, Link};
 use kql_cells::Kind;
 use kql_columns::has_column;
-use kql_functions::Func;
+use kql_functions::{Aggregate, Func, Window};
 use kql_meaning::{Position, kind_of, kind_of_call};
 use std::alloc::{AllocError, Global};
 

@@ -1,2 +1,3 @@
 pub mod NameFacts
+pub mod NamedTables
 pub mod TableFacts

@@ -1,4 +1,4 @@
--- What a name is: each scalar function, window function and refused name by its own name, and by no other.
+-- What a name is: each scalar function, window function, aggregate and refused name by its own name, and by no other.
 use Rattle.std.proofs.Common.{◌≡◌, ◌≢◌, ◌++◌, ◌<◌, ℕ, suc, Bool, true, false, List, [], ◌∷◌, length, refl, sym, ap, ◌∙◌, inl, inr, arith}
 use Rattle.std.specs.Prelude.{◌↔◌, codes, Contains, Option, None, Some, if◌then◌else◌}
 use Rattle.std.specs.List.{list_all, list_any}
@@ -9,39 +9,57 @@ use Rattle.std.proofs.lemmas.List.Sums.{AllPass-from_list_all}
 use Rattle.kql_functions.specs.declared.func.Func.{Func}
 use Rattle.kql_functions.specs.declared.names.Found.{Found}
 use Rattle.kql_functions.specs.declared.names.Found.TheVariants as found
-use Rattle.kql_functions.specs.declared.names.Win.{Win}
-use Rattle.kql_functions.specs.declared.names.Win.TheVariants as win
-use Rattle.kql_functions.specs.Find.{found_among_others, found_as, found_or, func_among, functions, is_one_of, is_operator, is_refused, operators, refused_aggregates, refused_conversions, refused_functions, refused_names, win_name, win_named}
-use Rattle.kql_functions.specs.Names.{arithmetic_name, choice_name, comparison_name, conversion_name, dynamic_name, func_name, logic_name, search_text, text_name, time_name}
-use Rattle.kql_functions.proofs.TableFacts.{all-at, among-held, among-named, bytes-same, called, every-operator, held-called, written}
+use Rattle.kql_functions.specs.declared.window.Window.{Window}
+use Rattle.kql_functions.specs.declared.window.Window.TheVariants as window
+use Rattle.kql_functions.specs.declared.aggregate.Aggregate.{Aggregate}
+use Rattle.kql_functions.specs.declared.aggregate.Aggregate.TheVariants as aggregate
+use Rattle.kql_functions.specs.Find.{IsNoName, aggregates, found_as, found_first, functions, is_one_of, is_operator, is_refused, named_among, operators, refused_aggregates, refused_conversions, refused_functions, refused_names, windows}
+use Rattle.kql_functions.specs.Names.{aggregate_name, arithmetic_name, choice_name, comparison_name, conversion_name, dynamic_name, func_name, logic_name, search_text, text_name, time_name, window_name}
+use Rattle.kql_functions.proofs.NamedTables.{all-at, among-held, among-named, bytes-same}
+use Rattle.kql_functions.proofs.TableFacts.{called, every-operator, held-called, written}
+
+-- ---- what is found first
+
+scalar-first : (o : Option Func) (w : Option Window) (a : Option Aggregate) (r : Bool) (f : Func) → found_first o w a r ≡ found.Scalar f → o ≡ Some f
+scalar-first (Some g) w a r f e = let s : g ≡ f = cc in ap Some s
+scalar-first None (Some v) a r f e = cc
+scalar-first None None (Some b) r f e = cc
+scalar-first None None None true f e = cc
+scalar-first None None None false f e = cc
+
+window-first : (o : Option Func) (w : Option Window) (a : Option Aggregate) (r : Bool) (v : Window) → found_first o w a r ≡ found.Window v → w ≡ Some v
+window-first (Some g) w a r v e = cc
+window-first None (Some u) a r v e = let s : u ≡ v = cc in ap Some s
+window-first None None (Some b) r v e = cc
+window-first None None None true v e = cc
+window-first None None None false v e = cc
+
+aggregate-first : (o : Option Func) (w : Option Window) (a : Option Aggregate) (r : Bool) (b : Aggregate) → found_first o w a r ≡ found.Aggregate b → a ≡ Some b
+aggregate-first (Some g) w a r b e = cc
+aggregate-first None (Some v) a r b e = cc
+aggregate-first None None (Some d) r b e = let s : d ≡ b = cc in ap Some s
+aggregate-first None None None true b e = cc
+aggregate-first None None None false b e = cc
+
+refused-first : (o : Option Func) (w : Option Window) (a : Option Aggregate) (r : Bool) → found_first o w a r ≡ found.Refused → r ≡ true
+refused-first (Some g) w a r e = cc
+refused-first None (Some v) a r e = cc
+refused-first None None (Some b) r e = cc
+refused-first None None None true e = refl
+refused-first None None None false e = cc
 
 -- ---- scalar functions
 
-by-test : (b : Bool) (f : Func) → (if b then found.Refused else found.Unknown) ≡ found.Scalar f → Some f ≡ None
-by-test true f e = cc
-by-test false f e = cc
-
-others-none : (n : List ℕ) (w : Option Win) (f : Func) → found_among_others n w ≡ found.Scalar f → Some f ≡ None
-others-none n (Some w) f e = cc
-others-none n None f e = by-test (is_refused n) f e
-
-or-named : (o : Option Func) (n : List ℕ) (f : Func) → found_or n o ≡ found.Scalar f → o ≡ Some f
-or-named (Some g) n f e = let s : g ≡ f = cc in ap Some s
-or-named None n f e = sym (others-none n (win_named n) f e)
-
-scalar-among : (n : List ℕ) (f : Func) → found_as n ≡ found.Scalar f → func_among functions n ≡ Some f
+scalar-among : (n : List ℕ) (f : Func) → found_as n ≡ found.Scalar f → named_among func_name functions n ≡ Some f
 unfolding found_as
-scalar-among n f e = or-named (func_among functions n) n f e
-
-among-scalar : (n : List ℕ) (f : Func) → func_among functions n ≡ Some f → found_as n ≡ found.Scalar f
-unfolding found_as
-among-scalar n f e = rw e refl
+scalar-among n f e = scalar-first (named_among func_name functions n) (named_among window_name windows n) (named_among aggregate_name aggregates n) (is_refused n) f e
 
 known : (f : Func) → is_operator f ≡ false → found_as (func_name f) ≡ found.Scalar f
-known f e = among-scalar (func_name f) f (called f e)
+unfolding found_as
+known f e = rw (called f e) refl
 
 scalar-of : (n : List ℕ) (f : Func) → found_as n ≡ found.Scalar f → (is_operator f ≡ false) × (func_name f ≡ n)
-scalar-of n f e = let h = scalar-among n f e in (held-called f (among-held functions n f h), among-named functions n f h)
+scalar-of n f e = let h = scalar-among n f e in (held-called f (among-held func_name functions n f h), among-named func_name functions n f h)
 
 of-scalar : (n : List ℕ) (f : Func) → (is_operator f ≡ false) × (func_name f ≡ n) → found_as n ≡ found.Scalar f
 of-scalar n f h = rw (← h.1) (known f h.0)
@@ -51,12 +69,14 @@ of-scalar n f h = rw (← h.1) (known f h.0)
 abbrev is_unknown : Found → Bool
 is_unknown (found.Scalar f) = false
 is_unknown (found.Window w) = false
+is_unknown (found.Aggregate a) = false
 is_unknown found.Refused = false
 is_unknown found.Unknown = true
 
 unknown-is : (r : Found) → is_unknown r ≡ true → r ≡ found.Unknown
 unknown-is (found.Scalar f) e = cc
 unknown-is (found.Window w) e = cc
+unknown-is (found.Aggregate a) e = cc
 unknown-is found.Refused e = cc
 unknown-is found.Unknown e = refl
 
@@ -64,7 +84,7 @@ abbrev name_is_unknown : Func → Bool
 name_is_unknown f = is_unknown (found_as (func_name f))
 
 operators-unknown : list_all name_is_unknown operators ≡ true
-unfolding found_as func_among functions operators win_named is_one_of refused_aggregates refused_functions refused_conversions func_name arithmetic_name choice_name comparison_name conversion_name dynamic_name logic_name search_text text_name time_name
+unfolding found_as named_among functions operators windows aggregates is_one_of refused_aggregates refused_functions refused_conversions func_name arithmetic_name choice_name comparison_name conversion_name dynamic_name logic_name search_text text_name time_name window_name aggregate_name
 operators-unknown = refl
 
 operator-unknown : (f : Func) → is_operator f ≡ true → found_as (func_name f) ≡ found.Unknown
@@ -72,62 +92,45 @@ operator-unknown f e = unknown-is (found_as (func_name f)) (all-at name_is_unkno
 
 -- ---- window functions
 
-window-by-test : (b : Bool) (w : Win) → (if b then found.Refused else found.Unknown) ≡ found.Window w → None ≡ Some w
-window-by-test true w e = cc
-window-by-test false w e = cc
+window-known : (w : Window) → found_as (window_name w) ≡ found.Window w
+unfolding found_as named_among functions windows func_name arithmetic_name choice_name conversion_name dynamic_name logic_name text_name time_name window_name
+window-known window.Prev = refl
+window-known _ = refl
 
-window-others : (n : List ℕ) (o : Option Win) (w : Win) → found_among_others n o ≡ found.Window w → o ≡ Some w
-window-others n (Some v) w e = let s : v ≡ w = cc in ap Some s
-window-others n None w e = window-by-test (is_refused n) w e
-
-window-or : (n : List ℕ) (o : Option Func) (w : Win) → found_or n o ≡ found.Window w → win_named n ≡ Some w
-window-or n (Some g) w e = cc
-window-or n None w e = window-others n (win_named n) w e
-
-named-as : (n : List ℕ) (v w : Win) → n ≡ win_name v → Some v ≡ Some w → win_name w ≡ n
-named-as n v w e h = let s : v ≡ w = cc in rw (← s) (sym e)
-
-win-of : (n : List ℕ) (w : Win) → win_named n ≡ Some w → win_name w ≡ n
-unfolding win_named
-win-of n w e = elim (cases_Bool (bytes_eq n (codes "prev"))) [
-  | inl t ↦ named-as n win.Prev w (bytes-same n (codes "prev") t) (rw t at e)
-  | inr a ↦ let e1 = rw a at e in elim (cases_Bool (bytes_eq n (codes "next"))) [
-    | inl t ↦ named-as n win.Next w (bytes-same n (codes "next") t) (rw t at e1)
-    | inr b ↦ let e2 = rw b at e1 in elim (cases_Bool (bytes_eq n (codes "row_number"))) [
-      | inl t ↦ named-as n win.RowNumber w (bytes-same n (codes "row_number") t) (rw t at e2)
-      | inr d ↦ let e3 = rw d at e2 in elim (cases_Bool (bytes_eq n (codes "row_cumsum"))) [
-        | inl t ↦ named-as n win.RowCumsum w (bytes-same n (codes "row_cumsum") t) (rw t at e3)
-        | inr f ↦ let e4 = rw f at e3 in cc
-      ]
-    ]
-  ]
-]
-
-window-known : (w : Win) → found_as (win_name w) ≡ found.Window w
-unfolding found_as func_among functions win_named func_name arithmetic_name choice_name conversion_name dynamic_name logic_name text_name time_name
-window-known win.Prev = refl
-window-known win.Next = refl
-window-known win.RowNumber = refl
-window-known win.RowCumsum = refl
-
-window-of : (n : List ℕ) (w : Win) → found_as n ≡ found.Window w → win_name w ≡ n
+window-of : (n : List ℕ) (w : Window) → found_as n ≡ found.Window w → window_name w ≡ n
 unfolding found_as
-window-of n w e = win-of n w (window-or n (func_among functions n) w e)
+window-of n w e = among-named window_name windows n w (window-first (named_among func_name functions n) (named_among window_name windows n) (named_among aggregate_name aggregates n) (is_refused n) w e)
 
-of-window : (n : List ℕ) (w : Win) → win_name w ≡ n → found_as n ≡ found.Window w
+of-window : (n : List ℕ) (w : Window) → window_name w ≡ n → found_as n ≡ found.Window w
 of-window n w e = rw (← e) (window-known w)
+
+-- ---- aggregates
+
+aggregate-known : (a : Aggregate) → found_as (aggregate_name a) ≡ found.Aggregate a
+unfolding found_as named_among functions windows aggregates func_name arithmetic_name choice_name conversion_name dynamic_name logic_name text_name time_name window_name aggregate_name
+aggregate-known aggregate.Count = refl
+aggregate-known _ = refl
+
+aggregate-of : (n : List ℕ) (a : Aggregate) → found_as n ≡ found.Aggregate a → aggregate_name a ≡ n
+unfolding found_as
+aggregate-of n a e = among-named aggregate_name aggregates n a (aggregate-first (named_among func_name functions n) (named_among window_name windows n) (named_among aggregate_name aggregates n) (is_refused n) a e)
+
+of-aggregate : (n : List ℕ) (a : Aggregate) → aggregate_name a ≡ n → found_as n ≡ found.Aggregate a
+of-aggregate n a e = rw (← e) (aggregate-known a)
 
 -- ---- refused names
 
 abbrev is_refusal : Found → Bool
 is_refusal (found.Scalar f) = false
 is_refusal (found.Window w) = false
+is_refusal (found.Aggregate a) = false
 is_refusal found.Refused = true
 is_refusal found.Unknown = false
 
 refusal-is : (r : Found) → is_refusal r ≡ true → r ≡ found.Refused
 refusal-is (found.Scalar f) e = cc
 refusal-is (found.Window w) e = cc
+refusal-is (found.Aggregate a) e = cc
 refusal-is found.Refused e = refl
 refusal-is found.Unknown e = cc
 
@@ -135,23 +138,11 @@ abbrev name_is_refusal : List ℕ → Bool
 name_is_refusal n = is_refusal (found_as n)
 
 refused-refused : list_all name_is_refusal refused_names ≡ true
-unfolding found_as func_among functions win_named is_one_of refused_aggregates refused_functions refused_conversions func_name arithmetic_name choice_name conversion_name dynamic_name logic_name text_name time_name
+unfolding found_as named_among functions windows aggregates is_one_of refused_aggregates refused_functions refused_conversions func_name arithmetic_name choice_name conversion_name dynamic_name logic_name text_name time_name window_name aggregate_name
 refused-refused = refl
 
 of-refused : (n : List ℕ) → Contains refused_names n → found_as n ≡ found.Refused
-of-refused n c = refusal-is (found_as n) (All-contains (λ (r : List ℕ). name_is_refusal r ≡ true) refused_names n (AllPass-from_list_all name_is_refusal refused_names refused-refused) c)
-
-refused-by-test : (b : Bool) → (if b then found.Refused else found.Unknown) ≡ found.Refused → b ≡ true
-refused-by-test true e = refl
-refused-by-test false e = cc
-
-refused-others : (n : List ℕ) (o : Option Win) → found_among_others n o ≡ found.Refused → is_refused n ≡ true
-refused-others n (Some v) e = cc
-refused-others n None e = refused-by-test (is_refused n) e
-
-refused-or : (n : List ℕ) (o : Option Func) → found_or n o ≡ found.Refused → is_refused n ≡ true
-refused-or n (Some g) e = cc
-refused-or n None e = refused-others n (win_named n) e
+of-refused n c = refusal-is (found_as n) (all-at name_is_refusal refused_names n refused-refused c)
 
 later : (x n : List ℕ) (names : List (List ℕ)) → Contains names n → Contains (x ∷ names) n
 later x n names h = let l : h.0 < length names = h.1 in (suc h.0, omega arith, h.2)
@@ -178,24 +169,28 @@ refused-held n e = elim (cases_Bool (is_one_of refused_aggregates n)) [
 
 refused-of : (n : List ℕ) → found_as n ≡ found.Refused → Contains refused_names n
 unfolding found_as
-refused-of n e = refused-held n (refused-or n (func_among functions n) e)
+refused-of n e = refused-held n (refused-first (named_among func_name functions n) (named_among window_name windows n) (named_among aggregate_name aggregates n) (is_refused n) e)
 
 -- ---- what is none of these
 
-unknown-apart : (n : List ℕ) → found_as n ≡ found.Unknown → ((f : Func) → is_operator f ≡ false → func_name f ≢ n) × (((w : Win) → win_name w ≢ n) × (¬ Contains refused_names n))
+unknown-apart : (n : List ℕ) → found_as n ≡ found.Unknown → IsNoName n
 unknown-apart n e = (
   λ f o h. let q = of-scalar n f (o, h) in let s : found.Unknown ≡ found.Scalar f = sym e ∙ q in cc,
   (
     λ w h. let q = of-window n w h in let s : found.Unknown ≡ found.Window w = sym e ∙ q in cc,
-    λ c. let q = of-refused n c in let s : found.Unknown ≡ found.Refused = sym e ∙ q in cc,
+    (
+      λ a h. let q = of-aggregate n a h in let s : found.Unknown ≡ found.Aggregate a = sym e ∙ q in cc,
+      λ c. let q = of-refused n c in let s : found.Unknown ≡ found.Refused = sym e ∙ q in cc,
+    ),
   ),
 )
 
-unknown-left : (n : List ℕ) (r : Found) → found_as n ≡ r → ((f : Func) → is_operator f ≡ false → func_name f ≢ n) → ((w : Win) → win_name w ≢ n) → (¬ Contains refused_names n) → r ≡ found.Unknown
-unknown-left n (found.Scalar f) e p q t = let h = scalar-of n f e in absurd (p f h.0 h.1)
-unknown-left n (found.Window w) e p q t = absurd (q w (window-of n w e))
-unknown-left n found.Refused e p q t = absurd (t (refused-of n e))
-unknown-left n found.Unknown e p q t = refl
+unknown-left : (n : List ℕ) (r : Found) → found_as n ≡ r → IsNoName n → r ≡ found.Unknown
+unknown-left n (found.Scalar f) e h = let s = scalar-of n f e in absurd (h.0 f s.0 s.1)
+unknown-left n (found.Window w) e h = absurd (h.1.0 w (window-of n w e))
+unknown-left n (found.Aggregate a) e h = absurd (h.1.1.0 a (aggregate-of n a e))
+unknown-left n found.Refused e h = absurd (h.1.1.1 (refused-of n e))
+unknown-left n found.Unknown e h = refl
 
 -- ---- the clauses of `find`
 
@@ -205,14 +200,17 @@ find_scalar r n e f = (λ h. scalar-of n f (sym e ∙ h), λ h. e ∙ of-scalar 
 pub find_operator : (r : Found) (n : List ℕ) → r ≡ found_as n → (f : Func) → is_operator f ≡ true → func_name f ≡ n → r ≡ found.Unknown
 find_operator r n e f o h = e ∙ rw (← h) (operator-unknown f o)
 
-pub find_window : (r : Found) (n : List ℕ) → r ≡ found_as n → (w : Win) → (r ≡ found.Window w) ↔ (win_name w ≡ n)
+pub find_window : (r : Found) (n : List ℕ) → r ≡ found_as n → (w : Window) → (r ≡ found.Window w) ↔ (window_name w ≡ n)
 find_window r n e w = (λ h. window-of n w (sym e ∙ h), λ h. e ∙ of-window n w h)
+
+pub find_aggregate : (r : Found) (n : List ℕ) → r ≡ found_as n → (a : Aggregate) → (r ≡ found.Aggregate a) ↔ (aggregate_name a ≡ n)
+find_aggregate r n e a = (λ h. aggregate-of n a (sym e ∙ h), λ h. e ∙ of-aggregate n a h)
 
 pub find_refused : (r : Found) (n : List ℕ) → r ≡ found_as n → (r ≡ found.Refused) ↔ Contains refused_names n
 find_refused r n e = (λ h. refused-of n (sym e ∙ h), λ h. e ∙ of-refused n h)
 
-pub find_unknown : (r : Found) (n : List ℕ) → r ≡ found_as n → (r ≡ found.Unknown) ↔ (((f : Func) → is_operator f ≡ false → func_name f ≢ n) × (((w : Win) → win_name w ≢ n) × (¬ Contains refused_names n)))
-find_unknown r n e = (λ h. unknown-apart n (sym e ∙ h), λ h. e ∙ unknown-left n (found_as n) refl h.0 h.1.0 h.1.1)
+pub find_unknown : (r : Found) (n : List ℕ) → r ≡ found_as n → (r ≡ found.Unknown) ↔ IsNoName n
+find_unknown r n e = (λ h. unknown-apart n (sym e ∙ h), λ h. e ∙ unknown-left n (found_as n) refl h)
 
 -- ---- names
 
@@ -223,12 +221,12 @@ apart f g true false p q e = let u : found.Unknown ≡ found.Scalar g = sym (ope
 apart f g false true p q e = let u : found.Unknown ≡ found.Scalar f = sym (operator-unknown g q) ∙ (ap found_as (sym e) ∙ known f p) in cc
 
 same-both : (f g : Func) (a : Bool) → is_operator f ≡ a → is_operator g ≡ a → func_name f ≡ func_name g → f ≡ g
-same-both f g true p q e = let u : Some f ≡ Some g = sym (written f p) ∙ (ap (func_among operators) e ∙ written g q) in cc
+same-both f g true p q e = let u : Some f ≡ Some g = sym (written f p) ∙ (ap (named_among func_name operators) e ∙ written g q) in cc
 same-both f g false p q e = let u : found.Scalar f ≡ found.Scalar g = sym (known f p) ∙ (ap found_as e ∙ known g q) in cc
 
-one-name : (f g : Func) → func_name f ≡ func_name g → f ≡ g
-one-name f g e = let t = apart f g (is_operator f) (is_operator g) refl refl e in same-both f g (is_operator f) refl (sym t) e
+same-name : (f g : Func) → func_name f ≡ func_name g → f ≡ g
+same-name f g e = let t = apart f g (is_operator f) (is_operator g) refl refl e in same-both f g (is_operator f) refl (sym t) e
 
 -- no two functions have one name
 pub own_name : (f : Func) (n : List ℕ) → n ≡ func_name f → (g : Func) → func_name g ≡ n → g ≡ f
-own_name f n e g h = one-name g f (h ∙ e)
+own_name f n e g h = same-name g f (h ∙ e)

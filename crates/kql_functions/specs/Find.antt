@@ -21,9 +21,11 @@ use Rattle.kql_functions.specs.declared.func.Func.{Func}
 use Rattle.kql_functions.specs.declared.func.Func.TheVariants as func
 use Rattle.kql_functions.specs.declared.names.Found.{Found}
 use Rattle.kql_functions.specs.declared.names.Found.TheVariants as found
-use Rattle.kql_functions.specs.declared.names.Win.{Win}
-use Rattle.kql_functions.specs.declared.names.Win.TheVariants as win
-use Rattle.kql_functions.specs.Names.{func_name}
+use Rattle.kql_functions.specs.declared.window.Window.{Window}
+use Rattle.kql_functions.specs.declared.window.Window.TheVariants as window
+use Rattle.kql_functions.specs.declared.aggregate.Aggregate.{Aggregate}
+use Rattle.kql_functions.specs.declared.aggregate.Aggregate.TheVariants as aggregate
+use Rattle.kql_functions.specs.Names.{aggregate_name, func_name, window_name}
 
 -- every scalar function that a call names
 unfoldable pub functions : List Func
@@ -74,29 +76,26 @@ operators =
     search place.Term fold.Exact false ∷ search place.Term fold.Exact true ∷ func.Logic logic.And ∷
     func.Logic logic.Or ∷ func.Dynamic dynamic.At ∷ []
 
+-- every window function
+unfoldable pub windows : List Window
+windows = window.Prev ∷ window.Next ∷ window.RowCumsum ∷ window.RowNumber ∷ []
+
+-- every aggregate
+unfoldable pub aggregates : List Aggregate
+aggregates =
+    aggregate.Count ∷ aggregate.CountIf ∷ aggregate.CountDistinct ∷ aggregate.CountDistinctIf ∷ aggregate.Sum ∷
+    aggregate.SumIf ∷ aggregate.Min ∷ aggregate.MinIf ∷ aggregate.Max ∷ aggregate.MaxIf ∷ aggregate.MakeList ∷
+    aggregate.MakeListIf ∷ aggregate.MakeSet ∷ aggregate.MakeSetIf ∷ aggregate.ArgMax ∷ aggregate.ArgMin ∷
+    aggregate.TakeAny ∷ aggregate.BinaryAllAnd ∷ aggregate.BinaryAllOr ∷ aggregate.BinaryAllXor ∷ []
+
 -- each of these once
-abbrev pub AreDistinct : List Func → Type 0
-AreDistinct fs = AllPairs (λ f g. f ≢ g) fs
+abbrev pub AreDistinct : {A : Type 0} → List A → Type 0
+AreDistinct xs = AllPairs (λ x y. x ≢ y) xs
 
 -- the first of these that has this name
-unfoldable pub func_among : List Func → List ℕ → Option Func
-func_among [] n = None
-func_among (f ∷ fs) n = if bytes_eq (func_name f) n then Some f else func_among fs n
-
--- the names of the window functions
-abbrev pub win_name : Win → List ℕ
-win_name win.Prev = codes "prev"
-win_name win.Next = codes "next"
-win_name win.RowNumber = codes "row_number"
-win_name win.RowCumsum = codes "row_cumsum"
-
--- the window function of this name
-unfoldable pub win_named : List ℕ → Option Win
-win_named n =
-    if bytes_eq n (codes "prev") then Some win.Prev else (
-    if bytes_eq n (codes "next") then Some win.Next else (
-    if bytes_eq n (codes "row_number") then Some win.RowNumber else (
-    if bytes_eq n (codes "row_cumsum") then Some win.RowCumsum else None)))
+unfoldable pub named_among : {A : Type 0} → (A → List ℕ) → List A → List ℕ → Option A
+named_among name [] n = None
+named_among name (x ∷ xs) n = if bytes_eq (name x) n then Some x else named_among name xs n
 
 -- functions of the reference that the language leaves out: estimates and means, functions of reals, and conversions
 unfoldable pub refused_aggregates : List (List ℕ)
@@ -122,17 +121,16 @@ is_one_of names n = list_any (λ r. bytes_eq n r) names
 abbrev pub is_refused : List ℕ → Bool
 is_refused n = is_one_of refused_aggregates n || (is_one_of refused_functions n || is_one_of refused_conversions n)
 
-abbrev pub found_among_others : List ℕ → Option Win → Found
-found_among_others n (Some w) = found.Window w
-found_among_others n None = if is_refused n then found.Refused else found.Unknown
-
-abbrev pub found_or : List ℕ → Option Func → Found
-found_or n (Some f) = found.Scalar f
-found_or n None = found_among_others n (win_named n)
+-- what is found first: a function, a window function, an aggregate, or a name that is refused
+abbrev pub found_first : Option Func → Option Window → Option Aggregate → Bool → Found
+found_first (Some f) w a r = found.Scalar f
+found_first None (Some w) a r = found.Window w
+found_first None None (Some a) r = found.Aggregate a
+found_first None None None r = if r then found.Refused else found.Unknown
 
 -- what a name is
 unfoldable pub found_as : List ℕ → Found
-found_as n = found_or n (func_among functions n)
+found_as n = found_first (named_among func_name functions n) (named_among window_name windows n) (named_among aggregate_name aggregates n) (is_refused n)
 
 -- operators, which no call names
 abbrev pub is_arithmetic_operator : ArithmeticFunc → Bool
@@ -187,6 +185,6 @@ is_operator (func.Text f) = false
 is_operator (func.Time f) = false
 is_operator (func.Dynamic f) = is_dynamic_operator f
 
--- a name of no function that a call names, of no window function, and of none that is refused
+-- a name of no function that a call names, of no window function, of no aggregate, and of none that is refused
 abbrev pub IsNoName : List ℕ → Type 0
-IsNoName n = ((f : Func) → is_operator f ≡ false → func_name f ≢ n) × (((w : Win) → win_name w ≢ n) × (¬ Contains refused_names n))
+IsNoName n = ((f : Func) → is_operator f ≡ false → func_name f ≢ n) × (((w : Window) → window_name w ≢ n) × (((a : Aggregate) → aggregate_name a ≢ n) × (¬ Contains refused_names n)))

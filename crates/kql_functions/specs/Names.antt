@@ -1,4 +1,4 @@
--- The names of functions and operators.
+-- The names of functions and operators, window functions and aggregates.
 use Rattle.std.specs.Prelude.{ℕ, Bool, true, false, List, codes}
 use Rattle.kql_functions.specs.declared.func.ArithmeticFunc.{ArithmeticFunc}
 use Rattle.kql_functions.specs.declared.func.ArithmeticFunc.TheVariants as arithmetic
@@ -23,6 +23,10 @@ use Rattle.kql_texts.specs.declared.folding.Fold.{Fold}
 use Rattle.kql_texts.specs.declared.folding.Fold.TheVariants as fold
 use Rattle.kql_functions.specs.declared.func.Func.{Func}
 use Rattle.kql_functions.specs.declared.func.Func.TheVariants as func
+use Rattle.kql_functions.specs.declared.window.Window.{Window}
+use Rattle.kql_functions.specs.declared.window.Window.TheVariants as window
+use Rattle.kql_functions.specs.declared.aggregate.Aggregate.{Aggregate}
+use Rattle.kql_functions.specs.declared.aggregate.Aggregate.TheVariants as aggregate
 
 unfoldable pub arithmetic_name : ArithmeticFunc → List ℕ
 arithmetic_name arithmetic.Add = codes "+"
@@ -170,3 +174,31 @@ func_name (func.Conversion f) = conversion_name f
 func_name (func.Text f) = text_name f
 func_name (func.Time f) = time_name f
 func_name (func.Dynamic f) = dynamic_name f
+
+unfoldable pub window_name : Window → List ℕ
+window_name window.Prev = codes "prev"
+window_name window.Next = codes "next"
+window_name window.RowCumsum = codes "row_cumsum"
+window_name window.RowNumber = codes "row_number"
+
+unfoldable pub aggregate_name : Aggregate → List ℕ
+aggregate_name aggregate.Count = codes "count"
+aggregate_name aggregate.CountIf = codes "countif"
+aggregate_name aggregate.CountDistinct = codes "count_distinct"
+aggregate_name aggregate.CountDistinctIf = codes "count_distinctif"
+aggregate_name aggregate.Sum = codes "sum"
+aggregate_name aggregate.SumIf = codes "sumif"
+aggregate_name aggregate.Min = codes "min"
+aggregate_name aggregate.MinIf = codes "minif"
+aggregate_name aggregate.Max = codes "max"
+aggregate_name aggregate.MaxIf = codes "maxif"
+aggregate_name aggregate.MakeList = codes "make_list"
+aggregate_name aggregate.MakeListIf = codes "make_list_if"
+aggregate_name aggregate.MakeSet = codes "make_set"
+aggregate_name aggregate.MakeSetIf = codes "make_set_if"
+aggregate_name aggregate.ArgMax = codes "arg_max"
+aggregate_name aggregate.ArgMin = codes "arg_min"
+aggregate_name aggregate.TakeAny = codes "take_any"
+aggregate_name aggregate.BinaryAllAnd = codes "binary_all_and"
+aggregate_name aggregate.BinaryAllOr = codes "binary_all_or"
+aggregate_name aggregate.BinaryAllXor = codes "binary_all_xor"

@@ -1,19 +1,24 @@
-//! The table of scalar functions and operators: their names, and the types that they take and give.
+//! The functions of the language: scalar functions and operators with the types that they take and give, window functions and
+//! aggregates, each by its name.
 #![tactic(auto)]
 
+mod aggregate;
 mod func;
 mod kinds;
 mod names;
 mod shapes;
 mod tables;
+mod window;
 
+pub use aggregate::{Aggregate, aggregates};
 pub use func::{
     ArithmeticFunc, ChoiceFunc, ComparisonFunc, ConversionFunc, DynamicFunc, Func, LogicFunc,
     SearchFunc, SearchPlace, TextFunc, TimeFunc,
 };
 pub use kinds::result_kind;
-pub use names::{Found, Win, find};
+pub use names::{Found, find};
 pub use tables::{functions, operators};
+pub use window::{Window, windows};
 
 #[cfg(test)]
 mod tests;

@@ -1,25 +1,21 @@
 ghost use Rattle.std.specs.Prelude.{◌≡◌, ◌↔◌, Contains, false, true};
+ghost use Rattle.kql_functions.specs.declared.aggregate.Aggregate.{Aggregate};
 ghost use Rattle.kql_functions.specs.declared.func.Func.{Func};
-ghost use Rattle.kql_functions.specs.Names.{func_name};
-ghost use Rattle.kql_functions.specs.Find.{IsNoName, found_as, func_among, is_one_of, is_operator, is_refused, refused_aggregates, refused_conversions, refused_functions, refused_names, win_name, win_named};
+ghost use Rattle.kql_functions.specs.declared.window.Window.{Window};
+ghost use Rattle.kql_functions.specs.Names.{aggregate_name, func_name, window_name};
+ghost use Rattle.kql_functions.specs.Find.{IsNoName, found_as, is_one_of, is_operator, is_refused, named_among, refused_aggregates, refused_conversions, refused_functions, refused_names};
 
+use crate::aggregate::{Aggregate, aggregate_among, aggregates};
 use crate::func::Func;
 use crate::tables::functions;
-
-/// A window function.
-#[derive(Clone, Copy, Debug, PartialEq, Eq)]
-pub enum Win {
-    Prev,
-    Next,
-    RowNumber,
-    RowCumsum,
-}
+use crate::window::{Window, window_among, windows};
 
 /// What a name is where a call names a function.
 #[derive(Clone, Copy, Debug, PartialEq, Eq)]
 pub enum Found {
     Scalar(Func),
-    Window(Win),
+    Window(Window),
+    Aggregate(Aggregate),
     /// A function of the reference that the language leaves out.
     Refused,
     Unknown,
@@ -29,9 +25,11 @@ pub enum Found {
 pub fn find(name: &str) -> Found
     ensures value { result ≡ found_as name.now }
 
-    // A function is found by its own name alone, so are a window function and a refused name, and an operator by none.
+    // A function is found by its own name alone, so are a window function, an aggregate and a refused name, and an operator by
+    // none.
     ensures scalar { (f : Func) → (result ≡ Found.Scalar f) ↔ ((is_operator f ≡ false) × (func_name f ≡ name.now)) }
-    ensures window { (w : Win) → (result ≡ Found.Window w) ↔ (win_name w ≡ name.now) }
+    ensures window { (w : Window) → (result ≡ Found.Window w) ↔ (window_name w ≡ name.now) }
+    ensures aggregate { (a : Aggregate) → (result ≡ Found.Aggregate a) ↔ (aggregate_name a ≡ name.now) }
     ensures refused { (result ≡ Found.Refused) ↔ Contains refused_names name.now }
     ensures operator { (f : Func) → is_operator f ≡ true → func_name f ≡ name.now → result ≡ Found.Unknown }
 
@@ -48,8 +46,11 @@ fn find_in_tables(name: &str) -> Found
     if let Some(f) = func_among(functions(), name) {
         return Found::Scalar(f);
     }
-    if let Some(w) = win_named(name) {
+    if let Some(w) = window_among(windows(), name) {
         return Found::Window(w);
+    }
+    if let Some(a) = aggregate_among(aggregates(), name) {
+        return Found::Aggregate(a);
     }
     if is_refused(name) {
         Found::Refused
@@ -58,35 +59,18 @@ fn find_in_tables(name: &str) -> Found
     }
 }
 
-#[tactic(auto, unfolding(crate::specs::Find::func_among))]
+#[tactic(auto, unfolding(crate::specs::Find::named_among))]
 fn func_among(functions: &[Func], name: &str) -> Option<Func>
-    ensures { result ≡ func_among functions.now name.now }
+    ensures { result ≡ named_among func_name functions.now name.now }
 {
     let mut left = functions;
-    'functions: while let [f, more @ ..] = left {
+    'names: while let [f, more @ ..] = left {
         if f.name() == name {
             return Some(*f);
         }
         left = more;
     }
     None
-}
-
-#[tactic(auto, unfolding(crate::specs::Find::win_named))]
-fn win_named(name: &str) -> Option<Win>
-    ensures { result ≡ win_named name.now }
-{
-    if name == "prev" {
-        Some(Win::Prev)
-    } else if name == "next" {
-        Some(Win::Next)
-    } else if name == "row_number" {
-        Some(Win::RowNumber)
-    } else if name == "row_cumsum" {
-        Some(Win::RowCumsum)
-    } else {
-        None
-    }
 }
 
 fn is_refused(name: &str) -> bool

@@ -1,6 +1,6 @@
 use super::*;
-use kql_texts::Fold;
 use kql_cells::Kind;
+use kql_texts::Fold;
 use std::alloc::{AllocError, Global};
 use std::test::Fail;
 
@@ -11,15 +11,18 @@ const FUNCTION_NAMES: &str =
 const OPERATOR_NAMES: &str =
     "+ - * / % neg == != < <= > >= =~ !~ in !in in~ !in~ between !between contains !contains contains_cs !contains_cs startswith !startswith startswith_cs !startswith_cs endswith !endswith endswith_cs !endswith_cs has !has has_cs !has_cs and or at";
 
+const AGGREGATE_NAMES: &str =
+    "count countif count_distinct count_distinctif sum sumif min minif max maxif make_list make_list_if make_set make_set_if arg_max arg_min take_any binary_all_and binary_all_or binary_all_xor ";
+
 // What a name is.
 const FOUND: &str =
     "scalar ago todynamic now floor not strcat_delim unixtime_milliseconds_todatetime bag_pack
 window prev next row_cumsum row_number
 refused avg avgif dcount dcountif percentile percentiles stdev stdevif variance varianceif hll tdigest sqrt pow
 refused exp log log10 round toreal todouble todecimal toint toguid rand series_stats
-unknown count countif count_distinct count_distinctif sum sumif min max minif maxif make_list make_list_if
-unknown make_set make_set_if arg_max arg_min take_any binary_all_and binary_all_or binary_all_xor extract
-unknown matches at and or neg has in between contains + == iif Abs abs_ row_rank avg_";
+aggregate count countif count_distinct count_distinctif sum sumif min max minif maxif make_list make_list_if
+aggregate make_set make_set_if arg_max arg_min take_any binary_all_and binary_all_or binary_all_xor
+unknown extract count_if make_listif dcounts matches at and or neg has in between contains + == iif Abs abs_ row_rank avg_";
 
 // Where each search looks (anywhere, at the start, at the end, for a term), whether case counts (`i` that it does not),
 // and whether it is turned round (`-`).
@@ -212,6 +215,34 @@ fn func_named(name: &str) -> Option<Func> {
     }
 }
 
+fn window_names(alloc: Global) -> Result<String, AllocError> {
+    let mut names = String::new(alloc);
+    for w in windows() {
+        names.push_str(w.name())?;
+        names.push_str(" ")?;
+    }
+    Ok(names)
+}
+
+fn aggregate_names(alloc: Global) -> Result<String, AllocError> {
+    let mut names = String::new(alloc);
+    for a in aggregates() {
+        names.push_str(a.name())?;
+        names.push_str(" ")?;
+    }
+    Ok(names)
+}
+
+#[test]
+fn names_over_rows(rt: HostRuntime) -> Result<(), Fail> {
+    assert_eq!(rt;
+        window_names(rt.alloc())?.as_str(),
+        "prev next row_cumsum row_number "
+    );
+    assert_eq!(rt; aggregate_names(rt.alloc())?.as_str(), AGGREGATE_NAMES);
+    Ok(())
+}
+
 #[test]
 fn names(rt: HostRuntime) -> Result<(), Fail> {
     assert_eq!(rt; joined(rt.alloc(), functions())?.as_str(), FUNCTION_NAMES);
@@ -223,6 +254,7 @@ fn word_of(found: Found) -> &'static str {
     match found {
         Found::Scalar(_) => "scalar",
         Found::Window(_) => "window",
+        Found::Aggregate(_) => "aggregate",
         Found::Refused => "refused",
         Found::Unknown => "unknown",
     }
@@ -247,7 +279,11 @@ fn found(rt: HostRuntime) -> Result<(), Fail> {
         assert!(rt; are_found(line), "{line}");
     }
     assert_eq!(rt; find(""), Found::Unknown);
-    assert_eq!(rt; find("row_cumsum"), Found::Window(Win::RowCumsum));
+    assert_eq!(rt; find("row_cumsum"), Found::Window(Window::RowCumsum));
+    assert_eq!(rt;
+        find("make_list_if"),
+        Found::Aggregate(Aggregate::MakeListIf)
+    );
     assert_eq!(rt; find("ago"), Found::Scalar(Func::Time(TimeFunc::Ago)));
     Ok(())
 }

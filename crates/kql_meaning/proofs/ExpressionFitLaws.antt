@@ -5,13 +5,13 @@ use Rattle.std.specs.List.{list_all}
 use Rattle.kql_cells.specs.declared.value.Kind.TheVariants as kind
 use Rattle.kql_functions.specs.Kinds.{same_kind}
 use Rattle.kql_functions.specs.declared.func.Func.{Func}
-use Rattle.kql_bound.specs.declared.expr.Aggregate.{Aggregate}
+use Rattle.kql_functions.specs.declared.aggregate.Aggregate.{Aggregate}
 use Rattle.kql_bound.specs.declared.expr.BExpr.{BExpr, out-BExpr, out-roll-BExpr, para-roll-BExpr}
 use Rattle.kql_bound.specs.declared.expr.BExpr.TheOpen.{BExpr-F}
 use Rattle.kql_bound.specs.declared.expr.BExpr.TheVariants as V
 use Rattle.kql_bound.specs.declared.expr.ChainSign.{ChainSign}
 use Rattle.kql_bound.specs.declared.expr.StepColumn.{StepColumn}
-use Rattle.kql_bound.specs.declared.expr.Window.{Window}
+use Rattle.kql_functions.specs.declared.window.Window.{Window}
 use Rattle.kql_bound.specs.declared.literal.Lit.{Lit}
 use Rattle.kql_meaning.specs.declared.position.Position.{Position}
 use Rattle.kql_meaning.specs.declared.position.Position.TheVariants as position

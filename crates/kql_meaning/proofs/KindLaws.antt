@@ -5,13 +5,13 @@ use Rattle.std.proofs.lemmas.List.{map-append, take_more}
 use Rattle.kql_cells.specs.declared.schema.Column.{Column}
 use Rattle.kql_cells.specs.declared.value.Kind.{Kind}
 use Rattle.kql_functions.specs.declared.func.Func.{Func}
-use Rattle.kql_bound.specs.Words.{sign_func}
-use Rattle.kql_bound.specs.declared.expr.Aggregate.{Aggregate}
+use Rattle.kql_bound.specs.Signs.{sign_func}
+use Rattle.kql_functions.specs.declared.aggregate.Aggregate.{Aggregate}
 use Rattle.kql_bound.specs.declared.expr.BExpr.{BExpr}
 use Rattle.kql_bound.specs.declared.expr.BExpr.TheVariants as V
 use Rattle.kql_bound.specs.declared.expr.ChainSign.{ChainSign}
 use Rattle.kql_bound.specs.declared.expr.StepColumn.{StepColumn}
-use Rattle.kql_bound.specs.declared.expr.Window.{Window}
+use Rattle.kql_functions.specs.declared.window.Window.{Window}
 use Rattle.kql_bound.specs.declared.literal.Lit.{Lit}
 use Rattle.kql_meaning.specs.Expressions.{aggregate_kind, all_known, call_kind, chain_kind, column_kind, first_kind, kind_along, kind_down, kind_of, kinds_in, look, path_kind, reading, window_kind}
 use Rattle.kql_meaning.specs.Readings.{Reading, kinds_of}

@@ -4,12 +4,12 @@ use Rattle.kql_cells.specs.Table.{Grid}
 use Rattle.kql_cells.specs.declared.value.Value.{Value}
 use Rattle.kql_functions.specs.declared.func.Func.{Func}
 use Rattle.kql_scalar_fns.specs.Applied.{applied}
-use Rattle.kql_bound.specs.declared.expr.Aggregate.{Aggregate}
+use Rattle.kql_functions.specs.declared.aggregate.Aggregate.{Aggregate}
 use Rattle.kql_bound.specs.declared.expr.BExpr.{BExpr}
 use Rattle.kql_bound.specs.declared.expr.BExpr.TheVariants as V
 use Rattle.kql_bound.specs.declared.expr.ChainSign.{ChainSign}
 use Rattle.kql_bound.specs.declared.expr.StepColumn.{StepColumn}
-use Rattle.kql_bound.specs.declared.expr.Window.{Window}
+use Rattle.kql_functions.specs.declared.window.Window.{Window}
 use Rattle.kql_bound.specs.declared.literal.Lit.{Lit}
 use Rattle.kql_meaning.specs.Aggregates.{aggregated}
 use Rattle.kql_meaning.specs.Expressions.{chain_value, path_value, reading, step_value, val, value_along, value_down, values_in}

@@ -8,8 +8,8 @@ use Rattle.kql_dynamic.specs.Arrays.{pack_array}
 use Rattle.kql_scalar_fns.specs.Arguments.{long_or_null}
 use Rattle.kql_scalar_fns.specs.Choice.{greatest, is_null, least}
 use Rattle.kql_scalar_fns.specs.Dynamic.{element}
-use Rattle.kql_bound.specs.declared.expr.Aggregate.{Aggregate}
-use Rattle.kql_bound.specs.declared.expr.Aggregate.TheVariants as aggregate
+use Rattle.kql_functions.specs.declared.aggregate.Aggregate.{Aggregate}
+use Rattle.kql_functions.specs.declared.aggregate.Aggregate.TheVariants as aggregate
 use Rattle.kql_meaning.specs.Numbers.{counted, fitted, sum_of}
 use Rattle.kql_meaning.specs.Readings.{Reading, Records, reading_at, rows_where, values_over}
 use Rattle.kql_meaning.specs.Tables.{distinct_by, places}

@@ -7,8 +7,8 @@ use Rattle.kql_cells.specs.declared.value.Kind.{Kind}
 use Rattle.kql_cells.specs.declared.value.Kind.TheVariants as kind
 use Rattle.kql_cells.specs.declared.value.Value.{Value}
 use Rattle.kql_scalar_fns.specs.Choice.{greatest, least}
-use Rattle.kql_bound.specs.declared.expr.Aggregate.{Aggregate}
-use Rattle.kql_bound.specs.declared.expr.Aggregate.TheVariants as aggregate
+use Rattle.kql_functions.specs.declared.aggregate.Aggregate.{Aggregate}
+use Rattle.kql_functions.specs.declared.aggregate.Aggregate.TheVariants as aggregate
 use Rattle.kql_bound.specs.declared.expr.BExpr.{BExpr, out-BExpr}
 use Rattle.kql_bound.specs.declared.expr.BExpr.TheOpen.{BExpr-F}
 use Rattle.kql_meaning.specs.Aggregates.{all_values}

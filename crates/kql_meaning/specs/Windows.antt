@@ -5,8 +5,8 @@ use Rattle.kql_cells.specs.Table.{Grid}
 use Rattle.kql_cells.specs.declared.value.Value.{Value}
 use Rattle.kql_cells.specs.declared.value.Value.TheVariants as value
 use Rattle.kql_scalar_fns.specs.Arithmetic.{sum}
-use Rattle.kql_bound.specs.declared.expr.Window.{Window}
-use Rattle.kql_bound.specs.declared.expr.Window.TheVariants as window
+use Rattle.kql_functions.specs.declared.window.Window.{Window}
+use Rattle.kql_functions.specs.declared.window.Window.TheVariants as window
 use Rattle.kql_meaning.specs.Numbers.{fitted, sum_of}
 use Rattle.kql_meaning.specs.Readings.{Reading, Records, reading_at, values_over}
 use Rattle.kql_meaning.specs.Values.{absent_as, holds}

@@ -1,11 +1,11 @@
 //! The types of expressions.
 ghost use Rattle.std.specs.Prelude.{◌≡◌, ◌∷◌, [], IfOk};
-ghost use Rattle.kql_bound.specs.Words.{sign_func};
+ghost use Rattle.kql_bound.specs.Signs.{sign_func};
 ghost use Rattle.kql_meaning.specs.Expressions.{aggregate_kind, all_known, call_kind, column_kind, first_kind, kind_along, kind_down, kind_of, kinds_in, window_kind};
 
-use kql_bound::{Aggregate, BExpr, ChainSign, Link, Window};
+use kql_bound::{BExpr, ChainSign, Link};
 use kql_cells::{Column, Kind};
-use kql_functions::{ArithmeticFunc, DynamicFunc, Func, result_kind};
+use kql_functions::{Aggregate, ArithmeticFunc, DynamicFunc, Func, Window, result_kind};
 use kql_items::Items;
 use std::alloc::{AllocError, Global};
 
@@ -177,7 +177,7 @@ fn kind_of_two(f: Func, a: Option<Kind>, b: Option<Kind>) -> Option<Kind>
     }
 }
 
-#[tactic(auto, unfolding(kql_bound::specs::Words::sign_func))]
+#[tactic(auto, unfolding(kql_bound::specs::Signs::sign_func))]
 fn sign_func(sign: ChainSign) -> Func
     ensures func { result ≡ sign_func sign }
 {

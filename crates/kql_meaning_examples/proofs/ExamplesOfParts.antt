@@ -15,7 +15,7 @@ use Rattle.kql_cells.specs.declared.value.Kind.TheVariants as kind
 use Rattle.kql_cells.specs.declared.value.Value.{Value}
 use Rattle.kql_cells.specs.declared.value.Value.TheVariants as value
 use Rattle.kql_ticks.specs.Ranges.{fit}
-use Rattle.kql_bound.specs.declared.expr.Aggregate.TheVariants as aggregate
+use Rattle.kql_functions.specs.declared.aggregate.Aggregate.TheVariants as aggregate
 use Rattle.kql_bound.specs.declared.parts.SeriesPlan.{SeriesPlan}
 use Rattle.kql_meaning.specs.Aggregates.{aggregated, all_values}
 use Rattle.kql_meaning.specs.Groups.{distinct_keys, group_of, key_by}

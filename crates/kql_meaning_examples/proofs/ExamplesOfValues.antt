@@ -19,9 +19,9 @@ use Rattle.kql_functions.specs.declared.func.Func.TheVariants as func
 use Rattle.kql_bound.specs.declared.expr.BExpr.{BExpr, the_lemmas}
 use Rattle.kql_bound.specs.declared.expr.BExpr.TheOpen.{BExpr-F}
 use Rattle.kql_bound.specs.declared.expr.BExpr.TheVariants as expr
-use Rattle.kql_bound.specs.declared.expr.Aggregate.TheVariants as aggregate
-use Rattle.kql_bound.specs.declared.expr.Window.{Window}
-use Rattle.kql_bound.specs.declared.expr.Window.TheVariants as window
+use Rattle.kql_functions.specs.declared.aggregate.Aggregate.TheVariants as aggregate
+use Rattle.kql_functions.specs.declared.window.Window.{Window}
+use Rattle.kql_functions.specs.declared.window.Window.TheVariants as window
 use Rattle.kql_bound.specs.declared.parts.BItem.{BItem}
 use Rattle.kql_cells.specs.declared.value.Value.TheVariants as value
 use Rattle.kql_meaning.specs.Aggregates.{aggregated, all_values}

@@ -18,8 +18,8 @@ use Rattle.kql_functions.specs.declared.func.Func.TheVariants as func
 use Rattle.kql_bound.specs.declared.expr.BExpr.{BExpr}
 use Rattle.kql_bound.specs.declared.expr.BExpr.TheOpen.{BExpr-F}
 use Rattle.kql_bound.specs.declared.expr.BExpr.TheVariants as expr
-use Rattle.kql_bound.specs.declared.expr.Window.{Window}
-use Rattle.kql_bound.specs.declared.expr.Window.TheVariants as window
+use Rattle.kql_functions.specs.declared.window.Window.{Window}
+use Rattle.kql_functions.specs.declared.window.Window.TheVariants as window
 use Rattle.kql_bound.specs.declared.parts.BItem.{BItem}
 use Rattle.kql_meaning_examples.specs.Examples.{ExtendNext, ExtendRowNumbers, column, g_after, literal, minus_one, n, null, number_from_five, number_from_null, number_from_one, number_in_group, other_group, runs, table, x_after, x_two_after}
 use Rattle.kql_meaning.specs.Expressions.{column_kind, first_kind, reading, reading_step, window_kind}

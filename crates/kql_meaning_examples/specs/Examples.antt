@@ -13,11 +13,11 @@ use Rattle.kql_bound.specs.declared.parts.PatItem.TheVariants as item
 use Rattle.kql_functions.specs.declared.func.ComparisonFunc.{ComparisonFunc}
 use Rattle.kql_functions.specs.declared.func.ComparisonFunc.TheVariants as comparison
 use Rattle.kql_functions.specs.declared.func.Func.TheVariants as func
-use Rattle.kql_bound.specs.declared.expr.Aggregate.{Aggregate}
-use Rattle.kql_bound.specs.declared.expr.Aggregate.TheVariants as aggregate
+use Rattle.kql_functions.specs.declared.aggregate.Aggregate.{Aggregate}
+use Rattle.kql_functions.specs.declared.aggregate.Aggregate.TheVariants as aggregate
 use Rattle.kql_bound.specs.declared.expr.BExpr.{BExpr}
 use Rattle.kql_bound.specs.declared.expr.BExpr.TheVariants as expr
-use Rattle.kql_bound.specs.declared.expr.Window.TheVariants as window
+use Rattle.kql_functions.specs.declared.window.Window.TheVariants as window
 use Rattle.kql_cells.specs.declared.dynamic.Dyn.{Dyn}
 use Rattle.kql_cells.specs.declared.dynamic.Dyn.TheVariants as dyn
 use Rattle.kql_dynamic.specs.Arrays.{array}

@@ -1,7 +1,7 @@
 //! Small expressions, and the type of each.
-use kql_bound::{Aggregate, BExpr, ChainSign, Exprs, Link, Links, Lit, StepColumn, Window};
+use kql_bound::{BExpr, ChainSign, Exprs, Link, Links, Lit, StepColumn};
 use kql_cells::{Column, KText, Kind, Value};
-use kql_functions::{ComparisonFunc, Func};
+use kql_functions::{Aggregate, ComparisonFunc, Func, Window};
 use kql_items::{Boxed, Items};
 use kql_meaning::{
     column_kind, kind_of, law_of_bins, law_of_cuts, law_of_expansion, law_of_greatest_and_least,

@@ -20,9 +20,9 @@ mod whole;
 
 pub use calls::{apply, apply_cells};
 pub use kql_functions::{
-    ArithmeticFunc, ChoiceFunc, ComparisonFunc, ConversionFunc, DynamicFunc, Found, Func,
-    LogicFunc, SearchFunc, SearchPlace, TextFunc, TimeFunc, Win, find, functions, operators,
-    result_kind,
+    Aggregate, ArithmeticFunc, ChoiceFunc, ComparisonFunc, ConversionFunc, DynamicFunc, Found, Func,
+    LogicFunc, SearchFunc, SearchPlace, TextFunc, TimeFunc, Window, aggregates, find, functions, operators,
+    result_kind, windows,
 };
 pub use laws::{first_that_is_given, least_and_greatest, remainders, three_valued_logic};
 pub use time::{field_named, period_named};

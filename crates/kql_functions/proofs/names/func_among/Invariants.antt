@@ -1,9 +1,10 @@
 use Rattle.std.proofs.Common.{◌≡◌, length}
-use Rattle.kql_functions.specs.Find.{func_among}
+use Rattle.kql_functions.specs.Find.{named_among}
+use Rattle.kql_functions.specs.Names.{func_name}
 use Rattle.kql_functions.proofs.names.func_among.Given as goal
 
-abbrev pub invariant-functions : goal.invariant-functions
-invariant-functions l = func_among l.left l.name ≡ func_among l.fn.functions l.fn.name
+abbrev pub invariant-names : goal.invariant-names
+invariant-names l = named_among func_name l.left l.name ≡ named_among func_name l.fn.functions l.fn.name
 
-abbrev pub decreases-functions : goal.decreases-functions
-decreases-functions l = length l.left
+abbrev pub decreases-names : goal.decreases-names
+decreases-names l = length l.left

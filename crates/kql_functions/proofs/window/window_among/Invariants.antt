@@ -1,0 +1,10 @@
+use Rattle.std.proofs.Common.{◌≡◌, length}
+use Rattle.kql_functions.specs.Find.{named_among}
+use Rattle.kql_functions.specs.Names.{window_name}
+use Rattle.kql_functions.proofs.window.window_among.Given as goal
+
+abbrev pub invariant-names : goal.invariant-names
+invariant-names l = named_among window_name l.left l.name ≡ named_among window_name l.fn.windows l.fn.name
+
+abbrev pub decreases-names : goal.decreases-names
+decreases-names l = length l.left
