@@ -15,6 +15,7 @@ pub mod NumberLaws
 pub mod OperatorFitLaws
 pub mod OuterLaws
 pub mod PartRowLaws
+pub mod PlainFitLaws
 pub mod PlainLaws
 pub mod PlanLaws
 pub mod ReadingLaws

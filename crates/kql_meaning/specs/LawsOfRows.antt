@@ -6,8 +6,10 @@ use Rattle.kql_bound.specs.declared.expr.BExpr.{BExpr}
 use Rattle.kql_bound.specs.declared.parts.BItem.{BItem}
 use Rattle.kql_bound.specs.declared.parts.Expand.{Expand}
 use Rattle.kql_bound.specs.declared.parts.ParsePlan.{ParsePlan}
+use Rattle.kql_meaning.specs.declared.position.Position.TheVariants as position
 use Rattle.kql_meaning.specs.Expressions.{val}
 use Rattle.kql_meaning.specs.Extend.{extend_table}
+use Rattle.kql_meaning.specs.FittingExpressions.{Scope, expr_fits}
 use Rattle.kql_meaning.specs.MvExpand.{expand_table}
 use Rattle.kql_meaning.specs.Parse.{parse_table}
 use Rattle.kql_meaning.specs.Project.{project_table}
@@ -15,6 +17,10 @@ use Rattle.kql_meaning.specs.Readings.{Records}
 use Rattle.kql_meaning.specs.RowByRow.{TakesEachRow, are_plain, are_plain_parts, is_plain}
 use Rattle.kql_meaning.specs.Values.{holds}
 use Rattle.kql_meaning.specs.Where.{where_table}
+
+-- An expression that fits where neither window functions nor aggregates may stand is plain.
+abbrev pub PlainWhereFits : Type 0
+PlainWhereFits = (e : BExpr) (scope : Scope) → IsTrue (expr_fits e scope position.Plain) → IsTrue (is_plain e)
 
 -- A plain expression reads its row alone: at equal rows of tables of the same columns it has the same value, wherever they stand.
 abbrev pub PlainReadsItsRow : Type 0

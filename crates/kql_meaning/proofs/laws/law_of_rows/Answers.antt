@@ -1,4 +1,5 @@
 use Rattle.kql_meaning.proofs.PartRowLaws.{expand_takes_each_row, parse_of_gathered, parse_takes_each_row}
+use Rattle.kql_meaning.proofs.PlainFitLaws.{plain_where_fits}
 use Rattle.kql_meaning.proofs.RowByRowLaws.{extend_of_gathered, extend_takes_each_row, plain_of_gathered, plain_reads_its_row, project_of_gathered, project_takes_each_row, where_of_gathered, where_takes_each_row}
 use Rattle.kql_meaning.proofs.laws.law_of_rows.Goals as goal
 
@@ -6,6 +7,7 @@ pub returns : goal.returns
 returns c = record {
   row = plain_reads_its_row;
   gathered = plain_of_gathered;
+  fits = plain_where_fits;
   kept = where_of_gathered;
   extended = extend_of_gathered;
   projected = project_of_gathered;
