@@ -191,8 +191,8 @@ all_fit args scope at = list_all (λ (a : Checked). is_fit a scope at) args
 abbrev pub links_of : List (ChainSign × Checked) → List (ChainSign × BExpr)
 links_of links = map (λ (l : ChainSign × Checked). (l.0, expr_of l.1)) links
 
-abbrev pub parts_of : List (ChainSign × Checked) → List Checked
-parts_of links = map (λ (l : ChainSign × Checked). l.1) links
+abbrev pub parts_behind : List (ChainSign × Checked) → List Checked
+parts_behind links = map (λ (l : ChainSign × Checked). l.1) links
 
 -- Window functions.
 
@@ -330,7 +330,7 @@ fits_step (BExpr-F.Step c) scope at = takes_columns at && step_fits scope c
 fits_step (BExpr-F.Call f args) scope at =
     is_callable f && (all_fit args scope at && (part_fits f (exprs_of args) && is_some (call_kind f (kinds_in (exprs_of args) scope.columns))))
 fits_step (BExpr-F.Chain first links) scope at =
-    is_fit first scope at && (all_fit (parts_of links) scope at
+    is_fit first scope at && (all_fit (parts_behind links) scope at
     && is_some (kind_along (links_of links) scope.columns (kind_of (expr_of first) scope.columns)))
 fits_step (BExpr-F.Path whole steps) scope at =
     is_fit whole scope at && (all_fit steps scope at
