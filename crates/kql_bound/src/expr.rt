@@ -1,7 +1,7 @@
 use crate::literal::Lit;
-use kql_functions::Func;
-use kql_items::{Boxed, Items};
 use kql_cells::KText;
+use kql_functions::{Aggregate, Func, Window};
+use kql_items::{Boxed, Items};
 
 /// A sign between the parts of a chain.
 #[derive(Clone, Copy, Debug, PartialEq, Eq)]
@@ -11,40 +11,6 @@ pub enum ChainSign {
     Multiply,
     Divide,
     Modulo,
-}
-
-/// A function that looks at other rows.
-#[derive(Clone, Copy, Debug, PartialEq, Eq)]
-pub enum Window {
-    Prev,
-    Next,
-    RowCumsum,
-    RowNumber,
-}
-
-/// A function of the rows of a group.
-#[derive(Clone, Copy, Debug, PartialEq, Eq)]
-pub enum Aggregate {
-    Count,
-    CountIf,
-    CountDistinct,
-    CountDistinctIf,
-    Sum,
-    SumIf,
-    Min,
-    MinIf,
-    Max,
-    MaxIf,
-    MakeList,
-    MakeListIf,
-    MakeSet,
-    MakeSetIf,
-    ArgMax,
-    ArgMin,
-    TakeAny,
-    BinaryAllAnd,
-    BinaryAllOr,
-    BinaryAllXor,
 }
 
 /// A column of the record that a step of a scan holds.

@@ -3,8 +3,8 @@ ghost use Rattle.std.specs.Prelude.{◌≡◌, IfOk};
 
 use crate::expr::{BExpr, Exprs, Links, StepColumn};
 use crate::literal::Lit;
-use kql_items::{Boxed, Items};
 use kql_cells::clone_value;
+use kql_items::{Boxed, Items};
 use std::alloc::{AllocError, Global};
 
 /// An equal literal.

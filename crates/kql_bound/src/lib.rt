@@ -1,36 +1,26 @@
-//! Bound programs: a query whose names are looked up and whose types are known, and its plan as text.
-//!
-//! `specs/Plans.antt` says what the text of a program is.
+//! Bound programs: a query whose names are looked up and whose types are known, and equal copies of its parts.
 #![tactic(auto)]
 
 mod expr;
 mod expr_clones;
-mod laws;
 mod literal;
 mod part_clones;
 mod parts;
 mod plan;
 mod plan_clones;
-mod words;
-mod write_exprs;
-mod write_literals;
-mod write_operators;
-mod write_parts;
-mod write_plans;
+mod signs;
 
-pub use expr::{Aggregate, BExpr, ChainSign, Exprs, Link, Links, StepColumn, WinCall, Window};
+pub use expr::{BExpr, ChainSign, Exprs, Link, Links, StepColumn, WinCall};
 pub use expr_clones::{clone_expr, clone_exprs, clone_lit};
-pub use laws::names_and_strings_read_back;
 pub use literal::Lit;
 pub use part_clones::{
     clone_expand, clone_group, clone_items, clone_join, clone_keys, clone_parse, clone_scan,
     clone_series,
 };
 pub use parts::{
-    BItem, BKey, Decl, Decls, Expand, ExpandItem, ExpandItems, GroupPlan, Items, JoinKind,
+    BItem, BItems, BKey, Decl, Decls, Expand, ExpandItem, ExpandItems, GroupPlan, JoinKind,
     JoinPlan, Keys, OnPair, OnPairs, Output, ParsePlan, PatItem, Pattern, ScanPlan, ScanStep,
     ScanSteps, SeriesItem, SeriesItems, SeriesPlan,
 };
 pub use plan::{Op, Ops, Plan, Plans, Program, Source};
 pub use plan_clones::{clone_op, clone_ops, clone_plan, clone_plans, clone_program, clone_source};
-pub use write_plans::plan_text;

@@ -7,8 +7,8 @@ use crate::part_clones::{
     clone_series,
 };
 use crate::plan::{Op, Ops, Plan, Plans, Program, Source};
-use kql_items::Items;
 use kql_cells::{NamedSchema, Schemas};
+use kql_items::Items;
 use std::alloc::{AllocError, Global};
 
 /// An equal source.

@@ -4,7 +4,8 @@ ghost use Rattle.std.specs.List.{list_all};
 ghost use Rattle.kql_bound.specs.declared.parts.Decl.{Decl};
 ghost use Rattle.kql_bound.specs.declared.parts.OnPair.{OnPair};
 ghost use Rattle.kql_meaning.specs.Extend.{extend_columns};
-ghost use Rattle.kql_meaning.specs.Items.{aggregate_result_kinds, items_columns, items_names, named_columns, result_kinds, typed, without};
+ghost use Rattle.kql_meaning.specs.Items.{items_columns, items_names, named_columns, without};
+ghost use Rattle.kql_meaning.specs.Results.{aggregate_result_kinds, result_kinds, typed};
 ghost use Rattle.kql_meaning.specs.Join.{both_columns, first_free, free_name, join_columns, renamed};
 ghost use Rattle.kql_meaning.specs.MakeSeries.{series_columns, series_item_columns};
 ghost use Rattle.kql_meaning.specs.MvExpand.{expand_columns, kind_named, new_columns, replaced_column, replaced_columns};
@@ -17,25 +18,14 @@ ghost use Rattle.kql_meaning.specs.TakeAndCount.{count_columns};
 ghost use Rattle.kql_meaning.specs.Union.{all_in_order, same_name, union_columns};
 
 use kql_bound::{
-    Aggregate, BExpr, BItem, Decl, Expand, ExpandItem, GroupPlan, JoinKind, JoinPlan, Lit, OnPair,
-    ParsePlan, PatItem, ScanPlan, SeriesItem, SeriesPlan,
+    BExpr, BItem, Decl, Expand, ExpandItem, GroupPlan, JoinKind, JoinPlan, Lit, OnPair, ParsePlan,
+    PatItem, ScanPlan, SeriesItem, SeriesPlan,
 };
+use kql_cells::{Column, KText, Kind, Names, copy_columns, copy_names};
+use kql_functions::Aggregate;
 use kql_items::Items;
 use kql_meaning::kind_of;
-use kql_cells::{Column, KText, Kind};
 use std::alloc::{AllocError, Global};
-
-/// Equal columns.
-pub fn clone_columns(alloc: Global, columns: &[Column]) -> Result<Items<Column>, AllocError>
-    ensures same { IfOk result (λ cs. cs ≡ columns.now) }
-{
-    let mut copies = Items::with_capacity(alloc, columns.len())?;
-    for column in columns {
-        let copy = column.copy(alloc)?;
-        copies.push(copy)?;
-    }
-    Ok(copies)
-}
 
 /// Whether a name is one of these.
 #[tactic(auto, unfolding(kql_meaning::specs::Tables::is_name_among))]
@@ -60,10 +50,53 @@ pub fn has_column(name: &str, columns: &[Column]) -> bool
     false
 }
 
+// Names.
+
+/// The names of columns, in order.
+#[tactic(auto, unfolding(kql_meaning::specs::Tables::names_of))]
+pub fn names_of(alloc: Global, columns: &[Column]) -> Result<Names, AllocError>
+    ensures names { IfOk result (λ ns. ns ≡ names_of columns.now) }
+{
+    let mut names = Items::with_capacity(alloc, columns.len())?;
+    for column in columns {
+        let name = column.name.copy(alloc)?;
+        names.push(name)?;
+    }
+    Ok(names)
+}
+
+/// The names that items give, in order.
+#[tactic(auto, unfolding(kql_meaning::specs::Items::items_names))]
+pub fn items_names(alloc: Global, items: &[BItem]) -> Result<Names, AllocError>
+    ensures names { IfOk result (λ ns. ns ≡ items_names items.now) }
+{
+    let mut names = Items::with_capacity(alloc, items.len())?;
+    for item in items {
+        let more = copy_names(alloc, item.names.as_slice())?;
+        names.append(more)?;
+    }
+    Ok(names)
+}
+
+// The columns that have none of these names.
+#[tactic(auto, unfolding(kql_meaning::specs::Items::without))]
+fn without(alloc: Global, names: &[KText], columns: &[Column]) -> Result<Items<Column>, AllocError>
+    ensures columns { IfOk result (λ cs. cs ≡ without names.now columns.now) }
+{
+    let mut kept = Items::with_capacity(alloc, columns.len())?;
+    for column in columns {
+        if !is_name_among(names, column.name.as_str()) {
+            let copy = column.copy(alloc)?;
+            kept.push(copy)?;
+        }
+    }
+    Ok(kept)
+}
+
 // Items.
 
 /// The type of an expression; dynamic where it has none.
-#[tactic(auto, unfolding(kql_meaning::specs::Items::typed))]
+#[tactic(auto, unfolding(kql_meaning::specs::Results::typed))]
 fn typed(alloc: Global, e: &BExpr, columns: &[Column]) -> Result<Kind, AllocError>
     ensures kind { IfOk result (λ k. k ≡ typed e.now columns.now) }
 {
@@ -92,7 +125,7 @@ fn one_kind(alloc: Global, kind: Kind) -> Result<Items<Kind>, AllocError>
     Ok(kinds)
 }
 
-#[tactic(auto, unfolding(kql_meaning::specs::Items::aggregate_result_kinds))]
+#[tactic(auto, unfolding(kql_meaning::specs::Results::aggregate_result_kinds))]
 fn aggregate_result_kinds(
     alloc: Global,
     f: Aggregate,
@@ -111,7 +144,7 @@ fn aggregate_result_kinds(
 }
 
 /// The types of the result columns of an expression.
-#[tactic(auto, using(crate::proofs::ColumnSteps::result_steps))]
+#[tactic(auto, using(kql_meaning::proofs::ResultLaws::result_steps))]
 pub fn result_kinds(alloc: Global, e: &BExpr, columns: &[Column]) -> Result<Items<Kind>, AllocError>
     ensures kinds { IfOk result (λ ks. ks ≡ result_kinds e.now columns.now) }
 {
@@ -182,40 +215,6 @@ pub fn items_columns(
     Ok(made)
 }
 
-// Whether an item gives a column of a name.
-#[tactic(auto, using(crate::proofs::ColumnSteps::has_steps))]
-fn has_item(items: &[BItem], name: &str) -> bool
-    ensures stands { result ≡ is_name_among (items_names items.now) name.now }
-{
-    let mut left = items;
-    'items: while let Some((item, more)) = left.split_first() {
-        if is_name_among(item.names.as_slice(), name) {
-            return true;
-        }
-        left = more;
-    }
-    false
-}
-
-// The columns that have no name of an item.
-#[tactic(auto, unfolding(kql_meaning::specs::Items::without))]
-fn without_items(
-    alloc: Global,
-    items: &[BItem],
-    columns: &[Column],
-) -> Result<Items<Column>, AllocError>
-    ensures columns { IfOk result (λ cs. cs ≡ without (items_names items.now) columns.now) }
-{
-    let mut kept = Items::with_capacity(alloc, columns.len())?;
-    for column in columns {
-        if !has_item(items, column.name.as_str()) {
-            let copy = column.copy(alloc)?;
-            kept.push(copy)?;
-        }
-    }
-    Ok(kept)
-}
-
 /// The columns of `extend`.
 #[tactic(auto, unfolding(kql_meaning::specs::Extend::extend_columns))]
 pub fn extend_columns(
@@ -225,7 +224,8 @@ pub fn extend_columns(
 ) -> Result<Items<Column>, AllocError>
     ensures columns { IfOk result (λ cs. cs ≡ extend_columns items.now columns.now) }
 {
-    let mut kept = without_items(alloc, items, columns)?;
+    let names = items_names(alloc, items)?;
+    let mut kept = without(alloc, names.as_slice(), columns)?;
     kept.append(items_columns(alloc, items, columns)?)?;
     Ok(kept)
 }
@@ -385,25 +385,6 @@ pub fn pattern_columns(alloc: Global, pattern: &[PatItem]) -> Result<Items<Colum
     Ok(made)
 }
 
-// The columns that have no name of these columns.
-#[tactic(auto, unfolding(kql_meaning::specs::Items::without, kql_meaning::specs::Tables::has_column))]
-fn without_columns(
-    alloc: Global,
-    made: &[Column],
-    columns: &[Column],
-) -> Result<Items<Column>, AllocError>
-    ensures columns { IfOk result (λ cs. cs ≡ without (names_of made.now) columns.now) }
-{
-    let mut kept = Items::with_capacity(alloc, columns.len())?;
-    for column in columns {
-        if !has_column(column.name.as_str(), made) {
-            let copy = column.copy(alloc)?;
-            kept.push(copy)?;
-        }
-    }
-    Ok(kept)
-}
-
 /// The columns of `parse`.
 #[tactic(auto, unfolding(kql_meaning::specs::Parse::parse_columns, kql_meaning::specs::Parse::pattern_names))]
 pub fn parse_columns(
@@ -414,45 +395,24 @@ pub fn parse_columns(
     ensures columns { IfOk result (λ cs. cs ≡ parse_columns parse.now columns.now) }
 {
     let made = pattern_columns(alloc, parse.pattern.as_slice())?;
-    let mut kept = without_columns(alloc, made.as_slice(), columns)?;
+    let names = names_of(alloc, made.as_slice())?;
+    let mut kept = without(alloc, names.as_slice(), columns)?;
     kept.append(made)?;
     Ok(kept)
 }
 
 // Join and union.
 
-// Whether a right key has a name.
-#[tactic(auto, unfolding(kql_meaning::specs::Tables::is_name_among))]
-fn has_right_key(on: &[OnPair], name: &str) -> bool
-    ensures stands { result ≡ is_name_among (map (λ (pair : OnPair). pair.right) on.now) name.now }
+// The names of the right keys.
+fn right_keys(alloc: Global, on: &[OnPair]) -> Result<Names, AllocError>
+    ensures names { IfOk result (λ ns. ns ≡ map (λ (pair : OnPair). pair.right) on.now) }
 {
-    let mut left = on;
-    'pairs: while let Some((pair, more)) = left.split_first() {
-        if pair.right.as_str() == name {
-            return true;
-        }
-        left = more;
+    let mut names = Items::with_capacity(alloc, on.len())?;
+    for pair in on {
+        let name = pair.right.copy(alloc)?;
+        names.push(name)?;
     }
-    false
-}
-
-// The columns that are no right keys.
-#[tactic(auto, unfolding(kql_meaning::specs::Items::without))]
-fn without_keys(
-    alloc: Global,
-    on: &[OnPair],
-    columns: &[Column],
-) -> Result<Items<Column>, AllocError>
-    ensures columns { IfOk result (λ cs. cs ≡ without (map (λ (pair : OnPair). pair.right) on.now) columns.now) }
-{
-    let mut kept = Items::with_capacity(alloc, columns.len())?;
-    for column in columns {
-        if !has_right_key(on, column.name.as_str()) {
-            let copy = column.copy(alloc)?;
-            kept.push(copy)?;
-        }
-    }
-    Ok(kept)
+    Ok(names)
 }
 
 // A name with a number at its end.
@@ -502,7 +462,7 @@ fn with_renamed(
 ) -> Result<Items<Column>, AllocError>
     ensures columns { IfOk result (λ cs. cs ≡ left.now ++ renamed (names_of left.now) right.now) }
 {
-    let mut made = clone_columns(alloc, left)?;
+    let mut made = copy_columns(alloc, left)?;
     let mut rest = right;
     'columns: while let Some((column, more)) = rest.split_first() {
         let name = free_name(alloc, made.as_slice(), column.name.as_str())?;
@@ -526,7 +486,8 @@ pub fn both_columns(
     ensures columns { IfOk result (λ cs. cs ≡ both_columns join.now left.now right.now) }
 {
     if join.lookup {
-        let shown = without_keys(alloc, join.on.as_slice(), right)?;
+        let keys = right_keys(alloc, join.on.as_slice())?;
+        let shown = without(alloc, keys.as_slice(), right)?;
         with_renamed(alloc, left, shown.as_slice())
     } else {
         with_renamed(alloc, left, right)
@@ -544,10 +505,10 @@ pub fn join_columns(
     ensures columns { IfOk result (λ cs. cs ≡ join_columns join.now.kind join.now left.now right.now) }
 {
     match join.kind {
-        JoinKind::LeftSemi => clone_columns(alloc, left),
-        JoinKind::LeftAnti => clone_columns(alloc, left),
-        JoinKind::RightSemi => clone_columns(alloc, right),
-        JoinKind::RightAnti => clone_columns(alloc, right),
+        JoinKind::LeftSemi => copy_columns(alloc, left),
+        JoinKind::LeftAnti => copy_columns(alloc, left),
+        JoinKind::RightSemi => copy_columns(alloc, right),
+        JoinKind::RightAnti => copy_columns(alloc, right),
         _ => both_columns(alloc, join, left, right),
     }
 }
@@ -560,7 +521,7 @@ fn all_in_order(alloc: Global, tables: &[Items<Column>]) -> Result<Items<Column>
     let mut all = Items::with_capacity(alloc, tables.len())?;
     let mut left = tables;
     'tables: while let Some((columns, more)) = left.split_first() {
-        let copies = clone_columns(alloc, columns.as_slice())?;
+        let copies = copy_columns(alloc, columns.as_slice())?;
         all.append(copies)?;
         left = more;
     }
@@ -629,7 +590,7 @@ pub fn union_columns(
     if inner {
         common_columns(alloc, first, others)
     } else {
-        let mut all = clone_columns(alloc, first)?;
+        let mut all = copy_columns(alloc, first)?;
         all.append(all_in_order(alloc, others)?)?;
         distinct_columns(alloc, all.as_slice())
     }
@@ -684,7 +645,7 @@ pub fn scan_columns(
 ) -> Result<Items<Column>, AllocError>
     ensures columns { IfOk result (λ cs. cs ≡ scan_columns scan.now columns.now) }
 {
-    let mut made = clone_columns(alloc, columns)?;
+    let mut made = copy_columns(alloc, columns)?;
     made.append(declared_columns(alloc, scan)?)?;
     made.append(id_columns(alloc, &scan.match_id)?)?;
     Ok(made)

@@ -6,8 +6,8 @@
 mod columns;
 
 pub use columns::{
-    both_columns, clone_columns, count_columns, declared_columns, expand_columns, extend_columns,
-    free_name, group_columns, has_column, is_name_among, items_columns, join_columns,
+    both_columns, count_columns, declared_columns, expand_columns, extend_columns, free_name,
+    group_columns, has_column, is_name_among, items_columns, items_names, join_columns, names_of,
     parse_columns, pattern_columns, range_columns, result_kinds, scan_columns, series_columns,
     union_columns,
 };

@@ -6,11 +6,11 @@ ghost use Rattle.kql_meaning.specs.FittingExpressions.{first_is_part, is_callabl
 
 use crate::literals::{first_word, is_constant_of, is_count};
 use crate::scope::{Scope, is_plain_column};
-use kql_bound::{BExpr, Link, Window};
-use kql_functions::{Func, TimeFunc};
+use kql_bound::{BExpr, Link};
+use kql_cells::Column;
+use kql_functions::{Func, TimeFunc, Window};
 use kql_meaning::{Position, kind_along, kind_down, kind_of};
 use kql_scalar_fns::{field_named, period_named};
-use kql_cells::Column;
 use std::alloc::{AllocError, Global};
 
 /// Whether columns may stand in a position outside an aggregate's arguments.

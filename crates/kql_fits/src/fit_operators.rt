@@ -5,7 +5,6 @@ ghost use Rattle.kql_meaning.specs.FittingExpressions.{scope_of};
 ghost use Rattle.kql_meaning.specs.FittingOperators.{answer_if, are_distinct, bins_fit, ends_fit, expand_fits, expand_item_fits, expand_names, group_item_fits, has_at_most, has_its_names, is_empty, is_given, is_lookup_kind, is_of_type_in, is_step_of, item_fits, items_fit, join_fits, key_item_fits, pair_fits, parse_fits, range_fits, series_fits, series_item_fits, sort_fits, sort_key_fits, summarize_fits, union_fits, where_fits};
 ghost use Rattle.kql_meaning.specs.Numbers.{count_of_terms};
 ghost use Rattle.kql_meaning.specs.Sources.{number_in};
-ghost use Rattle.kql_meaning.specs.Tables.{names_of};
 
 use crate::fit_expressions::{call_or_expr_fits, expr_fits, fits_as, is_aggregate_call};
 use crate::kind_tests::{KindTest, has_kind, is_kind, same_kind, same_known};
@@ -15,10 +14,10 @@ use kql_bound::{
     BExpr, BItem, BKey, Expand, ExpandItem, GroupPlan, JoinKind, JoinPlan, Lit, OnPair, ParsePlan,
     PatItem, SeriesItem, SeriesPlan,
 };
-use kql_columns::{has_column, is_name_among, result_kinds};
+use kql_cells::{Column, KText, Kind, Names, Value};
+use kql_columns::{has_column, is_name_among, names_of, result_kinds};
 use kql_items::Items;
 use kql_meaning::{Position, column_kind, kind_of};
-use kql_cells::{Column, KText, Kind, Names, Value};
 use std::alloc::{AllocError, Global};
 
 // Columns of an answer.
@@ -38,47 +37,29 @@ pub(crate) fn are_distinct(names: &[KText]) -> bool
     true
 }
 
-/// The names of columns.
-#[tactic(auto, unfolding(kql_meaning::specs::Tables::names_of))]
-fn names_of(alloc: Global, columns: &[Column]) -> Result<Names, AllocError>
-    ensures names { IfOk result (λ ns. ns ≡ names_of columns.now) }
-{
-    let mut names = Items::with_capacity(alloc, columns.len())?;
-    for column in columns {
-        let name = column.name.copy(alloc)?;
-        names.push(name)?;
-    }
-    Ok(names)
-}
-
+/// Whether there is none of these.
 #[tactic(auto, unfolding(kql_meaning::specs::FittingOperators::is_empty))]
-fn is_empty(columns: &[Column]) -> bool
-    ensures empty { result ≡ is_empty columns.now }
+pub(crate) fn is_empty<T>(xs: &[T]) -> bool
+    ensures empty { result ≡ is_empty xs.now }
 {
-    match columns {
+    match xs {
         [] => true,
         [_, ..] => false,
     }
 }
 
-#[tactic(auto, unfolding(kql_meaning::specs::FittingOperators::is_empty))]
-fn is_empty_pattern(pattern: &[PatItem]) -> bool
-    ensures empty { result ≡ is_empty pattern.now }
-{
-    match pattern {
-        [] => true,
-        [_, ..] => false,
-    }
-}
-
-/// The columns that an operator that fits makes, where there is one and no two have one name.
+/// The columns that an operator makes, where it fits: there is one, and no two have one name.
 #[tactic(auto, unfolding(kql_meaning::specs::FittingOperators::answer_if, kql_meaning::specs::FittingOperators::columns_if))]
-pub(crate) fn answer(
+pub(crate) fn answer_if(
     alloc: Global,
+    fits: bool,
     columns: Items<Column>,
 ) -> Result<Option<Items<Column>>, AllocError>
-    ensures columns { IfOk result (λ o. o ≡ answer_if true columns) }
+    ensures columns { IfOk result (λ o. o ≡ answer_if fits columns) }
 {
+    if !fits {
+        return Ok(None);
+    }
     if is_empty(columns.as_slice()) {
         return Ok(None);
     }
@@ -505,7 +486,7 @@ pub(crate) fn parse_fits(
     )? {
         return Ok(false);
     }
-    Ok(!is_empty_pattern(parse.pattern.as_slice()))
+    Ok(!is_empty(parse.pattern.as_slice()))
 }
 
 // Join and union.

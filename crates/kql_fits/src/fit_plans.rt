@@ -14,7 +14,7 @@ ghost use Rattle.kql_meaning.specs.TakeAndCount.{count_columns};
 ghost use Rattle.kql_meaning.specs.declared.position.Position.TheVariants as position;
 
 use crate::fit_operators::{
-    answer, expand_fits, items_fit, join_fits, parse_fits, range_fits, series_fits, sort_fits,
+    answer_if, expand_fits, items_fit, join_fits, parse_fits, range_fits, series_fits, sort_fits,
     summarize_fits, union_fits, where_fits,
 };
 use crate::fit_scan::scan_fits;
@@ -23,13 +23,13 @@ use kql_bound::{
     BExpr, BItem, BKey, Expand, GroupPlan, JoinPlan, Lit, Op, ParsePlan, Plan, ScanPlan,
     SeriesPlan, Source,
 };
+use kql_cells::{Column, KText, NamedSchema, copy_columns};
 use kql_columns::{
-    clone_columns, count_columns, expand_columns, extend_columns, group_columns, items_columns,
-    join_columns, parse_columns, range_columns, scan_columns, series_columns, union_columns,
+    count_columns, expand_columns, extend_columns, group_columns, items_columns, join_columns,
+    parse_columns, range_columns, scan_columns, series_columns, union_columns,
 };
 use kql_items::Items;
 use kql_meaning::{Position, column_kind};
-use kql_cells::{Column, KText, NamedSchema};
 use std::alloc::{AllocError, Global};
 
 // Sources.
@@ -46,7 +46,7 @@ pub(crate) fn table_columns(
     let mut left = tables;
     'tables: while let Some((named, more)) = left.split_first() {
         if named.name.as_str() == name {
-            let columns = clone_columns(alloc, named.schema.columns())?;
+            let columns = copy_columns(alloc, named.schema.columns())?;
             return Ok(Some(columns));
         }
         left = more;
@@ -64,13 +64,12 @@ fn let_columns(
     match lets.get(at) {
         None => Ok(None),
         Some(columns) => {
-            let columns = clone_columns(alloc, columns.as_slice())?;
+            let columns = copy_columns(alloc, columns.as_slice())?;
             Ok(Some(columns))
         }
     }
 }
 
-#[tactic(auto, using(crate::proofs::FitsSteps::answer_steps))]
 fn ranged(
     alloc: Global,
     column: &KText,
@@ -80,12 +79,8 @@ fn ranged(
 ) -> Result<Option<Items<Column>>, AllocError>
     ensures columns { IfOk result (λ o. o ≡ answer_if (range_fits from.now to.now step.now) (range_columns column.now from.now)) }
 {
-    if range_fits(from, to, step) {
-        let made = range_columns(alloc, column, from)?;
-        answer(alloc, made)
-    } else {
-        Ok(None)
-    }
+    let fits = range_fits(from, to, step);
+    answer_if(alloc, fits, range_columns(alloc, column, from)?)
 }
 
 #[tactic(auto, unfolding(kql_meaning::specs::Fits::source_columns))]
@@ -112,7 +107,6 @@ fn source_columns(
 
 // Operators.
 
-#[tactic(auto, using(crate::proofs::FitsSteps::answer_steps))]
 fn projected(
     alloc: Global,
     items: &[BItem],
@@ -121,15 +115,10 @@ fn projected(
 ) -> Result<Option<Items<Column>>, AllocError>
     ensures columns { IfOk result (λ o. o ≡ answer_if (items_fit items.now columns.now at) (items_columns items.now columns.now)) }
 {
-    if items_fit(alloc, items, columns, at)? {
-        let made = items_columns(alloc, items, columns)?;
-        answer(alloc, made)
-    } else {
-        Ok(None)
-    }
+    let fits = items_fit(alloc, items, columns, at)?;
+    answer_if(alloc, fits, items_columns(alloc, items, columns)?)
 }
 
-#[tactic(auto, using(crate::proofs::FitsSteps::answer_steps))]
 fn extended(
     alloc: Global,
     items: &[BItem],
@@ -137,15 +126,10 @@ fn extended(
 ) -> Result<Option<Items<Column>>, AllocError>
     ensures columns { IfOk result (λ o. o ≡ answer_if (items_fit items.now columns.now position.Window) (extend_columns items.now columns.now)) }
 {
-    if items_fit(alloc, items, columns, Position::Window)? {
-        let made = extend_columns(alloc, items, columns)?;
-        answer(alloc, made)
-    } else {
-        Ok(None)
-    }
+    let fits = items_fit(alloc, items, columns, Position::Window)?;
+    answer_if(alloc, fits, extend_columns(alloc, items, columns)?)
 }
 
-#[tactic(auto, using(crate::proofs::FitsSteps::answer_steps))]
 fn summarized(
     alloc: Global,
     group: &GroupPlan,
@@ -153,15 +137,10 @@ fn summarized(
 ) -> Result<Option<Items<Column>>, AllocError>
     ensures columns { IfOk result (λ o. o ≡ answer_if (summarize_fits group.now columns.now) (group_columns group.now columns.now)) }
 {
-    if summarize_fits(alloc, group, columns)? {
-        let made = group_columns(alloc, group, columns)?;
-        answer(alloc, made)
-    } else {
-        Ok(None)
-    }
+    let fits = summarize_fits(alloc, group, columns)?;
+    answer_if(alloc, fits, group_columns(alloc, group, columns)?)
 }
 
-#[tactic(auto, using(crate::proofs::FitsSteps::answer_steps))]
 fn as_series(
     alloc: Global,
     series: &SeriesPlan,
@@ -169,15 +148,10 @@ fn as_series(
 ) -> Result<Option<Items<Column>>, AllocError>
     ensures columns { IfOk result (λ o. o ≡ answer_if (series_fits series.now columns.now) (series_columns series.now columns.now)) }
 {
-    if series_fits(alloc, series, columns)? {
-        let made = series_columns(alloc, series, columns)?;
-        answer(alloc, made)
-    } else {
-        Ok(None)
-    }
+    let fits = series_fits(alloc, series, columns)?;
+    answer_if(alloc, fits, series_columns(alloc, series, columns)?)
 }
 
-#[tactic(auto, using(crate::proofs::FitsSteps::answer_steps))]
 fn expanded(
     alloc: Global,
     expand: &Expand,
@@ -185,15 +159,10 @@ fn expanded(
 ) -> Result<Option<Items<Column>>, AllocError>
     ensures columns { IfOk result (λ o. o ≡ answer_if (expand_fits expand.now columns.now) (expand_columns expand.now columns.now)) }
 {
-    if expand_fits(alloc, expand, columns)? {
-        let made = expand_columns(alloc, expand, columns)?;
-        answer(alloc, made)
-    } else {
-        Ok(None)
-    }
+    let fits = expand_fits(alloc, expand, columns)?;
+    answer_if(alloc, fits, expand_columns(alloc, expand, columns)?)
 }
 
-#[tactic(auto, using(crate::proofs::FitsSteps::answer_steps))]
 fn parsed(
     alloc: Global,
     parse: &ParsePlan,
@@ -201,15 +170,10 @@ fn parsed(
 ) -> Result<Option<Items<Column>>, AllocError>
     ensures columns { IfOk result (λ o. o ≡ answer_if (parse_fits parse.now columns.now) (parse_columns parse.now columns.now)) }
 {
-    if parse_fits(alloc, parse, columns)? {
-        let made = parse_columns(alloc, parse, columns)?;
-        answer(alloc, made)
-    } else {
-        Ok(None)
-    }
+    let fits = parse_fits(alloc, parse, columns)?;
+    answer_if(alloc, fits, parse_columns(alloc, parse, columns)?)
 }
 
-#[tactic(auto, using(crate::proofs::FitsSteps::answer_steps))]
 fn scanned(
     alloc: Global,
     scan: &ScanPlan,
@@ -217,18 +181,14 @@ fn scanned(
 ) -> Result<Option<Items<Column>>, AllocError>
     ensures columns { IfOk result (λ o. o ≡ answer_if (scan_fits scan.now columns.now) (scan_columns scan.now columns.now)) }
 {
-    if scan_fits(alloc, scan, columns)? {
-        let made = scan_columns(alloc, scan, columns)?;
-        answer(alloc, made)
-    } else {
-        Ok(None)
-    }
+    let fits = scan_fits(alloc, scan, columns)?;
+    answer_if(alloc, fits, scan_columns(alloc, scan, columns)?)
 }
 
 fn kept(alloc: Global, columns: &[Column]) -> Result<Option<Items<Column>>, AllocError>
     ensures columns { IfOk result (λ o. o ≡ Some columns.now) }
 {
-    let columns = clone_columns(alloc, columns)?;
+    let columns = copy_columns(alloc, columns)?;
     Ok(Some(columns))
 }
 
@@ -269,7 +229,7 @@ fn counted(alloc: Global) -> Result<Option<Items<Column>>, AllocError>
     Ok(Some(columns))
 }
 
-#[tactic(auto, using(crate::proofs::FitsSteps::answer_steps), unfolding(kql_meaning::specs::Fits::joined_columns))]
+#[tactic(auto, unfolding(kql_meaning::specs::Fits::joined_columns))]
 fn joined(
     alloc: Global,
     join: &JoinPlan,
@@ -281,15 +241,15 @@ fn joined(
     let Some(right) = right else {
         return Ok(None);
     };
-    if join_fits(join, left, right.as_slice()) {
-        let made = join_columns(alloc, join, left, right.as_slice())?;
-        answer(alloc, made)
-    } else {
-        Ok(None)
-    }
+    let fits = join_fits(join, left, right.as_slice());
+    answer_if(
+        alloc,
+        fits,
+        join_columns(alloc, join, left, right.as_slice())?,
+    )
 }
 
-#[tactic(auto, using(crate::proofs::FitsSteps::answer_steps), unfolding(kql_meaning::specs::Fits::united_columns))]
+#[tactic(auto, unfolding(kql_meaning::specs::Fits::united_columns))]
 fn united(
     alloc: Global,
     inner: bool,
@@ -302,16 +262,13 @@ fn united(
         return Ok(None);
     };
     let made = union_columns(alloc, inner, first, others.as_slice())?;
-    if union_fits(made.as_slice(), first, others.as_slice()) {
-        answer(alloc, made)
-    } else {
-        Ok(None)
-    }
+    let fits = union_fits(made.as_slice(), first, others.as_slice());
+    answer_if(alloc, fits, made)
 }
 
 // The columns that an operator makes.
 #[cycle(plan_columns)]
-#[tactic(auto, using(crate::proofs::FitsSteps::op_steps))]
+#[tactic(auto, using(kql_meaning::proofs::OperatorFitLaws::op_steps))]
 fn op_columns(
     alloc: Global,
     op: &Op,
@@ -364,7 +321,7 @@ fn op_columns(
 
 // The columns after operators, one after another.
 #[cycle(plan_columns)]
-#[tactic(auto, using(crate::proofs::FitsSteps::ops_steps))]
+#[tactic(auto, using(kql_meaning::proofs::OperatorFitLaws::ops_steps))]
 fn ops_columns(
     alloc: Global,
     ops: &[Op],
@@ -375,7 +332,7 @@ fn ops_columns(
 ) -> Result<Option<Items<Column>>, AllocError>
     ensures columns { IfOk result (λ o. o ≡ ops_columns ops.now (known_of tables.now lets.now) inside columns.now) }
 {
-    let mut made = clone_columns(alloc, columns)?;
+    let mut made = copy_columns(alloc, columns)?;
     for op in ops {
         let Some(next) = op_columns(alloc, op, tables, lets, inside, made.as_slice())? else {
             return Ok(None);
@@ -387,7 +344,7 @@ fn ops_columns(
 
 // The columns of several plans, where all of them fit.
 #[cycle(plan_columns)]
-#[tactic(auto, using(crate::proofs::FitsSteps::plans_steps))]
+#[tactic(auto, using(kql_meaning::proofs::OperatorFitLaws::plans_steps))]
 fn plans_columns(
     alloc: Global,
     plans: &[Plan],
@@ -408,7 +365,7 @@ fn plans_columns(
 
 /// The columns of a plan that fits.
 #[cycle(plan_columns)]
-#[tactic(auto, using(crate::proofs::FitsSteps::plan_steps))]
+#[tactic(auto, using(kql_meaning::proofs::OperatorFitLaws::plan_steps))]
 pub(crate) fn plan_columns(
     alloc: Global,
     plan: &Plan,

@@ -5,8 +5,8 @@ ghost use Rattle.kql_meaning.specs.Fits.{fits, has_columns, lets_columns, progra
 use crate::fit_plans::{plan_columns, table_columns};
 use crate::kind_tests::same_kind;
 use kql_bound::{Plan, Program};
-use kql_items::Items;
 use kql_cells::{Column, NamedSchema, Schemas};
+use kql_items::Items;
 use std::alloc::{AllocError, Global};
 
 /// Whether a program fits these schemas: its tables stand there with exactly its columns, and each operator fits the columns of the
@@ -36,7 +36,7 @@ fn program_columns(alloc: Global, p: &Program) -> Result<Option<Items<Column>>, 
 }
 
 // The columns of the lets, each of which may name those before it.
-#[tactic(auto, using(crate::proofs::FitsSteps::lets_steps))]
+#[tactic(auto, using(kql_meaning::proofs::OperatorFitLaws::lets_steps))]
 fn lets_columns(
     alloc: Global,
     lets: &[Plan],

@@ -1,36 +1,24 @@
 //! Whether a scan fits the columns of the table before it.
 ghost use Rattle.std.specs.Prelude.{◌≡◌, IfOk};
 ghost use Rattle.std.specs.List.{list_all};
-ghost use Rattle.kql_meaning.specs.FittingOperators.{assigns_one, defaults_fit, is_empty, scan_fits, scan_step_fits, set_fits, step_names};
-ghost use Rattle.kql_meaning.specs.Items.{items_names};
+ghost use Rattle.kql_meaning.specs.FittingOperators.{assigns_one, defaults_fit, scan_fits, scan_step_fits, set_fits, step_names};
 ghost use Rattle.kql_meaning.specs.Scan.{defaults_of};
 ghost use Rattle.kql_meaning.specs.Tables.{absent_row};
 ghost use Rattle.kql_meaning.specs.Values.{absent};
 
 use crate::fit_expressions::{expr_fits, fits_as};
-use crate::fit_operators::are_distinct;
+use crate::fit_operators::{are_distinct, is_empty};
 use crate::kind_tests::{KindTest, same_known};
 use crate::literals::literal_fits;
 use crate::scope::Scope;
 use kql_bound::{BExpr, BItem, Decl, ScanPlan, ScanStep};
-use kql_columns::{clone_columns, declared_columns};
+use kql_cells::{Column, KText, Kind, Names, Value, Values, copy_columns};
+use kql_columns::{declared_columns, items_names};
 use kql_items::Items;
 use kql_meaning::{Position, column_kind, kind_of};
-use kql_cells::{Column, KText, Kind, Names, Value, Values};
 use std::alloc::{AllocError, Global};
 
-// Copies of names and values.
-
-fn clone_names(alloc: Global, names: &[KText]) -> Result<Names, AllocError>
-    ensures same { IfOk result (λ c. c ≡ names.now) }
-{
-    let mut copies = Items::with_capacity(alloc, names.len())?;
-    for name in names {
-        let copy = name.copy(alloc)?;
-        copies.push(copy)?;
-    }
-    Ok(copies)
-}
+// Names and values.
 
 #[tactic(auto, unfolding(kql_meaning::specs::FittingOperators::step_names))]
 fn step_names(alloc: Global, steps: &[ScanStep]) -> Result<Names, AllocError>
@@ -40,18 +28,6 @@ fn step_names(alloc: Global, steps: &[ScanStep]) -> Result<Names, AllocError>
     for step in steps {
         let name = step.name.copy(alloc)?;
         names.push(name)?;
-    }
-    Ok(names)
-}
-
-#[tactic(auto, unfolding(kql_meaning::specs::Items::items_names))]
-fn set_names(alloc: Global, sets: &[BItem]) -> Result<Names, AllocError>
-    ensures names { IfOk result (λ ns. ns ≡ items_names sets.now) }
-{
-    let mut names = Items::with_capacity(alloc, sets.len())?;
-    for set in sets {
-        let more = clone_names(alloc, set.names.as_slice())?;
-        names.append(more)?;
     }
     Ok(names)
 }
@@ -96,16 +72,6 @@ fn defaults_of(alloc: Global, declared: &[Decl]) -> Result<Values, AllocError>
 }
 
 // Steps.
-
-#[tactic(auto, unfolding(kql_meaning::specs::FittingOperators::is_empty))]
-fn is_empty(names: &[KText]) -> bool
-    ensures empty { result ≡ is_empty names.now }
-{
-    match names {
-        [] => true,
-        [_, ..] => false,
-    }
-}
 
 #[tactic(auto, unfolding(kql_meaning::specs::FittingOperators::assigns_one))]
 fn assigns_one(
@@ -181,7 +147,7 @@ fn scan_step_fits(
     if !sets_fit(alloc, step.sets.as_slice(), declared, scope)? {
         return Ok(false);
     }
-    let names = set_names(alloc, step.sets.as_slice())?;
+    let names = items_names(alloc, step.sets.as_slice())?;
     Ok(are_distinct(names.as_slice()))
 }
 
@@ -234,8 +200,8 @@ pub(crate) fn scan_fits(
         return Ok(false);
     }
     let declared = declared_columns(alloc, scan)?;
-    let mut all = clone_columns(alloc, columns)?;
-    all.append(clone_columns(alloc, declared.as_slice())?)?;
+    let mut all = copy_columns(alloc, columns)?;
+    all.append(copy_columns(alloc, declared.as_slice())?)?;
     let mut defaults = absent_row(alloc, columns)?;
     defaults.append(defaults_of(alloc, scan.declared.as_slice())?)?;
     let scope = Scope {

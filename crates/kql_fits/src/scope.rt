@@ -7,8 +7,8 @@ ghost use Rattle.kql_meaning.specs.Values.{same_key};
 use crate::kind_tests::same_kind;
 use crate::literals::literal_fits;
 use kql_bound::{BExpr, StepColumn};
-use kql_columns::has_column;
 use kql_cells::{Column, KText, Kind, Value};
+use kql_columns::has_column;
 use std::marker::Model;
 
 /// What an expression may read: columns, and in scan the steps by name with what each column of an absent record gives.
@@ -43,7 +43,7 @@ pub(crate) fn scope_of(columns: &[Column]) -> Scope<'_>
 }
 
 // The name of the column that an expression is.
-#[tactic(auto, using(crate::proofs::FitSteps::column_steps))]
+#[tactic(auto, using(kql_meaning::proofs::ExpressionFitLaws::column_steps))]
 fn column_of(e: &BExpr) -> Option<&str>
     ensures column { option_copied result ≡ column_of e.now }
 {

@@ -1,9 +1,9 @@
 //! Small programs, and whether each fits.
-use kql_bound::{BExpr, BItem, ChainSign, Items, Link, Lit, Op, Plan, Program, Source};
+use kql_bound::{BExpr, BItem, BItems, ChainSign, Link, Lit, Op, Plan, Program, Source};
+use kql_cells::{Column, KText, Kind, NamedSchema, Schema, Schemas, Value};
 use kql_fits::fits;
 use kql_functions::{ComparisonFunc, Func};
-use kql_items::{Boxed, Items as List};
-use kql_cells::{Column, KText, Kind, NamedSchema, Schema, Schemas, Value};
+use kql_items::{Boxed, Items};
 use std::alloc::{AllocError, Global};
 use std::test::Fail;
 
@@ -22,13 +22,13 @@ fn text(alloc: Global, t: &str) -> Result<KText, AllocError> {
     KText::from_str(alloc, t)
 }
 
-fn one<T: Drop>(alloc: Global, x: T) -> Result<List<T>, AllocError> {
-    let mut list = List::new(alloc);
+fn one<T: Drop>(alloc: Global, x: T) -> Result<Items<T>, AllocError> {
+    let mut list = Items::new(alloc);
     list.push(x)?;
     Ok(list)
 }
 
-fn two<T: Drop>(alloc: Global, x: T, y: T) -> Result<List<T>, AllocError> {
+fn two<T: Drop>(alloc: Global, x: T, y: T) -> Result<Items<T>, AllocError> {
     let mut list = one(alloc, x)?;
     list.push(y)?;
     Ok(list)
@@ -75,7 +75,7 @@ fn item(alloc: Global, name: &str, expr: BExpr) -> Result<BItem, AllocError> {
     Ok(BItem { names, expr })
 }
 
-fn items(alloc: Global, name: &str, expr: BExpr) -> Result<Items, AllocError> {
+fn items(alloc: Global, name: &str, expr: BExpr) -> Result<BItems, AllocError> {
     one(alloc, item(alloc, name, expr)?)
 }
 
@@ -84,7 +84,7 @@ fn table(alloc: Global, name: &str) -> Result<Source, AllocError> {
 }
 
 // The table A and operators.
-fn plan(alloc: Global, ops: List<Op>) -> Result<Plan, AllocError> {
+fn plan(alloc: Global, ops: Items<Op>) -> Result<Plan, AllocError> {
     let source = table(alloc, "A")?;
     Ok(Plan { source, ops })
 }
@@ -112,7 +112,7 @@ fn tables(alloc: Global) -> Result<Schemas, AllocError> {
 
 fn program(alloc: Global, main: Plan) -> Result<Program, AllocError> {
     let tables = tables(alloc)?;
-    let lets = List::new(alloc);
+    let lets = Items::new(alloc);
     Ok(Program { tables, lets, main })
 }
 
@@ -124,7 +124,7 @@ fn plan_fits(alloc: Global, main: Plan) -> Result<bool, AllocError> {
 }
 
 // Whether operators fit the table A.
-fn ops_fit(alloc: Global, ops: List<Op>) -> Result<bool, AllocError> {
+fn ops_fit(alloc: Global, ops: Items<Op>) -> Result<bool, AllocError> {
     plan_fits(alloc, plan(alloc, ops)?)
 }
 

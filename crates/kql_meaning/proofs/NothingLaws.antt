@@ -12,7 +12,7 @@ use Rattle.kql_cells.proofs.LevelLaws.{levels-Array}
 use Rattle.kql_dynamic.proofs.FormLaws.{null-Array}
 use Rattle.kql_ticks.specs.Ranges.{fit}
 use Rattle.kql_scalar_fns.specs.Choice.{greatest, least}
-use Rattle.kql_bound.specs.declared.expr.Aggregate.TheVariants as aggregate
+use Rattle.kql_functions.specs.declared.aggregate.Aggregate.TheVariants as aggregate
 use Rattle.kql_meaning.specs.Aggregates.{aggregated, all_values, combined, distinct_given, first_of, given, listed, values_where}
 use Rattle.kql_meaning.specs.Laws.{no_rows}
 use Rattle.kql_meaning.specs.LawsOfNothing.{AbsentWithoutRow, AggregatesOfNothing, of_nothing, zero_of}

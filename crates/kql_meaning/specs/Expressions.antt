@@ -10,15 +10,15 @@ use Rattle.kql_functions.specs.declared.func.Func.{Func}
 use Rattle.kql_functions.specs.declared.func.Func.TheVariants as func
 use Rattle.kql_scalar_fns.specs.Applied.{applied}
 use Rattle.kql_functions.specs.Kinds.{result_kind}
-use Rattle.kql_bound.specs.Words.{sign_func}
-use Rattle.kql_bound.specs.declared.expr.Aggregate.{Aggregate}
-use Rattle.kql_bound.specs.declared.expr.Aggregate.TheVariants as aggregate
+use Rattle.kql_bound.specs.Signs.{sign_func}
+use Rattle.kql_functions.specs.declared.aggregate.Aggregate.{Aggregate}
+use Rattle.kql_functions.specs.declared.aggregate.Aggregate.TheVariants as aggregate
 use Rattle.kql_bound.specs.declared.expr.BExpr.{BExpr, fold-BExpr}
 use Rattle.kql_bound.specs.declared.expr.BExpr.TheOpen.{BExpr-F}
 use Rattle.kql_bound.specs.declared.expr.ChainSign.{ChainSign}
 use Rattle.kql_bound.specs.declared.expr.StepColumn.{StepColumn}
-use Rattle.kql_bound.specs.declared.expr.Window.{Window}
-use Rattle.kql_bound.specs.declared.expr.Window.TheVariants as window
+use Rattle.kql_functions.specs.declared.window.Window.{Window}
+use Rattle.kql_functions.specs.declared.window.Window.TheVariants as window
 use Rattle.kql_meaning.specs.Aggregates.{aggregated}
 use Rattle.kql_meaning.specs.Readings.{Reading, Records, kinds_of, values_at}
 use Rattle.kql_meaning.specs.Tables.{cell}

@@ -8,8 +8,8 @@ use Rattle.kql_cells.specs.declared.value.Kind.{Kind}
 use Rattle.kql_cells.specs.declared.value.Kind.TheVariants as kind
 use Rattle.kql_cells.specs.declared.value.Value.{Value}
 use Rattle.kql_cells.specs.declared.value.Value.TheVariants as value
-use Rattle.kql_bound.specs.declared.expr.Aggregate.{Aggregate}
-use Rattle.kql_bound.specs.declared.expr.Aggregate.TheVariants as aggregate
+use Rattle.kql_functions.specs.declared.aggregate.Aggregate.{Aggregate}
+use Rattle.kql_functions.specs.declared.aggregate.Aggregate.TheVariants as aggregate
 use Rattle.kql_meaning.specs.Aggregates.{aggregated}
 use Rattle.kql_meaning.specs.Laws.{no_rows}
 use Rattle.kql_meaning.specs.Readings.{Reading, Records, reading_at}

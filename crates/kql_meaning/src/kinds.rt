@@ -1,17 +1,17 @@
 //! The types of expressions.
 ghost use Rattle.std.specs.Prelude.{◌≡◌, ◌∷◌, [], IfOk};
-ghost use Rattle.kql_bound.specs.Words.{sign_func};
+ghost use Rattle.kql_bound.specs.Signs.{sign_func};
 ghost use Rattle.kql_meaning.specs.Expressions.{aggregate_kind, all_known, call_kind, column_kind, first_kind, kind_along, kind_down, kind_of, kinds_in, window_kind};
 
-use kql_bound::{Aggregate, BExpr, ChainSign, Link, Window};
-use kql_functions::{ArithmeticFunc, DynamicFunc, Func, result_kind};
-use kql_items::Items;
+use kql_bound::{BExpr, ChainSign, Link};
 use kql_cells::{Column, Kind};
+use kql_functions::{Aggregate, ArithmeticFunc, DynamicFunc, Func, Window, result_kind};
+use kql_items::Items;
 use std::alloc::{AllocError, Global};
 
 /// The type of an expression over these columns, or none where it has none.
 #[cycle(kind_of)]
-#[tactic(auto, using(crate::proofs::KindSteps::kind_steps))]
+#[tactic(auto, using(crate::proofs::KindLaws::kind_steps))]
 pub fn kind_of(alloc: Global, e: &BExpr, columns: &[Column]) -> Result<Option<Kind>, AllocError>
     ensures kind { IfOk result (λ k. k ≡ kind_of e.now columns.now) }
 {
@@ -52,7 +52,7 @@ pub fn kind_of_call(
 
 // The types of all arguments, where each has one.
 #[cycle(kind_of)]
-#[tactic(auto, using(crate::proofs::KindSteps::known_steps))]
+#[tactic(auto, using(crate::proofs::KindLaws::known_steps))]
 fn known_kinds(
     alloc: Global,
     args: &[BExpr],
@@ -72,7 +72,7 @@ fn known_kinds(
 
 /// The type of a chain whose first part has this type.
 #[cycle(kind_of)]
-#[tactic(auto, using(crate::proofs::KindSteps::along_steps))]
+#[tactic(auto, using(crate::proofs::KindLaws::along_steps))]
 pub fn kind_along(
     alloc: Global,
     links: &[Link],
@@ -91,7 +91,7 @@ pub fn kind_along(
 
 /// The type of a path into a value of this type.
 #[cycle(kind_of)]
-#[tactic(auto, using(crate::proofs::KindSteps::down_steps))]
+#[tactic(auto, using(crate::proofs::KindLaws::down_steps))]
 pub fn kind_down(
     alloc: Global,
     steps: &[BExpr],
@@ -177,7 +177,7 @@ fn kind_of_two(f: Func, a: Option<Kind>, b: Option<Kind>) -> Option<Kind>
     }
 }
 
-#[tactic(auto, unfolding(kql_bound::specs::Words::sign_func))]
+#[tactic(auto, unfolding(kql_bound::specs::Signs::sign_func))]
 fn sign_func(sign: ChainSign) -> Func
     ensures func { result ≡ sign_func sign }
 {

@@ -1,9 +1,9 @@
 //! Builders that take the results of the builders of their parts: so a sample is one expression, and only a builder lets parts go.
 use super::{is, item, items, one, text, two};
-use kql_bound::{Aggregate, BExpr, BItem, Exprs, Items, Lit, Op, Window};
-use kql_functions::{DynamicFunc, Func};
-use kql_items::{Boxed, Items as List};
+use kql_bound::{BExpr, BItem, BItems, Exprs, Lit, Op};
 use kql_cells::{Kind, Value};
+use kql_functions::{Aggregate, DynamicFunc, Func, Window};
+use kql_items::{Boxed, Items};
 use std::alloc::{AllocError, Global};
 
 pub(super) type Made<T> = Result<T, AllocError>;
@@ -14,20 +14,20 @@ pub(super) fn both<A: Drop, B: Drop>(a: Made<A>, b: Made<B>) -> Made<(A, B)> {
     Ok((a, b))
 }
 
-pub(super) fn none<T>(alloc: Global) -> Made<List<T>> {
-    Ok(List::new(alloc))
+pub(super) fn none<T>(alloc: Global) -> Made<Items<T>> {
+    Ok(Items::new(alloc))
 }
 
-pub(super) fn list_of_one<T: Drop>(alloc: Global, x: Made<T>) -> Made<List<T>> {
+pub(super) fn list_of_one<T: Drop>(alloc: Global, x: Made<T>) -> Made<Items<T>> {
     one(alloc, x?)
 }
 
-pub(super) fn list_of_two<T: Drop>(alloc: Global, x: Made<T>, y: Made<T>) -> Made<List<T>> {
+pub(super) fn list_of_two<T: Drop>(alloc: Global, x: Made<T>, y: Made<T>) -> Made<Items<T>> {
     let (x, y) = both(x, y)?;
     two(alloc, x, y)
 }
 
-pub(super) fn with_last<T: Drop>(list: Made<List<T>>, x: Made<T>) -> Made<List<T>> {
+pub(super) fn with_last<T: Drop>(list: Made<Items<T>>, x: Made<T>) -> Made<Items<T>> {
     let (mut list, x) = both(list, x)?;
     list.push(x)?;
     Ok(list)
@@ -78,11 +78,11 @@ pub(super) fn made_item(alloc: Global, name: &str, e: Made<BExpr>) -> Made<BItem
     item(alloc, name, e?)
 }
 
-pub(super) fn set(alloc: Global, name: &str, e: Made<BExpr>) -> Made<Items> {
+pub(super) fn set(alloc: Global, name: &str, e: Made<BExpr>) -> Made<BItems> {
     items(alloc, name, e?)
 }
 
 // `extend` by items
-pub(super) fn extended(items: Made<Items>) -> Made<Op> {
+pub(super) fn extended(items: Made<BItems>) -> Made<Op> {
     Ok(Op::Extend(items?))
 }

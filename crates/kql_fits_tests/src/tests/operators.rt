@@ -1,7 +1,8 @@
 //! Operators over the table A with one column k, a long.
 use super::{column, is, item, items, number, one, op_fits, ops_fit, string, sum, two};
-use kql_bound::{Aggregate, BExpr, GroupPlan, Items, Op};
-use kql_items::Items as List;
+use kql_bound::{BExpr, BItems, GroupPlan, Op};
+use kql_functions::Aggregate;
+use kql_items::Items;
 use std::alloc::{AllocError, Global};
 use std::test::Fail;
 
@@ -24,7 +25,7 @@ fn sum_of_k(alloc: Global) -> Result<BExpr, AllocError> {
 }
 
 // Twice the column k under these names.
-fn twice(alloc: Global, first: &str, second: &str) -> Result<Items, AllocError> {
+fn twice(alloc: Global, first: &str, second: &str) -> Result<BItems, AllocError> {
     let k = item(alloc, first, column(alloc, "k")?)?;
     two(alloc, k, item(alloc, second, column(alloc, "k")?)?)
 }
@@ -40,7 +41,7 @@ fn operator(alloc: Global, i: usize) -> Result<Op, AllocError> {
     match i {
         0 => Ok(Op::Project(twice(alloc, "a", "b")?)),
         1 => Ok(Op::Project(twice(alloc, "a", "a")?)),
-        2 => Ok(Op::Project(List::new(alloc))),
+        2 => Ok(Op::Project(Items::new(alloc))),
         3 => group(alloc, sum_of_k(alloc)?),
         _ => group(alloc, column(alloc, "k")?),
     }
@@ -49,7 +50,7 @@ fn operator(alloc: Global, i: usize) -> Result<Op, AllocError> {
 const OPERATORS: [bool; 5] = [true, false, false, true, false];
 
 // `extend z = k + 1`, and then a filter on a column
-fn extended(alloc: Global, name: &str) -> Result<List<Op>, AllocError> {
+fn extended(alloc: Global, name: &str) -> Result<Items<Op>, AllocError> {
     let z = items(alloc, "z", sum(alloc, "k", number(1))?)?;
     two(alloc, Op::Extend(z), Op::Where(is(alloc, name, number(1))?))
 }

@@ -1,7 +1,8 @@
 //! Orders, and what every table fits.
 use super::builders::{Made, aggregate, list_of_one, list_of_two, window};
 use super::column;
-use kql_bound::{Aggregate, BExpr, BKey, Keys, Op, Window};
+use kql_bound::{BExpr, BKey, Keys, Op};
+use kql_functions::{Aggregate, Window};
 use std::alloc::Global;
 
 fn key(e: Made<BExpr>) -> Made<BKey> {

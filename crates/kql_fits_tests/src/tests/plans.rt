@@ -4,7 +4,7 @@ use super::{
 };
 use kql_bound::{JoinKind, JoinPlan, OnPair, Op, Plan, Source};
 use kql_fits::fits;
-use kql_items::Items as List;
+use kql_items::Items;
 use std::alloc::{AllocError, Global};
 use std::test::Fail;
 
@@ -16,20 +16,20 @@ fn range(alloc: Global, from: i64) -> Result<Plan, AllocError> {
         to: long(1_000_000),
         step: long(1),
     };
-    let ops = List::new(alloc);
+    let ops = Items::new(alloc);
     Ok(Plan { source, ops })
 }
 
 // `print` of a column of a text
 fn printed(alloc: Global, name: &str) -> Result<Plan, AllocError> {
     let source = Source::Print(items(alloc, name, string(alloc, "x")?)?);
-    let ops = List::new(alloc);
+    let ops = Items::new(alloc);
     Ok(Plan { source, ops })
 }
 
 fn named(alloc: Global, name: &str) -> Result<Plan, AllocError> {
     let source = table(alloc, name)?;
-    let ops = List::new(alloc);
+    let ops = Items::new(alloc);
     Ok(Plan { source, ops })
 }
 
@@ -50,7 +50,7 @@ fn join(alloc: Global, kind: JoinKind, lookup: bool, right: &str) -> Result<Op, 
     let left = text(alloc, "k")?;
     let right = text(alloc, right)?;
     let on = one(alloc, OnPair { left, right })?;
-    let other = plan(alloc, List::new(alloc))?;
+    let other = plan(alloc, Items::new(alloc))?;
     Ok(Op::Join(JoinPlan { kind, lookup, on }, other))
 }
 
@@ -84,7 +84,7 @@ const OPERATORS: [bool; 9] = [true, false, true, false, true, false, true, false
 // The let of a number, where there is one let.
 fn with_let(alloc: Global, at: usize) -> Result<bool, AllocError> {
     let source = Source::Let(at);
-    let ops = List::new(alloc);
+    let ops = Items::new(alloc);
     let mut p = program(alloc, Plan { source, ops })?;
     p.lets.push(named(alloc, "A")?)?;
     let schemas = tables(alloc)?;

@@ -2,9 +2,10 @@
 use super::builders::{Made, both, is_k, list_of_one, list_of_two, made_item, none, set, window};
 use super::{column, is, number, string, text};
 use kql_bound::{
-    BExpr, Decl, Decls, Items, Lit, Op, Output, ScanPlan, ScanStep, ScanSteps, StepColumn, Window,
+    BExpr, BItems, Decl, Decls, Lit, Op, Output, ScanPlan, ScanStep, ScanSteps, StepColumn,
 };
 use kql_cells::{KText, Kind, Value};
+use kql_functions::Window;
 use std::alloc::Global;
 
 // A declared column with the default 0.
@@ -21,7 +22,7 @@ fn n(alloc: Global) -> Made<Decls> {
     list_of_one(alloc, declared(alloc, "n", Kind::Long))
 }
 
-fn step(alloc: Global, name: &str, condition: Made<BExpr>, sets: Made<Items>) -> Made<ScanStep> {
+fn step(alloc: Global, name: &str, condition: Made<BExpr>, sets: Made<BItems>) -> Made<ScanStep> {
     match both(text(alloc, name), both(condition, sets)) {
         Ok((name, (condition, sets))) => Ok(ScanStep {
             name,
@@ -49,12 +50,12 @@ fn is_one(alloc: Global) -> Made<BExpr> {
 }
 
 // The step s1 alone.
-fn when(alloc: Global, condition: Made<BExpr>, sets: Made<Items>) -> Made<ScanSteps> {
+fn when(alloc: Global, condition: Made<BExpr>, sets: Made<BItems>) -> Made<ScanSteps> {
     list_of_one(alloc, step(alloc, "s1", condition, sets))
 }
 
 // It takes a 1, and sets columns.
-fn sets(alloc: Global, sets: Made<Items>) -> Made<ScanSteps> {
+fn sets(alloc: Global, sets: Made<BItems>) -> Made<ScanSteps> {
     when(alloc, is_one(alloc), sets)
 }
 

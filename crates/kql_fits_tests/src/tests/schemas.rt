@@ -1,8 +1,8 @@
 //! The tables of a program in the schemas.
 use super::{of_a, plan, program, schema};
-use kql_fits::fits;
-use kql_items::Items as List;
 use kql_cells::{Kind, Schemas};
+use kql_fits::fits;
+use kql_items::Items;
 use std::alloc::{AllocError, Global};
 use std::test::Fail;
 
@@ -19,7 +19,7 @@ fn schemas(alloc: Global, i: usize) -> Result<Schemas, AllocError> {
 #[test]
 fn tables_stand(rt: HostRuntime) -> Result<(), Fail> {
     let alloc = rt.alloc();
-    let p = program(alloc, plan(alloc, List::new(alloc))?)?;
+    let p = program(alloc, plan(alloc, Items::new(alloc))?)?;
     for (i, want) in [true, false, false, false].iter().enumerate() {
         let schemas = schemas(alloc, i)?;
         let got = fits(alloc, &p, &schemas)?;

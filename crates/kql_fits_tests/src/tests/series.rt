@@ -1,8 +1,9 @@
 //! `make-series` of one item s on an axis.
 use super::builders::{Made, aggregate, both, list_of_one, none, text_literal};
 use super::{column, long, one, text};
-use kql_bound::{Aggregate, BExpr, Lit, Op, SeriesItem, SeriesItems, SeriesPlan};
+use kql_bound::{BExpr, Lit, Op, SeriesItem, SeriesItems, SeriesPlan};
 use kql_cells::{Kind, Value};
+use kql_functions::Aggregate;
 use std::alloc::Global;
 
 // from, to and step

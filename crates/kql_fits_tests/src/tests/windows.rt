@@ -3,8 +3,9 @@ use super::builders::{
     Made, extended, is_k, json, list_of_one, list_of_two, none, path, set, window, with_last,
 };
 use super::{column, number, string};
-use kql_bound::{BExpr, Exprs, Lit, Op, Window};
+use kql_bound::{BExpr, Exprs, Lit, Op};
 use kql_cells::{Kind, Value};
+use kql_functions::Window;
 use std::alloc::Global;
 
 fn whole(n: i64) -> Made<BExpr> {

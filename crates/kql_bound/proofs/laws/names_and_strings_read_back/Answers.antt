@@ -1,5 +1,0 @@
-use Rattle.kql_bound.proofs.ReadBack.{names_read_back, strings_read_back}
-use Rattle.kql_bound.proofs.laws.names_and_strings_read_back.Goals as goal
-
-pub returns : goal.returns
-returns c = record { strings = strings_read_back; names = names_read_back }

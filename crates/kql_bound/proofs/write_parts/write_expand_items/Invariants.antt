@@ -1,8 +1,0 @@
-use Rattle.std.proofs.Common.{◌≡◌, ◌++◌, take}
-use Rattle.std.specs.Prelude.{codes}
-use Rattle.std.specs.List.{flat_map}
-use Rattle.kql_bound.specs.Operators.{expand_item_text}
-use Rattle.kql_bound.proofs.write_parts.write_expand_items.Given as goal
-
-abbrev pub invariant-loop-item : goal.invariant-loop-item
-invariant-loop-item l = l.text ≡ l.initial.text ++ flat_map (λ x. codes "," ++ expand_item_text x) (take l.item-index l.others)

@@ -1,7 +1,0 @@
-use Rattle.std.proofs.Common.{◌≡◌, take}
-use Rattle.kql_meaning.specs.Items.{without}
-use Rattle.kql_meaning.specs.Tables.{names_of}
-use Rattle.kql_columns.proofs.columns.without_columns.Given as goal
-
-abbrev pub invariant-loop-column : goal.invariant-loop-column
-invariant-loop-column l = l.kept ≡ without (names_of l.made) (take l.column-index l.columns)

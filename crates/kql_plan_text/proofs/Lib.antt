@@ -1,0 +1,7 @@
+pub mod Chains
+pub mod Escapes
+pub mod ExprSteps
+pub mod Moments
+pub mod PlanSteps
+pub mod ReadBack
+pub mod Separated
