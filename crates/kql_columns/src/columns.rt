@@ -4,7 +4,8 @@ ghost use Rattle.std.specs.List.{list_all};
 ghost use Rattle.kql_bound.specs.declared.parts.Decl.{Decl};
 ghost use Rattle.kql_bound.specs.declared.parts.OnPair.{OnPair};
 ghost use Rattle.kql_meaning.specs.Extend.{extend_columns};
-ghost use Rattle.kql_meaning.specs.Items.{aggregate_result_kinds, items_columns, items_names, named_columns, result_kinds, typed, without};
+ghost use Rattle.kql_meaning.specs.Items.{items_columns, items_names, named_columns, without};
+ghost use Rattle.kql_meaning.specs.Results.{aggregate_result_kinds, result_kinds, typed};
 ghost use Rattle.kql_meaning.specs.Join.{both_columns, first_free, free_name, join_columns, renamed};
 ghost use Rattle.kql_meaning.specs.MakeSeries.{series_columns, series_item_columns};
 ghost use Rattle.kql_meaning.specs.MvExpand.{expand_columns, kind_named, new_columns, replaced_column, replaced_columns};
@@ -95,7 +96,7 @@ fn without(alloc: Global, names: &[KText], columns: &[Column]) -> Result<Items<C
 // Items.
 
 /// The type of an expression; dynamic where it has none.
-#[tactic(auto, unfolding(kql_meaning::specs::Items::typed))]
+#[tactic(auto, unfolding(kql_meaning::specs::Results::typed))]
 fn typed(alloc: Global, e: &BExpr, columns: &[Column]) -> Result<Kind, AllocError>
     ensures kind { IfOk result (λ k. k ≡ typed e.now columns.now) }
 {
@@ -124,7 +125,7 @@ fn one_kind(alloc: Global, kind: Kind) -> Result<Items<Kind>, AllocError>
     Ok(kinds)
 }
 
-#[tactic(auto, unfolding(kql_meaning::specs::Items::aggregate_result_kinds))]
+#[tactic(auto, unfolding(kql_meaning::specs::Results::aggregate_result_kinds))]
 fn aggregate_result_kinds(
     alloc: Global,
     f: Aggregate,
@@ -143,7 +144,7 @@ fn aggregate_result_kinds(
 }
 
 /// The types of the result columns of an expression.
-#[tactic(auto, using(crate::proofs::ColumnSteps::result_steps))]
+#[tactic(auto, using(kql_meaning::proofs::ResultLaws::result_steps))]
 pub fn result_kinds(alloc: Global, e: &BExpr, columns: &[Column]) -> Result<Items<Kind>, AllocError>
     ensures kinds { IfOk result (λ ks. ks ≡ result_kinds e.now columns.now) }
 {

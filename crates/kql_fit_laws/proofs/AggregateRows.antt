@@ -27,17 +27,18 @@ use Rattle.kql_meaning.specs.declared.position.Position.{Position}
 use Rattle.kql_meaning.specs.declared.position.Position.TheVariants as position
 use Rattle.kql_meaning.specs.Aggregates.{aggregated, all_values, combined, distinct_given, first_of, given, listed, values_where}
 use Rattle.kql_meaning.specs.Expressions.{aggregate_kind, first_kind, kind_of, kinds_in, reading, val}
-use Rattle.kql_meaning.specs.FittingExpressions.{aggregate_fits, aggregate_takes, best_of, checked_args, expr_fits, first_row_of, has_kind, has_one_result, is_addable, is_kind, is_plain_column, one_of, one_of_if, one_or_first_of, takes_aggregate}
+use Rattle.kql_meaning.specs.FittingExpressions.{aggregate_fits, aggregate_takes, best_of, checked_args, expr_fits, first_row_of, has_kind, is_addable, is_kind, is_plain_column, one_of, one_of_if, one_or_first_of, takes_aggregate}
+use Rattle.kql_meaning.specs.Results.{has_one_result}
 use Rattle.kql_meaning.specs.Numbers.{counted, fitted, sum_of}
 use Rattle.kql_meaning.specs.Readings.{Reading, Records, reading_at, rows_where, values_over}
 use Rattle.kql_meaning.specs.Tables.{places}
 use Rattle.kql_meaning.specs.Values.{holds, same_key}
 use Rattle.kql_meaning.specs.Windows.{count_in}
-use Rattle.kql_meaning.proofs.KindSteps.{kind-Aggregate}
-use Rattle.kql_meaning.proofs.ListFacts.{every-distinct, every-filter}
-use Rattle.kql_meaning.proofs.Members.{Member, every-of-members, member-of-filter, member-of-map}
-use Rattle.kql_meaning.proofs.ValueSteps.{val-Aggregate}
-use Rattle.kql_fits.proofs.FitSteps.{aggregate-checked, fits-Aggregate}
+use Rattle.kql_meaning.proofs.KindLaws.{kind-Aggregate}
+use Rattle.kql_meaning.proofs.ListLaws.{every-distinct, every-filter}
+use Rattle.kql_meaning.proofs.MemberLaws.{Member, every-of-members, member-of-filter, member-of-map}
+use Rattle.kql_meaning.proofs.ValueLaws.{val-Aggregate}
+use Rattle.kql_meaning.proofs.ExpressionFitLaws.{aggregate-checked, fits-Aggregate}
 use Rattle.kql_fit_laws.proofs.CallForms.{elements-form, long-form, pack_array-form}
 use Rattle.kql_fit_laws.proofs.ExpressionRows.{EachGives}
 use Rattle.kql_fit_laws.proofs.RowFacts.{place-below}

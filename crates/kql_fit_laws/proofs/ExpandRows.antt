@@ -29,8 +29,8 @@ use Rattle.kql_meaning.specs.FittingOperators.{are_distinct, expand_fits, expand
 use Rattle.kql_meaning.specs.MvExpand.{dynamic_parts_step, entry_part, expand_columns, expand_table, expanded_row, item_named, item_parts, kind_named, new_columns, new_items, part_as, part_at, parts_of, replaced_cell, replaced_column, replaced_columns, rows_given}
 use Rattle.kql_meaning.specs.Plans.{op_means}
 use Rattle.kql_meaning.specs.Tables.{has_column, places, places_below}
-use Rattle.kql_meaning.proofs.Members.{Member, member-of-filter, member-of-flat, member-of-map}
-use Rattle.kql_fits.proofs.FitsSteps.{op-MvExpand}
+use Rattle.kql_meaning.proofs.MemberLaws.{Member, member-of-filter, member-of-flat, member-of-map}
+use Rattle.kql_meaning.proofs.OperatorFitLaws.{op-MvExpand}
 use Rattle.kql_fit_laws.proofs.JoinRows.{all-of}
 use Rattle.kql_fit_laws.proofs.KnownValues.{found-holds, index-holds, value-fits, value_of-kind, written-range}
 use Rattle.kql_fit_laws.proofs.RowFacts.{all-members, answer-some, cell-named-fits, column-found, pairwise-names, place-below, rows-append}

@@ -4,7 +4,7 @@ use Rattle.kql_bound.specs.declared.expr.BExpr.{BExpr, ind-BExpr, map-BExpr, rol
 use Rattle.kql_bound.specs.declared.expr.BExpr.TheOpen.{BExpr-F}
 use Rattle.kql_bound.specs.declared.expr.BExpr.TheVariants as V
 use Rattle.kql_bound.specs.declared.expr.ChainSign.{ChainSign}
-use Rattle.kql_meaning.proofs.Members.{Member, member-of-map}
+use Rattle.kql_meaning.proofs.MemberLaws.{Member, member-of-map}
 use Rattle.kql_fit_laws.proofs.AggregateRows.{aggregate-gives}
 use Rattle.kql_fit_laws.proofs.ExpressionRows.{EachGives, call-gives, chain-gives, column-gives, literal-gives, path-gives, step-gives}
 use Rattle.kql_fit_laws.proofs.WindowRows.{window-gives}

@@ -26,12 +26,12 @@ use Rattle.kql_meaning.specs.FittingExpressions.{expr_fits, is_callable, is_this
 use Rattle.kql_meaning.specs.Literals.{is_of_kind, is_well_formed, literal_fits}
 use Rattle.kql_meaning.specs.Readings.{Records}
 use Rattle.kql_meaning.specs.Tables.{has_column}
-use Rattle.kql_meaning.proofs.KindSteps.{kind-Call, kind-Chain, kind-Column, kind-Literal, kind-Path, kind-Step}
-use Rattle.kql_meaning.proofs.LiteralFacts.{is_of_kind-decides}
-use Rattle.kql_meaning.proofs.Members.{Member}
-use Rattle.kql_meaning.proofs.ValueSteps.{val-Call, val-Chain, val-Column, val-Literal, val-Path, val-Step}
-use Rattle.kql_fits.proofs.FitSteps.{fits-Call, fits-Chain, fits-Column, fits-Literal, fits-Path, fits-Step}
-use Rattle.kql_fits.proofs.LiteralFacts.{is_well_formed-decides}
+use Rattle.kql_meaning.proofs.KindLaws.{kind-Call, kind-Chain, kind-Column, kind-Literal, kind-Path, kind-Step}
+use Rattle.kql_meaning.proofs.LiteralLaws.{is_of_kind-decides}
+use Rattle.kql_meaning.proofs.MemberLaws.{Member}
+use Rattle.kql_meaning.proofs.ValueLaws.{val-Call, val-Chain, val-Column, val-Literal, val-Path, val-Step}
+use Rattle.kql_meaning.proofs.ExpressionFitLaws.{fits-Call, fits-Chain, fits-Column, fits-Literal, fits-Path, fits-Step}
+use Rattle.kql_meaning.proofs.LiteralLaws.{is_well_formed-decides}
 use Rattle.kql_fit_laws.proofs.CallRows.{call_keeps}
 use Rattle.kql_fit_laws.proofs.ItemRows.{has-found}
 use Rattle.kql_fit_laws.proofs.RowFacts.{cell-named-fits, row-cell}

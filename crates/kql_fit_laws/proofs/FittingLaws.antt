@@ -13,7 +13,7 @@ use Rattle.kql_functions.specs.Kinds.{same_kind}
 use Rattle.kql_meaning.specs.Fits.{fits, has_columns, program_columns, same_columns, table_columns, tables_stand}
 use Rattle.kql_meaning.specs.Plans.{means}
 use Rattle.kql_meaning.specs.Sources.{named_table, table_of}
-use Rattle.kql_meaning.proofs.Members.{contains-member}
+use Rattle.kql_meaning.proofs.MemberLaws.{contains-member}
 use Rattle.kql_fit_laws.proofs.JoinRows.{all-of, same-kind}
 use Rattle.kql_fit_laws.proofs.KnownValues.{found-holds}
 use Rattle.kql_fit_laws.proofs.OperatorLaws.{each_plan_keeps}

@@ -17,14 +17,15 @@ use Rattle.kql_bound.specs.declared.expr.BExpr.TheVariants as V
 use Rattle.kql_meaning.specs.declared.position.Position.{Position}
 use Rattle.kql_meaning.specs.declared.position.Position.TheVariants as position
 use Rattle.kql_meaning.specs.Expressions.{aggregate_kind, first_kind, kind_of, kinds_in, val, values_in}
-use Rattle.kql_meaning.specs.FittingExpressions.{aggregate_fits, aggregate_takes, best_of, call_or_expr_fits, call_or_expr_fits_step, checked_args, expr_fits, first_row_of, fits_as, has_kind, has_one_result, is_aggregate_call_step, is_key, is_plain_column, scope_of, takes_aggregate, takes_columns}
+use Rattle.kql_meaning.specs.FittingExpressions.{aggregate_fits, aggregate_takes, best_of, call_or_expr_fits, call_or_expr_fits_step, checked_args, expr_fits, first_row_of, fits_as, has_kind, is_aggregate_call_step, is_key, is_plain_column, scope_of, takes_aggregate, takes_columns}
 use Rattle.kql_functions.specs.Kinds.{has_order}
 use Rattle.kql_meaning.specs.FittingOperators.{group_item_fits, has_its_names, item_fits, key_item_fits}
-use Rattle.kql_meaning.specs.Items.{aggregate_result_kinds, named_columns, result_kinds, result_kinds_step, results, results_step, typed}
-use Rattle.kql_meaning.proofs.KindSteps.{kind-Aggregate}
-use Rattle.kql_meaning.proofs.ValueSteps.{val-Aggregate}
-use Rattle.kql_columns.proofs.ColumnSteps.{result-Aggregate}
-use Rattle.kql_fits.proofs.FitSteps.{aggregate-checked, call-Aggregate, fits-Aggregate}
+use Rattle.kql_meaning.specs.Items.{named_columns}
+use Rattle.kql_meaning.specs.Results.{aggregate_result_kinds, has_one_result, result_kinds, result_kinds_step, results, results_step, typed}
+use Rattle.kql_meaning.proofs.KindLaws.{kind-Aggregate}
+use Rattle.kql_meaning.proofs.ValueLaws.{val-Aggregate}
+use Rattle.kql_meaning.proofs.ResultLaws.{result-Aggregate}
+use Rattle.kql_meaning.proofs.ExpressionFitLaws.{aggregate-checked, call-Aggregate, fits-Aggregate}
 use Rattle.kql_fit_laws.proofs.AggregateRows.{aggregate-known, call-parts}
 use Rattle.kql_fit_laws.proofs.ExpressionLaws.{expressions_keep}
 use Rattle.kql_fit_laws.proofs.ExpressionRows.{IsRead}

@@ -1,71 +1,36 @@
 -- Rows of items fit the items' columns.
-use Rattle.std.proofs.Common.{◌≡◌, ◌<◌, ℕ, suc, true, List, [], ◌∷◌, ◌++◌, map, length, refl, sym, ap, ◌∙◌, subst, arith, inl, inr, rules}
-use Rattle.std.specs.Prelude.{not, ◌==◌, bytes_eq, find, Option, Some, unwrap_or}
+use Rattle.std.proofs.Common.{◌≡◌, ◌<◌, ℕ, true, List, [], ◌∷◌, ◌++◌, map, length, refl, sym, ◌∙◌, subst, inl, inr, rules}
+use Rattle.std.specs.Prelude.{not, bytes_eq, find, Some}
 use Rattle.std.specs.List.{list_all}
 use Rattle.std.proofs.lemmas.Bool.{and_parts, cases_Bool}
 use Rattle.std.proofs.lemmas.List.Elements.{All-from_recursion}
 use Rattle.kql_cells.specs.Named.{HasDistinctNames, column_name}
 use Rattle.kql_cells.specs.Table.{Grid, RowFits}
-use Rattle.kql_cells.specs.Values.{IsOfKind, IsWellFormed}
 use Rattle.kql_cells.specs.declared.schema.Column.{Column}
-use Rattle.kql_cells.specs.declared.value.Kind.{Kind}
-use Rattle.kql_cells.specs.declared.value.Kind.TheVariants as kind
-use Rattle.kql_cells.specs.declared.value.Value.{Value}
-use Rattle.kql_bound.specs.declared.expr.BExpr.TheVariants as V
-use Rattle.kql_bound.specs.declared.literal.Lit.{Lit}
 use Rattle.kql_bound.specs.declared.parts.BItem.{BItem}
 use Rattle.kql_bound.specs.declared.plan.Op.{the_lemmas}
 use Rattle.kql_bound.specs.declared.plan.Op.TheOpen.{Op-F}
 use Rattle.kql_bound.specs.declared.plan.Op.TheVariants as O
 use Rattle.kql_meaning.specs.declared.position.Position.{Position}
 use Rattle.kql_meaning.specs.declared.position.Position.TheVariants as position
-use Rattle.kql_meaning.specs.Expressions.{column_kind, val}
 use Rattle.kql_meaning.specs.Extend.{extend_columns, extend_table}
 use Rattle.kql_meaning.specs.Fits.{source_columns}
-use Rattle.kql_meaning.specs.FittingExpressions.{expr_fits, scope_of, takes_columns}
-use Rattle.kql_meaning.specs.FittingOperators.{has_its_names, item_fits, items_fit}
-use Rattle.kql_meaning.specs.Items.{cells_in, items_columns, items_names, items_values, named_columns, result_kinds, results, results_step, typed, without}
-use Rattle.kql_meaning.specs.Literals.{is_of_kind, is_well_formed, literal_fits}
+use Rattle.kql_meaning.specs.FittingExpressions.{scope_of}
+use Rattle.kql_meaning.specs.FittingOperators.{item_fits, items_fit}
+use Rattle.kql_meaning.specs.Items.{cells_in, items_columns, items_names, items_values, named_columns, without}
+use Rattle.kql_meaning.specs.Results.{result_kinds, results}
 use Rattle.kql_meaning.specs.Plans.{op_means, source_table}
 use Rattle.kql_meaning.specs.Project.{project_table}
 use Rattle.kql_meaning.specs.Sources.{one_row, print_table}
-use Rattle.kql_meaning.specs.Tables.{cell, has_column, is_name_among, names_of, places}
-use Rattle.kql_meaning.proofs.KindSteps.{kind-Column, kind-Literal}
-use Rattle.kql_meaning.proofs.LiteralFacts.{is_of_kind-decides}
-use Rattle.kql_meaning.proofs.Members.{Member, contains-member, member-of-filter, member-of-map, pairs-of}
-use Rattle.kql_meaning.proofs.ValueSteps.{val-Column, val-Literal}
-use Rattle.kql_columns.proofs.ColumnSteps.{result-Column, result-Literal}
-use Rattle.kql_fits.proofs.FitSteps.{fits-Column, fits-Literal, rolled-Column, rolled-Literal}
-use Rattle.kql_fits.proofs.FitsSteps.{op-Extend, op-Project}
-use Rattle.kql_fits.proofs.LiteralFacts.{is_well_formed-decides}
-use Rattle.kql_fit_laws.proofs.RowFacts.{all-members, answer-some, cell-named-fits, cells-fit, different, place-below, rows-append}
+use Rattle.kql_meaning.specs.Tables.{has_column, is_name_among, names_of, places}
+use Rattle.kql_meaning.proofs.MemberLaws.{Member, contains-member, member-of-filter, member-of-map, pairs-of}
+use Rattle.kql_meaning.proofs.OperatorFitLaws.{op-Extend, op-Project}
+use Rattle.kql_fit_laws.proofs.RowFacts.{all-members, answer-some, cells-fit, different, place-below, rows-append}
 use Rattle.kql_fit_laws.proofs.RowLaws.{made, means}
-use Rattle.kql_fit_laws.specs.LawsOfPrograms.{ColumnItemKeeps, ExtendKeeps, ItemKeeps, LiteralItemKeeps, PrintKeeps, ProjectKeeps}
+use Rattle.kql_fit_laws.specs.LawsOfPrograms.{ExtendKeeps, ItemKeeps, PrintKeeps, ProjectKeeps}
 use Rattle.kql_fit_laws.specs.LawsOfRows.{IsTable, IsTableOf}
 
--- Items of one expression.
-
-results-Column : (n : List ℕ) (t : Grid) (i : ℕ) → results (V.Column n) t i [] ≡ cell t i n ∷ []
-unfolding results
-results-Column n t i = ap (λ f. results_step f (val (V.Column n) t i []) t []) (rolled-Column n) ∙ ap (λ (v : Value). v ∷ []) (val-Column n t i [])
-
-results-Literal : (l : Lit) (t : Grid) (i : ℕ) → results (V.Literal l) t i [] ≡ l.value ∷ []
-unfolding results
-results-Literal l t i = ap (λ f. results_step f (val (V.Literal l) t i []) t []) (rolled-Literal l) ∙ ap (λ (v : Value). v ∷ []) (val-Literal l t i [])
-
--- One name for one value that fits.
-two-are-not-one : (l : ℕ) → (suc (suc l) == 1) ≡ true → ⊥
-two-are-not-one l e = grind arith
-
-pub one-fits : (names : List (List ℕ)) (k : Kind) (v : Value) → (length names == 1) ≡ true → IsOfKind k v × IsWellFormed v → RowFits (named_columns names (k ∷ [])) (v ∷ [])
-unfolding RowFits named_columns
-one-fits [] k v e h = cc
-one-fits (n ∷ []) k v e h = (h, tt)
-one-fits (n ∷ m ∷ ns) k v e h = absurd (two-are-not-one (length ns) e)
-
-item-parts : (b : BItem) (columns : List Column) (at : Position) → item_fits (scope_of columns) at b ≡ true → (expr_fits b.expr (scope_of columns) at ≡ true) × ((length b.names == length (result_kinds b.expr columns)) ≡ true)
-unfolding item_fits has_its_names
-item-parts b columns at e = and_parts (expr_fits b.expr (scope_of columns) at) (length b.names == length (result_kinds b.expr columns)) e
+-- Columns that are there.
 
 pub has-found : (cs : List Column) (n : List ℕ) → has_column n cs ≡ true → (c : Column) × (find (λ d. bytes_eq (column_name d) n) cs ≡ Some c)
 unfolding has_column is_name_among names_of
@@ -74,34 +39,6 @@ has-found (c ∷ cs) n e = elim (cases_Bool (bytes_eq c.name n)) [
   | inl t ↦ (c, rw t refl)
   | inr f ↦ let later : has_column n cs ≡ true = rw f at e in let q = has-found cs n later in (q.0, rw f q.1)
 ]
-
-pub typed-column : (n : List ℕ) (columns : List Column) (c : Column) → find (λ d. bytes_eq (column_name d) n) columns ≡ Some c → typed (V.Column n) columns ≡ c.kind
-unfolding typed column_kind
-typed-column n columns c e = ap (λ (o : Option Kind). unwrap_or o kind.Dynamic) (kind-Column n columns) ∙ rw e refl
-
-typed-literal : (l : Lit) (columns : List Column) → typed (V.Literal l) columns ≡ l.kind
-unfolding typed
-typed-literal l columns = ap (λ (o : Option Kind). unwrap_or o kind.Dynamic) (kind-Literal l columns)
-
-pub column_item_keeps : ColumnItemKeeps
-column_item_keeps at names n t i h lt fits =
-    let parts = item-parts (record { names = names; expr = V.Column n }) t.columns at fits in
-    let has = (and_parts (takes_columns at) (has_column n t.columns) (sym (fits-Column n (scope_of t.columns) at) ∙ parts.0)).1 in
-    let q = has-found t.columns n has in
-    let kinds = result-Column n t.columns in
-    let one : (length names == 1) ≡ true = rw kinds at parts.1 in
-    let cell_fits = cell-named-fits t i n q.0 h.1 lt q.1 in
-    rw (kinds, results-Column n t i, typed-column n t.columns q.0 q.1) (one-fits names q.0.kind (cell t i n) one cell_fits)
-
-pub literal_item_keeps : LiteralItemKeeps
-unfolding literal_fits
-literal_item_keeps at names l t i h lt fits =
-    let parts = item-parts (record { names = names; expr = V.Literal l }) t.columns at fits in
-    let tests = and_parts (is_of_kind l.kind l.value) (is_well_formed l.value) (sym (fits-Literal l (scope_of t.columns) at) ∙ parts.0) in
-    let kinds = result-Literal l t.columns in
-    let one : (length names == 1) ≡ true = rw kinds at parts.1 in
-    let cell_fits : IsOfKind l.kind l.value × IsWellFormed l.value = ((is_of_kind-decides l.kind l.value).0 tests.0, (is_well_formed-decides l.value).0 tests.1) in
-    rw (kinds, results-Literal l t i, typed-literal l t.columns) (one-fits names l.kind l.value one cell_fits)
 
 -- Several items.
 
@@ -172,4 +109,4 @@ print_keeps k w items keeps cs fits =
     let q = answer-some (items_fit items [] position.Plain) (items_columns items []) cs fits in
     project-table-of position.Plain items one_row cs one-row (λ b m. keeps b (contains-member items b m)) q.0 q.1 (subst (HasDistinctNames column_name) q.1 q.2)
 
-pub ruleset item_row_laws = (column_item_keeps, literal_item_keeps, project_keeps, extend_keeps, print_keeps)
+pub ruleset item_row_laws = (project_keeps, extend_keeps, print_keeps)

@@ -24,7 +24,7 @@ use Rattle.kql_meaning.specs.Items.{cells_in, without}
 use Rattle.kql_meaning.specs.Join.{both_columns, both_rows, has_left, has_right, inner_rows, join_columns, join_rows, join_table, left_alone, left_key, left_outer_rows, matches_left, matches_right, or_one, pairs_of_left, pairs_of_right, renamed, right_alone, right_outer_rows, rows_match, shown_columns, shown_row, unmatched_right_rows}
 use Rattle.kql_meaning.specs.Tables.{absent_row, has_column, is_name_among, names_of, places}
 use Rattle.kql_meaning.specs.Union.{cell_or_absent, rows_in_columns, union_columns, union_table}
-use Rattle.kql_meaning.proofs.Members.{Member, member-either, member-map, member-of-filter, member-of-flat, member-of-map}
+use Rattle.kql_meaning.proofs.MemberLaws.{Member, member-either, member-map, member-of-filter, member-of-flat, member-of-map}
 use Rattle.kql_fit_laws.proofs.RowFacts.{absent-fits, absent-row-fits, all-members, cell-at-fits, cells-fit, found-place, gathered-table, place-below, places-inside, renamed-fits, row-fits, rows-append}
 use Rattle.kql_fit_laws.specs.LawsOfRows.{IsTable, IsTableOf}
 

@@ -20,7 +20,7 @@ use Rattle.kql_bound.specs.declared.expr.BExpr.{BExpr}
 use Rattle.kql_meaning.specs.declared.position.Position.TheVariants as position
 use Rattle.kql_meaning.specs.Expressions.{kind_of, val}
 use Rattle.kql_meaning.specs.FittingExpressions.{expr_fits, fits_as, has_kind, scope_of}
-use Rattle.kql_meaning.proofs.Members.{Member}
+use Rattle.kql_meaning.proofs.MemberLaws.{Member}
 use Rattle.kql_fit_laws.proofs.ExpressionLaws.{expressions_keep}
 use Rattle.kql_fit_laws.proofs.JoinRows.{same-kind}
 use Rattle.kql_fit_laws.proofs.MomentForms.{moment_in-range}

@@ -9,7 +9,7 @@ use Rattle.kql_bound.specs.declared.plan.Plan.{Plan, ind-Plan, roll-Plan}
 use Rattle.kql_bound.specs.declared.plan.Source.TheVariants as source
 use Rattle.kql_meaning.specs.Fits.{Known}
 use Rattle.kql_meaning.specs.Plans.{World}
-use Rattle.kql_meaning.proofs.Members.{member-contains, member-of-map}
+use Rattle.kql_meaning.proofs.MemberLaws.{member-contains, member-of-map}
 use Rattle.kql_fit_laws.proofs.ExpandRows.{each_expand_keeps}
 use Rattle.kql_fit_laws.proofs.ItemLaws.{each_extend_keeps, each_print_keeps, each_project_keeps, each_summarize_keeps}
 use Rattle.kql_fit_laws.proofs.ParseRows.{each_parse_keeps}

@@ -13,7 +13,7 @@ use Rattle.kql_cells.specs.declared.value.Kind.TheVariants as kind
 use Rattle.kql_cells.specs.declared.value.Value.{Value}
 use Rattle.kql_cells.specs.declared.value.Value.TheVariants as value
 use Rattle.kql_scalar_fns.specs.Conversion.{moment_written}
-use Rattle.kql_scalar_fns.specs.Readings.{bool_written, long_written}
+use Rattle.kql_cells.specs.Readings.{bool_written, long_written}
 use Rattle.kql_bound.specs.declared.parts.ParsePlan.{ParsePlan}
 use Rattle.kql_bound.specs.declared.parts.PatItem.{PatItem}
 use Rattle.kql_bound.specs.declared.parts.PatItem.TheVariants as item
@@ -28,8 +28,8 @@ use Rattle.kql_meaning.specs.Parse.{cut_values, parse_columns, parse_table, pars
 use Rattle.kql_meaning.specs.Plans.{op_means}
 use Rattle.kql_meaning.specs.Tables.{places}
 use Rattle.kql_meaning.specs.Values.{absent}
-use Rattle.kql_meaning.proofs.Members.{member-of-map}
-use Rattle.kql_fits.proofs.FitsSteps.{op-Parse}
+use Rattle.kql_meaning.proofs.MemberLaws.{member-of-map}
+use Rattle.kql_meaning.proofs.OperatorFitLaws.{op-Parse}
 use Rattle.kql_fit_laws.proofs.ItemRows.{kept-members}
 use Rattle.kql_fit_laws.proofs.KnownValues.{found-holds, parsed-fits, written-range}
 use Rattle.kql_fit_laws.proofs.RowFacts.{absent-row-fits, all-members, answer-some, cells-fit, place-below, rows-append}

@@ -24,9 +24,9 @@ use Rattle.kql_meaning.specs.Plans.{Gives, World, one_after_another, op_means, p
 use Rattle.kql_meaning.specs.Tables.{emptied, places}
 use Rattle.kql_meaning.specs.Union.{union_columns, union_table}
 use Rattle.kql_meaning.specs.Values.{same_keys}
-use Rattle.kql_meaning.proofs.Members.{Member, contains-member, member-of-flat}
-use Rattle.kql_meaning.proofs.PlanSteps.{ops_mean-map}
-use Rattle.kql_fits.proofs.FitsSteps.{after, after-none, after-some, join-out, ops-fold, partition-out, stays-none, union-out}
+use Rattle.kql_meaning.proofs.MemberLaws.{Member, contains-member, member-of-flat}
+use Rattle.kql_meaning.proofs.PlanLaws.{ops_mean-map}
+use Rattle.kql_meaning.proofs.OperatorFitLaws.{after, after-none, after-some, join-out, ops-fold, partition-out, stays-none, union-out}
 use Rattle.kql_fit_laws.proofs.JoinRows.{columns_of, join-table-of, union-table-of}
 use Rattle.kql_fit_laws.proofs.RowFacts.{all-members, answer-some, gathered-table, of-all, places-inside}
 use Rattle.kql_fit_laws.proofs.RowLaws.{made, means}

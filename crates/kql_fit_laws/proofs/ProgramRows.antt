@@ -11,9 +11,9 @@ use Rattle.kql_meaning.specs.Fits.{Known, known_of, let_after, lets_columns, of_
 use Rattle.kql_meaning.specs.Plans.{World, lets_mean, means, plan_means, source_table}
 use Rattle.kql_meaning.specs.Sources.{let_table}
 use Rattle.kql_meaning.specs.Tables.{nothing}
-use Rattle.kql_meaning.proofs.Members.{Member, contains-member, member-left, member-right}
-use Rattle.kql_meaning.proofs.PlanSteps.{plan_means-out}
-use Rattle.kql_fits.proofs.FitsSteps.{ops-fold, plan-out}
+use Rattle.kql_meaning.proofs.MemberLaws.{Member, contains-member, member-left, member-right}
+use Rattle.kql_meaning.proofs.PlanLaws.{plan_means-out}
+use Rattle.kql_meaning.proofs.OperatorFitLaws.{ops-fold, plan-out}
 use Rattle.kql_fit_laws.proofs.PlanRows.{after_ops, ops-keep}
 use Rattle.kql_fit_laws.specs.LawsOfPrograms.{LetKeeps, LetsStand, PartsKeepPlan, PlansKeepProgram, SourceKeeps, TableKeeps}
 use Rattle.kql_fit_laws.specs.LawsOfRows.{IsTableOf, OpKeeps, PlanKeeps}

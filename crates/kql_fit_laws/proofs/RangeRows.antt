@@ -22,10 +22,10 @@ use Rattle.kql_meaning.specs.Numbers.{added, count_of_terms, terms}
 use Rattle.kql_meaning.specs.Plans.{source_table}
 use Rattle.kql_meaning.specs.Sources.{number_in, range_columns, range_table}
 use Rattle.kql_meaning.specs.Values.{number_as, number_of}
-use Rattle.kql_meaning.proofs.Members.{Member, contains-member, member-of-map}
+use Rattle.kql_meaning.proofs.MemberLaws.{Member, contains-member, member-of-map}
 use Rattle.kql_meaning.proofs.NumberLaws.{terms_are_those}
 use Rattle.kql_fit_laws.proofs.JoinRows.{same-kind}
-use Rattle.kql_fits.proofs.LiteralFacts.{is_well_formed-decides}
+use Rattle.kql_meaning.proofs.LiteralLaws.{is_well_formed-decides}
 use Rattle.kql_fit_laws.proofs.RowFacts.{all-members, answer-some}
 use Rattle.kql_fit_laws.specs.LawsOfPrograms.{RangeKeeps}
 use Rattle.kql_fit_laws.specs.LawsOfRows.{IsTableOf}

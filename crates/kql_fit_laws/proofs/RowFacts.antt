@@ -22,7 +22,7 @@ use Rattle.kql_meaning.specs.Join.{free_name, renamed}
 use Rattle.kql_meaning.specs.Tables.{absent_in, absent_row, cell, cell_in, is_name_among, names_of, places, places_below}
 use Rattle.kql_meaning.specs.Values.{absent}
 use Rattle.kql_meaning.proofs.FirstLaws.{any-at}
-use Rattle.kql_meaning.proofs.Members.{Member, Pairwise, every-of-members, member-map, member-of-range, of-member, pairs-of}
+use Rattle.kql_meaning.proofs.MemberLaws.{Member, Pairwise, every-of-members, member-map, member-of-range, of-member, pairs-of}
 use Rattle.kql_fit_laws.specs.LawsOfRows.{IsTable}
 
 -- Columns that an operator makes.

@@ -23,11 +23,11 @@ use Rattle.kql_meaning.specs.TakeAndCount.{count_columns, count_table, take_tabl
 use Rattle.kql_meaning.specs.Values.{holds}
 use Rattle.kql_meaning.specs.Where.{where_table}
 use Rattle.kql_ticks.specs.Ranges.{fit}
-use Rattle.kql_meaning.proofs.Members.{pairs-of}
-use Rattle.kql_meaning.proofs.PlanSteps.{op_means-out}
+use Rattle.kql_meaning.proofs.MemberLaws.{pairs-of}
+use Rattle.kql_meaning.proofs.PlanLaws.{op_means-out}
 use Rattle.kql_meaning.proofs.SortLaws.{sort_rearranges}
 use Rattle.kql_scalar_fns.specs.Arguments.{long_or_null}
-use Rattle.kql_fits.proofs.FitsSteps.{op-Count, op-Serialize, op-Sort, op-Take, op-Top, op-Where}
+use Rattle.kql_meaning.proofs.OperatorFitLaws.{op-Count, op-Serialize, op-Sort, op-Take, op-Top, op-Where}
 use Rattle.kql_fit_laws.proofs.RowFacts.{columns-some, gathered-table, places-inside}
 use Rattle.kql_fit_laws.specs.LawsOfRows.{CountKeeps, IsTableOf, SerializeKeeps, SortKeeps, TakeKeeps, TopKeeps, WhereKeeps}
 

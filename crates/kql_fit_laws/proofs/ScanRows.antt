@@ -32,8 +32,8 @@ use Rattle.kql_meaning.specs.Plans.{op_means}
 use Rattle.kql_meaning.specs.Readings.{Records}
 use Rattle.kql_meaning.specs.Scan.{Held, Machine, Turn, after, all_rows, assigned, begun_anew, check_one, check_two, comes_true, declared_columns, declared_defaults, defaults_of, emitted_at_once, emitted_if_last, first_outcome, held_rows, id_cells, id_columns, is_all, is_last, machine_at_start, new_record, promoted, records_of, renewed, replaced, row_after, row_of_record, row_turn, rows_at_end, scan_columns, scan_rows, scan_table, state_before, state_of, steps_down, tried, with_declared, with_state}
 use Rattle.kql_meaning.specs.Tables.{absent_row, is_name_among, places}
-use Rattle.kql_meaning.proofs.Members.{Member, Pairwise, every-of-members, member-either, member-left, member-of-flat, member-of-map, member-right, of-member, pairs-of}
-use Rattle.kql_fits.proofs.FitsSteps.{op-Scan}
+use Rattle.kql_meaning.proofs.MemberLaws.{Member, Pairwise, every-of-members, member-either, member-left, member-of-flat, member-of-map, member-right, of-member, pairs-of}
+use Rattle.kql_meaning.proofs.OperatorFitLaws.{op-Scan}
 use Rattle.kql_fit_laws.proofs.ExpressionLaws.{expressions_keep}
 use Rattle.kql_fit_laws.proofs.ExpressionRows.{literal-known}
 use Rattle.kql_fit_laws.proofs.JoinRows.{all-of}

@@ -28,19 +28,20 @@ use Rattle.kql_bound.specs.declared.plan.Op.TheOpen.{Op-F}
 use Rattle.kql_bound.specs.declared.plan.Op.TheVariants as O
 use Rattle.kql_meaning.specs.declared.position.Position.TheVariants as position
 use Rattle.kql_meaning.specs.Expressions.{aggregate_kind, first_kind, kind_of, kinds_in, val}
-use Rattle.kql_meaning.specs.FittingExpressions.{aggregate_fits, aggregate_takes, checked_args, expr_fits, has_kind, has_one_result, is_addable, is_aggregate_call, is_aggregate_call_step, is_key, is_kind, is_of_series, one_of, one_of_if, scope_of, takes_aggregate, takes_columns}
+use Rattle.kql_meaning.specs.FittingExpressions.{aggregate_fits, aggregate_takes, checked_args, expr_fits, has_kind, is_addable, is_aggregate_call, is_aggregate_call_step, is_key, is_kind, is_of_series, one_of, one_of_if, scope_of, takes_aggregate, takes_columns}
 use Rattle.kql_meaning.specs.FittingOperators.{bins_fit, key_item_fits, series_fits, series_item_fits}
 use Rattle.kql_meaning.specs.Groups.{distinct_keys, group_of, key_by}
 use Rattle.kql_meaning.specs.Items.{items_columns}
+use Rattle.kql_meaning.specs.Results.{has_one_result}
 use Rattle.kql_meaning.specs.Literals.{literal_fits}
 use Rattle.kql_meaning.specs.MakeSeries.{axis_of, bins, falls_in, is_inside, of_bin, rows_in_bin, rows_inside, series_columns, series_item_columns, series_of, series_row, series_rows, series_table}
 use Rattle.kql_meaning.specs.Plans.{op_means}
 use Rattle.kql_meaning.specs.Tables.{cell, places}
 use Rattle.kql_meaning.specs.Values.{number_as, number_of}
-use Rattle.kql_meaning.proofs.KindSteps.{kind-Aggregate}
-use Rattle.kql_meaning.proofs.Members.{Member, member-of-map}
-use Rattle.kql_fits.proofs.FitSteps.{aggregate-checked, fits-Aggregate}
-use Rattle.kql_fits.proofs.FitsSteps.{op-MakeSeries}
+use Rattle.kql_meaning.proofs.KindLaws.{kind-Aggregate}
+use Rattle.kql_meaning.proofs.MemberLaws.{Member, member-of-map}
+use Rattle.kql_meaning.proofs.ExpressionFitLaws.{aggregate-checked, fits-Aggregate}
+use Rattle.kql_meaning.proofs.OperatorFitLaws.{op-MakeSeries}
 use Rattle.kql_fit_laws.proofs.ExpressionLaws.{expressions_keep}
 use Rattle.kql_fit_laws.proofs.ExpressionRows.{IsRead, literal-known}
 use Rattle.kql_fit_laws.proofs.GroupRows.{KeysKeep, distinct-fit}

@@ -26,10 +26,10 @@ use Rattle.kql_meaning.specs.Numbers.{fitted}
 use Rattle.kql_meaning.specs.Readings.{Reading, Records, reading_at}
 use Rattle.kql_meaning.specs.Tables.{absent_in, cell, cell_in, has_column}
 use Rattle.kql_meaning.specs.Values.{absent, absent_as}
-use Rattle.kql_meaning.specs.Windows.{first_number, looked, rows_away, running_sum, value_after, value_before, where_none, windowed}
-use Rattle.kql_meaning.proofs.KindSteps.{kind-Column, kind-Window}
-use Rattle.kql_meaning.proofs.ValueSteps.{val-Column, val-Literal, val-Window}
-use Rattle.kql_fits.proofs.FitSteps.{exprs-checked, fits-Window}
+use Rattle.kql_meaning.specs.Windows.{first_number, rows_away, running_sum, value_after, value_before, where_none, windowed}
+use Rattle.kql_meaning.proofs.KindLaws.{kind-Column, kind-Window}
+use Rattle.kql_meaning.proofs.ValueLaws.{val-Column, val-Literal, val-Window}
+use Rattle.kql_meaning.proofs.ExpressionFitLaws.{exprs-checked, fits-Window}
 use Rattle.kql_fit_laws.proofs.CallForms.{long-form, span-form}
 use Rattle.kql_fit_laws.proofs.ExpressionRows.{kind-found, literal-known}
 use Rattle.kql_fit_laws.proofs.ItemRows.{has-found}
@@ -122,6 +122,9 @@ constant-known k e t i r p =
 abbrev Way : Type 0
 Way = Reading → ℕ → Value → Grid → ℕ → Records → Value
 
+abbrev looked : Way → List Reading → Grid → ℕ → Records → Value
+looked way args t i r = way (reading_at args 0) (rows_away (slice_get args 1) t i r) (where_none (reading_at args 0) (slice_get args 2) t i r) t i r
+
 -- A way to look gives the column somewhere, or what stands where there is no row.
 abbrev LooksWithin : Way → Type 0
 LooksWithin way = (c : Reading) (away : ℕ) (d : Value) (t : Grid) (i : ℕ) (r : Records) (k : Option Kind) → ((j : ℕ) → FitsKnown k (c.at t j r)) → FitsKnown k d → FitsKnown k (way c away d t i r)
@@ -159,7 +162,7 @@ module _ (t : Grid) (s : Steps) (h : IsTable t) where
   default-at c d i p = constant-known (kind_of c t.columns) d t i s.records p
 
   looked-known : (way : Way) → LooksWithin way → (args : List BExpr) (i : ℕ) → look_fits args (scope_with t.columns s) ≡ true → FitsKnown (first_kind (kinds_in args t.columns)) (looked way (map reading args) t i s.records)
-  unfolding look_fits looked reading_at rows_away where_none first_kind kinds_in kind_of
+  unfolding look_fits reading_at rows_away where_none first_kind kinds_in kind_of
   looked-known way within [] i e = absurd cc
   looked-known way within (c ∷ []) i e = within (reading c) 1 (absent_as ((reading c).kind t.columns)) t i s.records ((reading c).kind t.columns) (column-at c e) (absent-at c e)
   looked-known way within (c ∷ k ∷ []) i e =

@@ -4,7 +4,6 @@ use Rattle.kql_cells.specs.Table.{Grid, RowFits}
 use Rattle.kql_cells.specs.Catalogues.{Named}
 use Rattle.kql_cells.specs.declared.schemas.NamedSchema.{NamedSchema}
 use Rattle.kql_cells.specs.declared.schema.Column.{Column}
-use Rattle.kql_bound.specs.declared.expr.BExpr.TheVariants as expr
 use Rattle.kql_bound.specs.declared.literal.Lit.{Lit}
 use Rattle.kql_bound.specs.declared.parts.BItem.{BItem}
 use Rattle.kql_bound.specs.declared.plan.Op.{Op}
@@ -18,7 +17,8 @@ use Rattle.kql_meaning.specs.declared.position.Position.TheVariants as position
 use Rattle.kql_meaning.specs.Fits.{Known, program_columns, source_columns, table_columns}
 use Rattle.kql_meaning.specs.FittingExpressions.{scope_of}
 use Rattle.kql_meaning.specs.FittingOperators.{item_fits}
-use Rattle.kql_meaning.specs.Items.{named_columns, result_kinds, results}
+use Rattle.kql_meaning.specs.Items.{named_columns}
+use Rattle.kql_meaning.specs.Results.{result_kinds, results}
 use Rattle.kql_meaning.specs.Plans.{World, means, source_table}
 use Rattle.kql_meaning.specs.Sources.{named_table}
 use Rattle.kql_fit_laws.specs.LawsOfRows.{IsTable, IsTableOf, OpKeeps, PlanKeeps}
@@ -29,11 +29,7 @@ use Rattle.kql_fit_laws.specs.LawsOfRows.{IsTable, IsTableOf, OpKeeps, PlanKeeps
 abbrev pub ItemKeeps : Position → BItem → Type 0
 ItemKeeps at b = (t : Grid) (i : ℕ) → IsTable t → i < length t.lines → IsTrue (item_fits (scope_of t.columns) at b) → RowFits (named_columns b.names (result_kinds b.expr t.columns)) (results b.expr t i [])
 
-abbrev pub ColumnItemKeeps : Type 0
-ColumnItemKeeps = (at : Position) (names : List (List ℕ)) (n : List ℕ) → ItemKeeps at (record { names = names; expr = expr.Column n })
-
-abbrev pub LiteralItemKeeps : Type 0
-LiteralItemKeeps = (at : Position) (names : List (List ℕ)) (l : Lit) → ItemKeeps at (record { names = names; expr = expr.Literal l })
+-- Where the items of `project`, `extend` and `print` give what fits their columns, so do the rows.
 
 abbrev pub ProjectKeeps : Type 0
 ProjectKeeps = (k : Known) (w : World) (items : List BItem) → ((b : BItem) → Contains items b → ItemKeeps position.Window b) → OpKeeps k w (op.Project items)

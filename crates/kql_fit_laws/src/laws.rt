@@ -2,9 +2,9 @@
 ghost use Rattle.kql_fit_laws.specs.LawsOfCalls.{CallKeeps};
 ghost use Rattle.kql_fit_laws.specs.LawsOfExpressions.{EachExtendKeeps, EachPrintKeeps, EachProjectKeeps, EachSummarizeKeeps, ExpressionsKeep, GroupItemsKeep, ItemsKeep, KeyItemsKeep};
 ghost use Rattle.kql_fit_laws.specs.LawsOfFitting.{FittingProgramsKeep};
-ghost use Rattle.kql_fit_laws.specs.LawsOfGroupRows.{ColumnKeyKeeps, LongItemKeeps, SumItemKeeps, SummarizeKeeps};
+ghost use Rattle.kql_fit_laws.specs.LawsOfGroupRows.{SummarizeKeeps};
 ghost use Rattle.kql_fit_laws.specs.LawsOfOperators.{EachExpandKeeps, EachOpKeeps, EachParseKeeps, EachPlanKeeps, EachScanKeeps, EachSeriesKeeps, EachSourceKeeps};
-ghost use Rattle.kql_fit_laws.specs.LawsOfPrograms.{ColumnItemKeeps, ExtendKeeps, LetKeeps, LiteralItemKeeps, PartsKeepPlan, PlansKeepProgram, PrintKeeps, ProjectKeeps, RangeKeeps, TableKeeps};
+ghost use Rattle.kql_fit_laws.specs.LawsOfPrograms.{ExtendKeeps, LetKeeps, PartsKeepPlan, PlansKeepProgram, PrintKeeps, ProjectKeeps, RangeKeeps, TableKeeps};
 ghost use Rattle.kql_fit_laws.specs.LawsOfRows.{CountKeeps, JoinKeeps, PartitionKeeps, SerializeKeeps, SortKeeps, TakeKeeps, TopKeeps, UnionKeeps, WhereKeeps};
 
 /// Where `where`, `take`, `sort`, `top`, `serialize` or `count` fits the columns of a table whose rows fit them, it makes a table of the
@@ -24,24 +24,18 @@ pub fn law_of_rows()
     ensures partition { PartitionKeeps }
 {}
 
-/// An item that is a column or a literal gives values of its columns' types. Where the items of `project`, `extend` or `print` do, so do
-/// its rows.
+/// Where the items of `project`, `extend` or `print` give values of their columns' types, so do its rows.
 #[tactic(auto, using(crate::proofs::ItemRows::item_row_laws))]
 pub fn law_of_items()
-    ensures columns { ColumnItemKeeps }
-    ensures literals { LiteralItemKeeps }
     ensures project { ProjectKeeps }
     ensures extend { ExtendKeeps }
     ensures print { PrintKeeps }
 {}
 
-/// A key that is a column, and an item of `summarize` that is a sum or whose aggregate gives longs, give values of their columns' types. Where the keys
-/// and items of `summarize` do, so do its rows, and `distinct` is `summarize` without items.
+/// Where the keys and items of `summarize` give values of their columns' types, so do its rows, and `distinct` is `summarize` without
+/// items.
 #[tactic(auto, using(crate::proofs::GroupRows::group_row_laws))]
 pub fn law_of_group_rows()
-    ensures keys { ColumnKeyKeeps }
-    ensures longs { LongItemKeeps }
-    ensures sums { SumItemKeeps }
     ensures summarize { SummarizeKeeps }
 {}
 

@@ -1,4 +1,2 @@
-pub mod FitSteps
-pub mod FitsSteps
 pub mod LiteralFacts
 pub mod RangeSteps

@@ -1,6 +1,7 @@
 //! Which aggregates stand where, and the arguments that they take.
 ghost use Rattle.std.specs.Prelude.{◌≡◌, IfOk};
-ghost use Rattle.kql_meaning.specs.FittingExpressions.{aggregate_takes, best_of, first_row_of, has_one_result, is_of_series, one_of, one_of_if, one_or_first_of, takes_aggregate};
+ghost use Rattle.kql_meaning.specs.FittingExpressions.{aggregate_takes, best_of, first_row_of, is_of_series, one_of, one_of_if, one_or_first_of, takes_aggregate};
+ghost use Rattle.kql_meaning.specs.Results.{has_one_result};
 ghost use Rattle.kql_fits.specs.KindTests.{meets};
 
 use crate::kind_tests::{KindTest, has_kind, is_kind};
@@ -45,7 +46,7 @@ pub(crate) fn takes_aggregate(at: Position, f: Aggregate) -> bool
 }
 
 /// Whether a call has one result column.
-#[tactic(auto, unfolding(kql_meaning::specs::FittingExpressions::has_one_result))]
+#[tactic(auto, unfolding(kql_meaning::specs::Results::has_one_result))]
 pub(crate) fn has_one_result(f: Aggregate, args: &[BExpr]) -> bool
     ensures one { result ≡ has_one_result f args.now }
 {

@@ -21,7 +21,7 @@ use std::alloc::{AllocError, Global};
 
 /// Whether an expression fits a scope in a position, with one result column.
 #[cycle(expr_fits)]
-#[tactic(auto, using(crate::proofs::FitSteps::fit_steps))]
+#[tactic(auto, using(kql_meaning::proofs::ExpressionFitLaws::fit_steps))]
 pub(crate) fn expr_fits(
     alloc: Global,
     e: &BExpr,
@@ -128,7 +128,7 @@ fn call_fits(
 }
 
 #[cycle(expr_fits)]
-#[tactic(auto, unfolding(kql_meaning::specs::FittingExpressions::window_fits), using(crate::proofs::FitSteps::checked_steps))]
+#[tactic(auto, unfolding(kql_meaning::specs::FittingExpressions::window_fits), using(kql_meaning::proofs::ExpressionFitLaws::checked_steps))]
 fn window_fits(
     alloc: Global,
     f: Window,
@@ -196,7 +196,7 @@ fn row_number_fits(alloc: Global, args: &[BExpr], scope: &Scope<'_>) -> Result<b
 
 /// Whether a call of an aggregate fits, with one result column or several.
 #[cycle(expr_fits)]
-#[tactic(auto, using(crate::proofs::FitSteps::checked_steps))]
+#[tactic(auto, using(kql_meaning::proofs::ExpressionFitLaws::checked_steps))]
 fn aggregate_fits(
     alloc: Global,
     f: Aggregate,
@@ -235,7 +235,7 @@ pub(crate) fn fits_as(
 }
 
 /// Whether a call of an aggregate fits that may have several result columns, or an expression that has one.
-#[tactic(auto, using(crate::proofs::FitSteps::call_steps))]
+#[tactic(auto, using(kql_meaning::proofs::ExpressionFitLaws::call_steps))]
 pub(crate) fn call_or_expr_fits(
     alloc: Global,
     e: &BExpr,
@@ -257,7 +257,7 @@ pub(crate) fn call_or_expr_fits(
 }
 
 /// Whether an expression is one call of an aggregate.
-#[tactic(auto, using(crate::proofs::FitSteps::is_call_steps))]
+#[tactic(auto, using(kql_meaning::proofs::ExpressionFitLaws::is_call_steps))]
 pub(crate) fn is_aggregate_call(e: &BExpr) -> bool
     ensures call { result ≡ is_aggregate_call e.now }
 {

@@ -268,7 +268,7 @@ fn united(
 
 // The columns that an operator makes.
 #[cycle(plan_columns)]
-#[tactic(auto, using(crate::proofs::FitsSteps::op_steps))]
+#[tactic(auto, using(kql_meaning::proofs::OperatorFitLaws::op_steps))]
 fn op_columns(
     alloc: Global,
     op: &Op,
@@ -321,7 +321,7 @@ fn op_columns(
 
 // The columns after operators, one after another.
 #[cycle(plan_columns)]
-#[tactic(auto, using(crate::proofs::FitsSteps::ops_steps))]
+#[tactic(auto, using(kql_meaning::proofs::OperatorFitLaws::ops_steps))]
 fn ops_columns(
     alloc: Global,
     ops: &[Op],
@@ -344,7 +344,7 @@ fn ops_columns(
 
 // The columns of several plans, where all of them fit.
 #[cycle(plan_columns)]
-#[tactic(auto, using(crate::proofs::FitsSteps::plans_steps))]
+#[tactic(auto, using(kql_meaning::proofs::OperatorFitLaws::plans_steps))]
 fn plans_columns(
     alloc: Global,
     plans: &[Plan],
@@ -365,7 +365,7 @@ fn plans_columns(
 
 /// The columns of a plan that fits.
 #[cycle(plan_columns)]
-#[tactic(auto, using(crate::proofs::FitsSteps::plan_steps))]
+#[tactic(auto, using(kql_meaning::proofs::OperatorFitLaws::plan_steps))]
 pub(crate) fn plan_columns(
     alloc: Global,
     plan: &Plan,

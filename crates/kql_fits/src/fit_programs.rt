@@ -36,7 +36,7 @@ fn program_columns(alloc: Global, p: &Program) -> Result<Option<Items<Column>>, 
 }
 
 // The columns of the lets, each of which may name those before it.
-#[tactic(auto, using(crate::proofs::FitsSteps::lets_steps))]
+#[tactic(auto, using(kql_meaning::proofs::OperatorFitLaws::lets_steps))]
 fn lets_columns(
     alloc: Global,
     lets: &[Plan],

@@ -29,7 +29,7 @@ fn is_well_formed(value: &Value) -> bool
 }
 
 // The literal that an expression is.
-#[tactic(auto, using(crate::proofs::FitSteps::literal_steps))]
+#[tactic(auto, using(kql_meaning::proofs::ExpressionFitLaws::literal_steps))]
 fn literal_of(e: &BExpr) -> Option<&Lit>
     ensures literal { option_copied result ≡ literal_of e.now }
 {

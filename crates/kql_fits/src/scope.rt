@@ -43,7 +43,7 @@ pub(crate) fn scope_of(columns: &[Column]) -> Scope<'_>
 }
 
 // The name of the column that an expression is.
-#[tactic(auto, using(crate::proofs::FitSteps::column_steps))]
+#[tactic(auto, using(kql_meaning::proofs::ExpressionFitLaws::column_steps))]
 fn column_of(e: &BExpr) -> Option<&str>
     ensures column { option_copied result ≡ column_of e.now }
 {

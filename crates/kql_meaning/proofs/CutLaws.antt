@@ -13,7 +13,7 @@ use Rattle.std.proofs.lemmas.Cmp.{nat_list_cmp_total}
 use Rattle.kql_bound.specs.declared.parts.PatItem.{PatItem}
 use Rattle.kql_meaning.specs.Cuts.{cut, is_allowed, is_between_characters, is_cut, is_cut_from, is_end, rising_lists}
 use Rattle.kql_meaning.specs.Laws.{LeastCutIsLeast, NoCutWhereNone, PiecesAreTheText, pieces}
-use Rattle.kql_meaning.proofs.Members.{Member, Pairwise, member-flat, member-map, member-of-map, member-range, of-member, pairwise-flat, pairwise-map}
+use Rattle.kql_meaning.proofs.MemberLaws.{Member, Pairwise, member-flat, member-map, member-of-map, member-range, of-member, pairwise-flat, pairwise-map}
 
 -- Ends that are not above others.
 abbrev AtMost : List ℕ → List ℕ → Type 0

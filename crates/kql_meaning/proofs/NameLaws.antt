@@ -16,7 +16,7 @@ use Rattle.kql_meaning.specs.Join.{both_columns, first_free, free_name, numbered
 use Rattle.kql_meaning.specs.LawsOfNames.{BothNamesDiffer, NameIsFirstFree, NameIsFree, RightKindsStay}
 use Rattle.kql_meaning.specs.Tables.{is_name_among, names_of}
 use Rattle.kql_meaning.proofs.FirstLaws.{any-at, one-of-any}
-use Rattle.kql_meaning.proofs.Members.{Member, Pairwise, member-of-map, member-of-range, of-member, pairs-of, pairwise-append}
+use Rattle.kql_meaning.proofs.MemberLaws.{Member, Pairwise, member-of-map, member-of-range, of-member, pairs-of, pairwise-append}
 use Rattle.kql_meaning.proofs.SortLaws.{every-from}
 
 -- A list without one of its elements: one shorter, with all others.

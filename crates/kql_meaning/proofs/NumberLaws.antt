@@ -1,6 +1,8 @@
 -- Numbers at equal distances, and bins.
 use Rattle.std.proofs.Common.{◌≡◌, ◌<◌, ◌≤◌, ◌+◌, ◌-◌, ◌*◌, ◌^◌, ◌↔◌, ◌/◌, ◌%◌, ℕ, zero, suc, Bool, true, false, [], map, refl, sym, subst, ap, ◌∙◌, arith, inl, inr, ℤ, pos, negsuc, ◌+ℤ◌, ◌-ℤ◌, ◌*ℤ◌, ◌≤ℤ◌, ◌<ℤ◌, FitsSigned, w64}
-use Rattle.std.specs.Prelude.{Contains, IsTrue, Some, int_le, int_lt}
+use Rattle.std.specs.Prelude.{Bool, Contains, IsTrue, Option, Some, int_le, int_lt}
+use Rattle.std.specs.Option.{option_eq}
+use Rattle.std.specs.Ordering.{int_eq}
 use Rattle.std.specs.Int.{int_rem_euclid}
 use Rattle.std.specs.Int.Signed.{le_z}
 use Rattle.std.specs.List.{range_with_len}
@@ -13,11 +15,11 @@ use Rattle.kql_ticks.specs.Bins.{bin_at}
 use Rattle.kql_ticks.specs.Ranges.{fit, is_span}
 use Rattle.kql_ticks.proofs.BinLemmas.{bin_at-positive, bin_is}
 use Rattle.kql_meaning.specs.LawsOfNumbers.{FallsBetween, InsideInOneBin, TermsAreThose, TermsRise}
-use Rattle.kql_meaning.specs.MakeSeries.{bins, falls_in, is_bin, is_inside}
+use Rattle.kql_meaning.specs.MakeSeries.{bins, falls_in, is_inside}
 use Rattle.kql_meaning.specs.Numbers.{count_of_terms, terms}
 use Rattle.kql_meaning.specs.Sources.{number_in}
 use Rattle.kql_meaning.specs.Tables.{places_below}
-use Rattle.kql_meaning.proofs.Members.{Member, contains-member, member-contains, member-map, member-of-map, member-of-range, member-range, pairs-of, pairwise-map, pairwise-range}
+use Rattle.kql_meaning.proofs.MemberLaws.{Member, contains-member, member-contains, member-map, member-of-map, member-of-range, member-range, pairs-of, pairwise-map, pairwise-range}
 
 -- Distances.
 
@@ -156,16 +158,17 @@ bin-of f n m first last =
     bin-start (f +ℤ pos n) f m ∙ (ap fit (start-of f n m) ∙ fit-is (f +ℤ pos start) (fits-between f start n (div-mul-le_self n (suc m)) first last))
 
 -- What a number falls in is the bin of the number.
+abbrev is_bin : ℤ → Option ℤ → Bool
+is_bin b o = option_eq int_eq o (Some b)
+
 is-this-bin : (b c : ℤ) → is_bin b (Some c) ≡ true → c ≡ b
-unfolding is_bin
 is-this-bin b c e = (Decides-int_eq c b).0 e
 
 this-is-bin : (b c : ℤ) → c ≡ b → is_bin b (Some c) ≡ true
-unfolding is_bin
 this-is-bin b c e = (Decides-int_eq c b).1 e
 
 fitted-bin : (b r : ℤ) → is_bin b (fit r) ≡ true → r ≡ b
-unfolding fit is_bin
+unfolding fit
 fitted-bin b r e = elim (cases_Bool (is_span r)) [
   | inl t ↦ let f : is_bin b (Some r) ≡ true = rw t at e in is-this-bin b r f
   | inr n ↦ let f : false ≡ true = rw n at e in cc

@@ -14,8 +14,8 @@ use Rattle.kql_meaning.specs.Join.{both_rows, has_left, has_right, join_rows, ma
 use Rattle.kql_meaning.specs.LawsOfJoins.{FullOuterIsLeftOuterAndMore, LeftMatchedHaveMatch, MatchedRise, RightMatchedHaveMatch, RightOuterIsPairsAndMore, RightPairsInOrder, RightPairsMatch, SemiAndAntiAreAll, SemiGivesMatched, left_matched, right_matched, right_unmatched}
 use Rattle.kql_meaning.specs.Tables.{places, places_below}
 use Rattle.kql_meaning.proofs.JoinLaws.{given-and-alone, kept-or-none, left_has_match, map-map, matched, one_pair, pair-left, pair-right, right_has_match, row_of}
-use Rattle.kql_meaning.proofs.ListFacts.{gathered-all}
-use Rattle.kql_meaning.proofs.Members.{Member, contains-member, member-contains, member-filter, member-flat, member-map, member-of-filter, member-of-flat, member-of-map, member-of-range, member-range, pairs-of, pairwise-filter, pairwise-flat, pairwise-map, pairwise-range}
+use Rattle.kql_meaning.proofs.ListLaws.{gathered-all}
+use Rattle.kql_meaning.proofs.MemberLaws.{Member, contains-member, member-contains, member-filter, member-flat, member-map, member-of-filter, member-of-flat, member-of-map, member-of-range, member-range, pairs-of, pairwise-filter, pairwise-flat, pairwise-map, pairwise-range}
 
 -- Pairs in the order of the right rows.
 

@@ -16,7 +16,7 @@ use Rattle.kql_meaning.specs.MvExpand.{expand_table, expanded_row, item_parts, r
 use Rattle.kql_meaning.specs.Tables.{distinct_by, places, places_below}
 use Rattle.kql_meaning.specs.Union.{all_in_order, rows_in_columns, same_name, union_columns, union_table}
 use Rattle.kql_meaning.proofs.GroupLaws.{distinct-differ, in-distinct, of-distinct}
-use Rattle.kql_meaning.proofs.Members.{Member, contains-member, member-contains, member-flat, member-of-flat, pairs-of}
+use Rattle.kql_meaning.proofs.MemberLaws.{Member, contains-member, member-contains, member-flat, member-of-flat, pairs-of}
 
 -- Union.
 

@@ -9,7 +9,7 @@ use Rattle.kql_cells.specs.declared.value.Value.{Value}
 use Rattle.kql_cells.specs.declared.value.Value.TheVariants as value
 use Rattle.kql_dynamic.specs.Json.{parsed}
 use Rattle.kql_scalar_fns.specs.Conversion.{moment_written}
-use Rattle.kql_scalar_fns.specs.Readings.{bool_written, long_written}
+use Rattle.kql_cells.specs.Readings.{bool_written, long_written}
 use Rattle.kql_bound.specs.declared.parts.PatItem.{PatItem}
 use Rattle.kql_bound.specs.declared.parts.PatItem.TheVariants as item
 

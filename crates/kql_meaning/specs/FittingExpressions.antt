@@ -25,6 +25,7 @@ use Rattle.kql_meaning.specs.declared.position.Position.{Position}
 use Rattle.kql_meaning.specs.declared.position.Position.TheVariants as position
 use Rattle.kql_meaning.specs.Expressions.{call_kind, kind_along, kind_down, kind_of, kinds_in}
 use Rattle.kql_meaning.specs.Literals.{literal_fits}
+use Rattle.kql_meaning.specs.Results.{has_one_result}
 use Rattle.kql_meaning.specs.Tables.{has_column}
 use Rattle.kql_meaning.specs.Values.{same_key}
 
@@ -173,12 +174,25 @@ part_fits _ args = true
 abbrev pub Checked : Type 0
 Checked = BExpr × (Scope → Position → Bool)
 
+abbrev pub expr_of : Checked → BExpr
+expr_of a = a.0
+
+abbrev pub is_fit : Checked → Scope → Position → Bool
+is_fit a = a.1
+
 -- The expressions themselves, and whether they all fit.
 unfoldable pub exprs_of : List Checked → List BExpr
-exprs_of args = map (λ (a : Checked). a.0) args
+exprs_of args = map expr_of args
 
 unfoldable pub all_fit : List Checked → Scope → Position → Bool
-all_fit args scope at = list_all (λ (a : Checked). a.1 scope at) args
+all_fit args scope at = list_all (λ (a : Checked). is_fit a scope at) args
+
+-- The parts of a chain behind its first, with their signs and without.
+abbrev pub links_of : List (ChainSign × Checked) → List (ChainSign × BExpr)
+links_of links = map (λ (l : ChainSign × Checked). (l.0, expr_of l.1)) links
+
+abbrev pub parts_of : List (ChainSign × Checked) → List Checked
+parts_of links = map (λ (l : ChainSign × Checked). l.1) links
 
 -- Window functions.
 
@@ -198,11 +212,11 @@ look_fits _ scope = false
 
 -- A restart is a bool.
 unfoldable pub restart_fits : Checked → Scope → Bool
-restart_fits r scope = r.1 scope position.Term && is_kind kind.Bool (kind_of r.0 scope.columns)
+restart_fits r scope = is_fit r scope position.Term && is_kind kind.Bool (kind_of (expr_of r) scope.columns)
 
 -- The term of `row_cumsum` is a long or a timespan.
 unfoldable pub term_fits : Checked → Scope → Bool
-term_fits term scope = term.1 scope position.Term && has_kind is_addable (kind_of term.0 scope.columns)
+term_fits term scope = is_fit term scope position.Term && has_kind is_addable (kind_of (expr_of term) scope.columns)
 
 unfoldable pub running_sum_fits : List Checked → Scope → Bool
 running_sum_fits (term ∷ []) scope = term_fits term scope
@@ -212,8 +226,8 @@ running_sum_fits _ scope = false
 -- The start of `row_number` is a constant long, which may be null.
 unfoldable pub row_number_fits : List Checked → Scope → Bool
 row_number_fits [] scope = true
-row_number_fits (start ∷ []) scope = is_constant_of (Some kind.Long) start.0
-row_number_fits (start ∷ restart ∷ []) scope = is_constant_of (Some kind.Long) start.0 && restart_fits restart scope
+row_number_fits (start ∷ []) scope = is_constant_of (Some kind.Long) (expr_of start)
+row_number_fits (start ∷ restart ∷ []) scope = is_constant_of (Some kind.Long) (expr_of start) && restart_fits restart scope
 row_number_fits _ scope = false
 
 unfoldable pub window_fits : Window → List Checked → Scope → Bool
@@ -299,13 +313,6 @@ unfoldable pub aggregate_fits : Aggregate → List Checked → Scope → Positio
 aggregate_fits f args scope at =
     takes_aggregate at f && (all_fit args scope position.Plain && aggregate_takes f (exprs_of args) scope.columns)
 
--- Whether a call has one result column: `arg_max`, `arg_min` and `take_any` have one for each argument.
-unfoldable pub has_one_result : Aggregate → List BExpr → Bool
-has_one_result aggregate.ArgMax args = length args == 1
-has_one_result aggregate.ArgMin args = length args == 1
-has_one_result aggregate.TakeAny args = length args == 1
-has_one_result _ args = true
-
 -- Expressions.
 
 -- Whether columns may stand in a position outside an aggregate's arguments.
@@ -315,7 +322,7 @@ takes_columns position.Window = true
 takes_columns position.Term = true
 takes_columns _ = false
 
--- Whether an expression fits, from whether its parts do.
+-- Whether an expression fits, from whether its parts do. A call, a chain and a path fit where all their parts do and their types give one.
 abbrev pub fits_step : BExpr-F Checked → Scope → Position → Bool
 fits_step (BExpr-F.Literal l) scope at = literal_fits l
 fits_step (BExpr-F.Column n) scope at = takes_columns at && has_column n scope.columns
@@ -323,10 +330,11 @@ fits_step (BExpr-F.Step c) scope at = takes_columns at && step_fits scope c
 fits_step (BExpr-F.Call f args) scope at =
     is_callable f && (all_fit args scope at && (part_fits f (exprs_of args) && is_some (call_kind f (kinds_in (exprs_of args) scope.columns))))
 fits_step (BExpr-F.Chain first links) scope at =
-    first.1 scope at && (all_fit (map (λ (l : ChainSign × Checked). l.1) links) scope at
-    && is_some (kind_along (map (λ (l : ChainSign × Checked). (l.0, l.1.0)) links) scope.columns (kind_of first.0 scope.columns)))
+    is_fit first scope at && (all_fit (parts_of links) scope at
+    && is_some (kind_along (links_of links) scope.columns (kind_of (expr_of first) scope.columns)))
 fits_step (BExpr-F.Path whole steps) scope at =
-    whole.1 scope at && (all_fit steps scope at && is_some (kind_down (exprs_of steps) scope.columns (kind_of whole.0 scope.columns)))
+    is_fit whole scope at && (all_fit steps scope at
+    && is_some (kind_down (exprs_of steps) scope.columns (kind_of (expr_of whole) scope.columns)))
 fits_step (BExpr-F.Window f args) scope at = takes_window at f && window_fits f args scope
 fits_step (BExpr-F.Aggregate f args) scope at = has_one_result f (exprs_of args) && aggregate_fits f args scope at
 

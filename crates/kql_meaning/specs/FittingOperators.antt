@@ -27,7 +27,8 @@ use Rattle.kql_meaning.specs.declared.position.Position.{Position}
 use Rattle.kql_meaning.specs.declared.position.Position.TheVariants as position
 use Rattle.kql_meaning.specs.Expressions.{column_kind, kind_of}
 use Rattle.kql_meaning.specs.FittingExpressions.{Scope, call_or_expr_fits, expr_fits, fits_as, has_kind, is_aggregate_call, is_key, is_kind, same_known, scope_of}
-use Rattle.kql_meaning.specs.Items.{items_names, result_kinds}
+use Rattle.kql_meaning.specs.Items.{items_names}
+use Rattle.kql_meaning.specs.Results.{result_kinds}
 use Rattle.kql_meaning.specs.Literals.{literal_fits}
 use Rattle.kql_meaning.specs.Numbers.{count_of_terms}
 use Rattle.kql_meaning.specs.Scan.{declared_columns, declared_defaults}

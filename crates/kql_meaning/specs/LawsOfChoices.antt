@@ -3,7 +3,7 @@ use Rattle.std.specs.Prelude.{◌≡◌, ◌≢◌, ◌<◌, ℕ, Bool, List, le
 use Rattle.kql_cells.specs.declared.value.Value.{Value}
 use Rattle.kql_cells.specs.declared.value.Value.TheVariants as value
 use Rattle.kql_scalar_fns.specs.Choice.{greatest, is_below, least}
-use Rattle.kql_meaning.specs.Aggregates.{greatest_row, least_row}
+use Rattle.kql_meaning.specs.Results.{greatest_row, least_row}
 
 -- The value at a place.
 abbrev pub value_at : List Value → ℕ → Value

@@ -1,6 +1,5 @@
 pub mod Aggregates
 pub mod Cuts
-pub mod Examples
 pub mod Expressions
 pub mod Extend
 pub mod Fits
@@ -16,6 +15,7 @@ pub mod LawsOfJoins
 pub mod LawsOfNames
 pub mod LawsOfNothing
 pub mod LawsOfNumbers
+pub mod LawsOfRows
 pub mod LawsOfScan
 pub mod LawsOfTables
 pub mod Literals
@@ -27,6 +27,8 @@ pub mod Partition
 pub mod Plans
 pub mod Project
 pub mod Readings
+pub mod Results
+pub mod RowByRow
 pub mod Scan
 pub mod Sort
 pub mod Sources

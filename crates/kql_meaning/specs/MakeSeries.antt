@@ -1,7 +1,8 @@
 -- `make-series`: the bins are from, from + step and so on below to. A row falls in the bin at its axis; one with a null axis, before
 -- from, or not before to, is left out. For each group of the rows inside there is a row: the keys, for each aggregate an array over
 -- the bins, and the axis as an array of the bins. Where no row is inside there is no group, also without `by`.
-use Rattle.std.specs.Prelude.{Bool, false, ◌&&◌, List, [], ◌∷◌, ◌++◌, Option, None, Some, filter, map, ℤ, pos, ◌-ℤ◌, int_le, int_lt, ◌==◌, length, if◌then◌else◌}
+use Rattle.std.specs.Prelude.{Bool, false, ◌&&◌, List, [], ◌∷◌, ◌++◌, Option, None, Some, filter, map, ℤ, pos, ◌-ℤ◌, int_le, int_lt, ◌==◌, length, option_and_then, if◌then◌else◌}
+use Rattle.std.specs.Option.{option_eq}
 use Rattle.std.specs.Ordering.{int_eq}
 use Rattle.kql_ticks.specs.Bins.{bin_at}
 use Rattle.kql_cells.specs.Table.{Grid, gathered}
@@ -33,15 +34,9 @@ is_inside p (Some x) = int_le (number_in p.from) x && int_lt x (number_in p.to)
 unfoldable pub rows_inside : SeriesPlan → Grid → Grid
 rows_inside p t = gathered t (filter (λ i. is_inside p (number_of (cell t i p.axis))) (places t))
 
--- Whether a bin is this one.
-unfoldable pub is_bin : ℤ → Option ℤ → Bool
-is_bin b None = false
-is_bin b (Some c) = int_eq c b
-
--- Whether a row's axis falls in a bin.
+-- Whether a row's axis falls in a bin: its bin is this one.
 unfoldable pub falls_in : SeriesPlan → ℤ → Option ℤ → Bool
-falls_in p b None = false
-falls_in p b (Some x) = is_bin b (bin_at x (number_in p.step) (number_in p.from))
+falls_in p b axis = option_eq int_eq (option_and_then (λ x. bin_at x (number_in p.step) (number_in p.from)) axis) (Some b)
 
 -- The rows of a group in a bin.
 unfoldable pub rows_in_bin : SeriesPlan → Grid → ℤ → Grid

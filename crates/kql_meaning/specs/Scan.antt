@@ -2,7 +2,7 @@
 --
 -- Steps are numbered from 1 to n. The state of step k is empty, or holds one record for each of the steps 1 to k and a match id. A
 -- record is an input row with the declared columns. Expressions are read over the rows with the declared columns at their defaults.
-use Rattle.std.specs.Prelude.{ℕ, ◌+◌, ◌-◌, ◌==◌, nat_lt, Bool, true, false, List, [], ◌∷◌, ◌++◌, Option, None, Some, find, fold, length, map, replicate, reverse, slice_get, slice_index_or, slice_set, take, pos, if◌then◌else◌}
+use Rattle.std.specs.Prelude.{ℕ, ◌+◌, ◌-◌, ◌==◌, nat_lt, Bool, true, false, List, [], ◌∷◌, ◌++◌, Option, None, Some, find, fold, length, map, option_map, replicate, reverse, slice_get, slice_index_or, slice_set, take, pos, if◌then◌else◌}
 use Rattle.std.specs.List.{enumerate_from, flat_map, range_with_len}
 use Rattle.kql_cells.specs.Table.{Grid}
 use Rattle.kql_cells.specs.declared.schema.Column.{Column}
@@ -149,10 +149,10 @@ replaced p step t i k m h =
       emitted = emitted_at_once p step line h.id;
     }
 
--- The machine as check 2 leaves it; none where the state of a step above 1 is empty.
+-- Check 2 has held, with this state: at step 1 a new sequence begins, and at a step above 1 its own record is replaced, where the state is
+-- not empty.
 unfoldable pub renewed : ScanPlan → ScanStep → Grid → ℕ → ℕ → Machine → Option Held → Option Turn
-renewed p step t i k m None = if k == 1 then Some (begun_anew p step t i m None) else None
-renewed p step t i k m (Some h) = if k == 1 then Some (begun_anew p step t i m (Some h)) else Some (replaced p step t i k m h)
+renewed p step t i k m state = if k == 1 then Some (begun_anew p step t i m state) else option_map (replaced p step t i k m) state
 
 -- Check 2: the state of step k is not empty, or k is 1, and the condition is true with it.
 unfoldable pub check_two : ScanPlan → ScanStep → Grid → ℕ → ℕ → Machine → Option Turn

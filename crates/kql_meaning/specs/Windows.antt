@@ -58,13 +58,11 @@ unfoldable pub first_number : Option Reading → Grid → ℕ → Records → Va
 first_number None t i s = value.Long (pos 1)
 first_number (Some start) t i s = start.at t i s
 
--- The column that `prev` or `next` takes, looked at a row away in its way.
-unfoldable pub looked : (Reading → ℕ → Value → Grid → ℕ → Records → Value) → List Reading → Grid → ℕ → Records → Value
-looked way args t i s = way (reading_at args 0) (rows_away (slice_get args 1) t i s) (where_none (reading_at args 0) (slice_get args 2) t i s) t i s
-
 -- What each window function gives at row i.
 unfoldable pub windowed : Window → List Reading → Grid → ℕ → Records → Value
-windowed window.Prev args t i s = looked value_before args t i s
-windowed window.Next args t i s = looked value_after args t i s
+windowed window.Prev args t i s =
+    value_before (reading_at args 0) (rows_away (slice_get args 1) t i s) (where_none (reading_at args 0) (slice_get args 2) t i s) t i s
+windowed window.Next args t i s =
+    value_after (reading_at args 0) (rows_away (slice_get args 1) t i s) (where_none (reading_at args 0) (slice_get args 2) t i s) t i s
 windowed window.RowCumsum args t i s = running_sum (reading_at args 0) (slice_get args 1) t i s
 windowed window.RowNumber args t i s = sum (first_number (slice_get args 0) t i s) (value.Long (pos (i - run_start (slice_get args 1) t i s)))

@@ -11,7 +11,7 @@ use std::alloc::{AllocError, Global};
 
 /// The type of an expression over these columns, or none where it has none.
 #[cycle(kind_of)]
-#[tactic(auto, using(crate::proofs::KindSteps::kind_steps))]
+#[tactic(auto, using(crate::proofs::KindLaws::kind_steps))]
 pub fn kind_of(alloc: Global, e: &BExpr, columns: &[Column]) -> Result<Option<Kind>, AllocError>
     ensures kind { IfOk result (λ k. k ≡ kind_of e.now columns.now) }
 {
@@ -52,7 +52,7 @@ pub fn kind_of_call(
 
 // The types of all arguments, where each has one.
 #[cycle(kind_of)]
-#[tactic(auto, using(crate::proofs::KindSteps::known_steps))]
+#[tactic(auto, using(crate::proofs::KindLaws::known_steps))]
 fn known_kinds(
     alloc: Global,
     args: &[BExpr],
@@ -72,7 +72,7 @@ fn known_kinds(
 
 /// The type of a chain whose first part has this type.
 #[cycle(kind_of)]
-#[tactic(auto, using(crate::proofs::KindSteps::along_steps))]
+#[tactic(auto, using(crate::proofs::KindLaws::along_steps))]
 pub fn kind_along(
     alloc: Global,
     links: &[Link],
@@ -91,7 +91,7 @@ pub fn kind_along(
 
 /// The type of a path into a value of this type.
 #[cycle(kind_of)]
-#[tactic(auto, using(crate::proofs::KindSteps::down_steps))]
+#[tactic(auto, using(crate::proofs::KindLaws::down_steps))]
 pub fn kind_down(
     alloc: Global,
     steps: &[BExpr],

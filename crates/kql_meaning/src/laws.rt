@@ -6,6 +6,7 @@ ghost use Rattle.kql_meaning.specs.LawsOfJoins.{FullOuterIsLeftOuterAndMore, Lef
 ghost use Rattle.kql_meaning.specs.LawsOfNames.{BothNamesDiffer, NameIsFirstFree, NameIsFree, RightKindsStay};
 ghost use Rattle.kql_meaning.specs.LawsOfNothing.{AbsentWithoutRow, AggregatesOfNothing};
 ghost use Rattle.kql_meaning.specs.LawsOfNumbers.{FallsBetween, InsideInOneBin, TermsAreThose, TermsRise};
+ghost use Rattle.kql_meaning.specs.LawsOfRows.{ExpandTakesEachRow, ExtendOfGathered, ExtendTakesEachRow, ParseOfGathered, ParseTakesEachRow, PlainOfGathered, PlainReadsItsRow, PlainWhereFits, ProjectOfGathered, ProjectTakesEachRow, WhereOfGathered, WhereTakesEachRow};
 ghost use Rattle.kql_meaning.specs.LawsOfScan.{ScanTakesEveryRow};
 ghost use Rattle.kql_meaning.specs.LawsOfTables.{ExpandCounts, RowsGivenAreLongest, UnionHasAllRows, UnionHasEachColumn, UnionHasNoOther, UnionNamesDiffer};
 
@@ -194,4 +195,24 @@ pub fn law_of_greatest_and_least()
     ensures least { LeastRowIsFirst }
     ensures greatest_value { GreatestIsOfRow }
     ensures least_value { LeastIsOfRow }
+{}
+
+/// A plain expression, in which neither a window function nor an aggregate stands, reads its row alone: at row k of gathered rows it has
+/// the value that it has at that row's place in the table. Where none of these may stand, what fits is plain. So `where`, `extend`, `project`, `parse` and `mv-expand` with plain
+/// expressions take each row by itself: over rows and then others they give what they give for those, and then for the others. Over
+/// gathered rows the first four give the rows of what they give over the table.
+#[tactic(auto, using(crate::proofs::RowByRowLaws::row_by_row_laws, crate::proofs::PartRowLaws::part_row_laws, crate::proofs::PlainFitLaws::plain_fit_laws))]
+pub fn law_of_rows()
+    ensures row { PlainReadsItsRow }
+    ensures gathered { PlainOfGathered }
+    ensures fits { PlainWhereFits }
+    ensures kept { WhereOfGathered }
+    ensures extended { ExtendOfGathered }
+    ensures projected { ProjectOfGathered }
+    ensures parsed { ParseOfGathered }
+    ensures kept_apart { WhereTakesEachRow }
+    ensures extended_apart { ExtendTakesEachRow }
+    ensures projected_apart { ProjectTakesEachRow }
+    ensures parsed_apart { ParseTakesEachRow }
+    ensures expanded_apart { ExpandTakesEachRow }
 {}

@@ -1,5 +1,5 @@
 use Rattle.std.proofs.Common.{◌≡◌, map, take}
-use Rattle.kql_meaning.specs.Items.{typed}
+use Rattle.kql_meaning.specs.Results.{typed}
 use Rattle.kql_columns.proofs.columns.typed_all.Given as goal
 
 abbrev pub invariant-loop-arg : goal.invariant-loop-arg

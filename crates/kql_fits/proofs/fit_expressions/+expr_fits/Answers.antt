@@ -1,5 +1,5 @@
 use Rattle.std.proofs.Common.{arith}
-use Rattle.kql_fits.proofs.FitSteps.{link-refused}
+use Rattle.kql_meaning.proofs.ExpressionFitLaws.{link-refused}
 use Rattle.kql_fits.proofs.fit_expressions.+expr_fits.Goals as goal
 
 pub links_fit-returns-then-not-branch : goal.links_fit-returns-then-not-branch

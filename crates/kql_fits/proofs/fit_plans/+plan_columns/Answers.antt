@@ -1,7 +1,7 @@
 use Rattle.std.proofs.Common.{arith, ◌∙◌, ap, sym}
 use Rattle.std.specs.Prelude.{Some}
 use Rattle.kql_meaning.specs.Fits.{known_of, op_columns, plan_columns}
-use Rattle.kql_fits.proofs.FitsSteps.{ops-more, plans-more}
+use Rattle.kql_meaning.proofs.OperatorFitLaws.{ops-more, plans-more}
 use Rattle.kql_fits.proofs.fit_plans.+plan_columns.Goals as goal
 
 pub ops_columns-loop-op-preserved : goal.ops_columns-loop-op-preserved

@@ -1,6 +1,6 @@
 use Rattle.std.proofs.Common.{arith, ◌∙◌, ap, sym}
 use Rattle.kql_meaning.specs.Fits.{known_of, plan_columns}
-use Rattle.kql_fits.proofs.FitsSteps.{lets-more}
+use Rattle.kql_meaning.proofs.OperatorFitLaws.{lets-more}
 use Rattle.kql_fits.proofs.fit_programs.lets_columns.Goals as goal
 
 pub loop-plan-preserved : goal.loop-plan-preserved

@@ -1,6 +1,6 @@
 use Rattle.std.proofs.Common.{arith, ◌+◌, ◌∙◌, ap, sym}
 use Rattle.kql_meaning.specs.Expressions.{kind_of}
-use Rattle.kql_meaning.proofs.KindSteps.{along-next, known-more}
+use Rattle.kql_meaning.proofs.KindLaws.{along-next, known-more}
 use Rattle.kql_meaning.proofs.kinds.+kind_of.Goals as goal
 
 pub kind_along-loop-link-preserved : goal.kind_along-loop-link-preserved

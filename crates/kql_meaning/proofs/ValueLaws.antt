@@ -16,7 +16,7 @@ use Rattle.kql_meaning.specs.Expressions.{chain_value, path_value, reading, step
 use Rattle.kql_meaning.specs.Readings.{Reading, Records, values_at}
 use Rattle.kql_meaning.specs.Tables.{cell}
 use Rattle.kql_meaning.specs.Windows.{windowed}
-use Rattle.kql_meaning.proofs.ReadingSteps.{reading-Aggregate, reading-Call, reading-Chain, reading-Column, reading-Literal, reading-Path, reading-Step, reading-Window}
+use Rattle.kql_meaning.proofs.ReadingLaws.{reading-Aggregate, reading-Call, reading-Chain, reading-Column, reading-Literal, reading-Path, reading-Step, reading-Window}
 
 -- The value of a reading.
 abbrev read_at : Grid → ℕ → Records → Reading → Value

@@ -16,7 +16,8 @@ use Rattle.kql_bound.specs.declared.literal.Lit.{Lit}
 use Rattle.kql_meaning.specs.declared.position.Position.{Position}
 use Rattle.kql_meaning.specs.declared.position.Position.TheVariants as position
 use Rattle.kql_meaning.specs.Expressions.{call_kind, kind_along, kind_down, kind_of, kinds_in}
-use Rattle.kql_meaning.specs.FittingExpressions.{Checked, Scope, aggregate_fits, aggregate_takes, all_fit, call_or_expr_fits, call_or_expr_fits_step, checked_args, column_of, column_step, expr_fits, exprs_of, fits_as, fits_step, has_one_result, is_addable, is_aggregate_call, is_aggregate_call_step, is_callable, is_kind, links_fit, literal_of, literal_step, part_fits, restart_fits, step_fits, takes_aggregate, takes_columns, takes_window, term_fits, window_fits}
+use Rattle.kql_meaning.specs.FittingExpressions.{Checked, Scope, aggregate_fits, aggregate_takes, all_fit, call_or_expr_fits, call_or_expr_fits_step, checked_args, column_of, column_step, expr_fits, exprs_of, fits_as, fits_step, is_addable, is_aggregate_call, is_aggregate_call_step, is_callable, is_kind, links_fit, literal_of, literal_step, part_fits, restart_fits, step_fits, takes_aggregate, takes_columns, takes_window, term_fits, window_fits}
+use Rattle.kql_meaning.specs.Results.{has_one_result}
 use Rattle.kql_meaning.specs.Literals.{literal_fits}
 use Rattle.kql_meaning.specs.Tables.{has_column}
 

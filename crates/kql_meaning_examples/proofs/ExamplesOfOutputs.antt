@@ -12,12 +12,12 @@ use Rattle.kql_scalar_fns.specs.Search.{found, search_call, stands}
 use Rattle.kql_bound.specs.declared.parts.Output.{Output}
 use Rattle.kql_bound.specs.declared.parts.Output.TheVariants as output
 use Rattle.kql_bound.specs.declared.parts.ScanPlan.{ScanPlan}
-use Rattle.kql_meaning.specs.Examples.{ScanLastAtEnd, ScanLastOfBoth, ScanLastOfFirst, ScanLastOfSecond, ScanNoneOfFirst, ScanNoneOfSecond, all_seen, events, letters_again, n, seen, t, two_letters}
+use Rattle.kql_meaning_examples.specs.Examples.{ScanLastAtEnd, ScanLastOfBoth, ScanLastOfFirst, ScanLastOfSecond, ScanNoneOfFirst, ScanNoneOfSecond, all_seen, events, letters_again, n, seen, t, two_letters}
 use Rattle.kql_meaning.specs.Readings.{values_at}
 use Rattle.kql_meaning.specs.Scan.{Held, Machine, Turn, after, all_rows, assigned, begun_anew, check_one, check_two, comes_true, declared_columns, declared_defaults, defaults_of, emitted_at_once, emitted_if_last, first_outcome, held_rows, id_cells, id_columns, is_all, is_last, machine_at_start, new_record, promoted, records_of, renewed, replaced, row_after, row_of_record, row_turn, rows_at_end, scan_columns, scan_rows, scan_table, state_before, state_of, steps_down, tried, with_declared, with_state}
 use Rattle.kql_meaning.specs.Tables.{absent_in, cell, cell_in, is_name_among, places, places_below}
 use Rattle.kql_meaning.specs.Values as values
-use Rattle.kql_meaning.proofs.ExamplesOfScan.{letter-value, letter_read}
+use Rattle.kql_meaning_examples.proofs.ExamplesOfScan.{letter-value, letter_read}
 
 abbrev row : ℕ → List ℕ → List Value
 row i e = n i ∷ t e ∷ []

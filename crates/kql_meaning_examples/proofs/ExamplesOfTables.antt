@@ -10,9 +10,9 @@ use Rattle.kql_cells.specs.declared.value.Value.{Value}
 use Rattle.kql_bound.specs.declared.parts.BKey.{BKey}
 use Rattle.kql_bound.specs.declared.parts.ParsePlan.{ParsePlan}
 use Rattle.kql_ticks.specs.Ranges.{fit}
-use Rattle.kql_scalar_fns.specs.Readings.{long_written}
+use Rattle.kql_cells.specs.Readings.{long_written}
 use Rattle.kql_meaning.specs.Cuts.{behind_dash, cut, digits_length, filled_piece_read, is_allowed, is_between_characters, is_cut, is_cut_from, is_end, is_number_before_star, number_length, piece_read, rising_lists, star_follows}
-use Rattle.kql_meaning.specs.Examples.{ParseMessage, ParseMessageRelaxed, ParseNumber, ParseRelaxed, ParseSimple, PartitionCounts, PartitionTakesFirsts, RangeTerms, SortAscending, SortDescending, SortNullsFirst, TopTwo, UnionInner, UnionOuter, by_k, by_pattern, column, keyed, messages}
+use Rattle.kql_meaning_examples.specs.Examples.{ParseMessage, ParseMessageRelaxed, ParseNumber, ParseRelaxed, ParseSimple, PartitionCounts, PartitionTakesFirsts, RangeTerms, SortAscending, SortDescending, SortNullsFirst, TopTwo, UnionInner, UnionOuter, by_k, by_pattern, column, keyed, messages}
 use Rattle.kql_meaning.specs.Groups.{distinct_keys, group_of}
 use Rattle.kql_meaning.specs.Items.{cells_in, without}
 use Rattle.kql_meaning.specs.Numbers.{count_of_terms, counted, terms}
@@ -23,7 +23,7 @@ use Rattle.kql_meaning.specs.TakeAndCount.{count_columns, count_table, take_tabl
 use Rattle.kql_meaning.specs.Union.{all_in_order, cell_or_absent, rows_in_columns, same_name, union_columns, union_table}
 use Rattle.kql_meaning.specs.Values.{absent, same_key, same_keys}
 use Rattle.kql_meaning.specs.Expressions.{val}
-use Rattle.kql_meaning.proofs.ValueSteps.{val-Column}
+use Rattle.kql_meaning.proofs.ValueLaws.{val-Column}
 use Rattle.kql_meaning.specs.Sort.{sort_table, sorted_places, top_table, risen, put_in, pair_cmp, keys_cmp, key_cmp, directed, null_end}
 
 pub partition_takes : PartitionTakesFirsts

@@ -21,16 +21,17 @@ use Rattle.kql_bound.specs.declared.expr.BExpr.TheVariants as expr
 use Rattle.kql_functions.specs.declared.window.Window.{Window}
 use Rattle.kql_functions.specs.declared.window.Window.TheVariants as window
 use Rattle.kql_bound.specs.declared.parts.BItem.{BItem}
-use Rattle.kql_meaning.specs.Examples.{ExtendNext, ExtendRowNumbers, column, g_after, literal, minus_one, n, null, number_from_five, number_from_null, number_from_one, number_in_group, other_group, runs, table, x_after, x_two_after}
+use Rattle.kql_meaning_examples.specs.Examples.{ExtendNext, ExtendRowNumbers, column, g_after, literal, minus_one, n, null, number_from_five, number_from_null, number_from_one, number_in_group, other_group, runs, table, x_after, x_two_after}
 use Rattle.kql_meaning.specs.Expressions.{column_kind, first_kind, reading, reading_step, window_kind}
 use Rattle.kql_meaning.specs.Extend.{extend_columns, extend_table}
-use Rattle.kql_meaning.specs.Items.{cells_in, items_columns, items_names, items_values, named_columns, result_kinds, results, without}
+use Rattle.kql_meaning.specs.Items.{cells_in, items_columns, items_names, items_values, named_columns, without}
+use Rattle.kql_meaning.specs.Results.{result_kinds, results}
 use Rattle.kql_meaning.specs.Readings.{Reading, kinds_of, reading_at, values_at}
 use Rattle.kql_meaning.specs.Tables.{absent_in, cell, cell_in, is_name_among, places, places_below}
 use Rattle.kql_meaning.specs.Values.{absent, absent_as, holds}
-use Rattle.kql_meaning.specs.Windows.{count_in, first_number, last_where, looked, rows_away, run_start, value_after, value_before, where_none, windowed}
-use Rattle.kql_meaning.proofs.ExamplesOfValues.{extended_by, kind-reading, kind_by, value-reading, window-kinds, window-results}
-use Rattle.kql_meaning.proofs.ReadingSteps.{reading_steps}
+use Rattle.kql_meaning.specs.Windows.{count_in, first_number, last_where, rows_away, run_start, value_after, value_before, where_none, windowed}
+use Rattle.kql_meaning_examples.proofs.ExamplesOfValues.{extended_by, kind-reading, kind_by, value-reading, window-kinds, window-results}
+use Rattle.kql_meaning.proofs.ReadingLaws.{reading_steps}
 
 -- An item that is a window function: its value and its column, by how it reads.
 item-value : (f : Window) (args : List BExpr) (r : Reading) → reading (expr.Window f args) ≡ r → (i : ℕ) → results (expr.Window f args) runs i [] ≡ r.at runs i [] ∷ []
@@ -81,7 +82,7 @@ unfolding items_columns named_columns
 next_columns = rw (item-kind window.Next (column (codes "x") ∷ []) x_after_read x_after-reading, item-kind window.Next (column (codes "x") ∷ literal 2 ∷ minus_one ∷ []) x_two_after_read x_two_after-reading, item-kind window.Next (column (codes "g") ∷ []) g_after_read g_after-reading) refl
 
 pub extend_next : ExtendNext
-unfolding windowed looked value_after rows_away where_none count_in reading_at items_names without is_name_among cells_in cell cell_in absent_in absent absent_as places places_below column_kind kind_by window_kind first_kind kinds_of
+unfolding windowed value_after rows_away where_none count_in reading_at items_names without is_name_among cells_in cell cell_in absent_in absent absent_as places places_below column_kind kind_by window_kind first_kind kinds_of
 extend_next = extended (x_after ∷ x_two_after ∷ g_after ∷ []) _ (λ i. x_after_read.at runs i [] ∷ x_two_after_read.at runs i [] ∷ g_after_read.at runs i [] ∷ []) next_columns next_values ∙ refl
 
 -- `row_number`.
@@ -124,7 +125,7 @@ unfolding items_columns named_columns
 number_columns = rw (item-kind window.RowNumber (literal 1 ∷ other_group ∷ []) in_group_read in_group-reading, item-kind window.RowNumber (literal 5 ∷ []) from_five_read from_five-reading, item-kind window.RowNumber [] from_one_read from_one-reading, item-kind window.RowNumber (expr.Literal (record { kind = kind.Long; value = null }) ∷ []) from_null_read from_null-reading) refl
 
 pub extend_row_numbers : ExtendRowNumbers
-unfolding windowed looked value_before rows_away where_none count_in first_number run_start last_where reading_at sum fit holds truth applied argument comparison equality values_at items_names without is_name_among cells_in cell cell_in absent_in absent absent_as places places_below column_kind kind_by window_kind first_kind kinds_of same
+unfolding windowed value_before rows_away where_none count_in first_number run_start last_where reading_at sum fit holds truth applied argument comparison equality values_at items_names without is_name_among cells_in cell cell_in absent_in absent absent_as places places_below column_kind kind_by window_kind first_kind kinds_of same
 extend_row_numbers = extended numbers _ number_values_at number_columns number_values ∙ refl
 
 pub ruleset window_examples = (extend_next, extend_row_numbers)

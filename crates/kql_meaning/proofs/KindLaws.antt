@@ -15,7 +15,7 @@ use Rattle.kql_functions.specs.declared.window.Window.{Window}
 use Rattle.kql_bound.specs.declared.literal.Lit.{Lit}
 use Rattle.kql_meaning.specs.Expressions.{aggregate_kind, all_known, call_kind, chain_kind, column_kind, first_kind, kind_along, kind_down, kind_of, kinds_in, look, path_kind, reading, window_kind}
 use Rattle.kql_meaning.specs.Readings.{Reading, kinds_of}
-use Rattle.kql_meaning.proofs.ReadingSteps.{reading-Aggregate, reading-Call, reading-Chain, reading-Column, reading-Literal, reading-Path, reading-Step, reading-Window}
+use Rattle.kql_meaning.proofs.ReadingLaws.{reading-Aggregate, reading-Call, reading-Chain, reading-Column, reading-Literal, reading-Path, reading-Step, reading-Window}
 
 -- The type of a reading.
 abbrev over : List Column → Reading → Option Kind

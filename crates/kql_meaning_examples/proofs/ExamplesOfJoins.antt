@@ -1,6 +1,6 @@
 -- What the kinds of joins give of two small tables, computed.
 use Rattle.std.proofs.Common.{refl}
-use Rattle.kql_meaning.specs.Examples.{JoinInner, JoinInnerUnique, JoinLeftOuter, JoinRightOuter, JoinFullOuter, JoinSemis, JoinAntis, JoinColumns, LookupColumns, LookupRows}
+use Rattle.kql_meaning_examples.specs.Examples.{JoinInner, JoinInnerUnique, JoinLeftOuter, JoinRightOuter, JoinFullOuter, JoinSemis, JoinAntis, JoinColumns, LookupColumns, LookupRows}
 use Rattle.kql_scalar_fns.specs.Choice.{is_null}
 use Rattle.std.specs.Fmt.{digits}
 use Rattle.kql_meaning.specs.Groups.{firsts_of_keys, is_first_of_key}

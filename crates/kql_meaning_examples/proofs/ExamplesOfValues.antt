@@ -24,21 +24,22 @@ use Rattle.kql_functions.specs.declared.window.Window.{Window}
 use Rattle.kql_functions.specs.declared.window.Window.TheVariants as window
 use Rattle.kql_bound.specs.declared.parts.BItem.{BItem}
 use Rattle.kql_cells.specs.declared.value.Value.TheVariants as value
-use Rattle.kql_meaning.specs.Aggregates.{aggregated, all_values, greatest_row, row_of}
+use Rattle.kql_meaning.specs.Aggregates.{aggregated, all_values}
 use Rattle.kql_meaning.specs.Groups.{distinct_keys, group_of, key_by}
 use Rattle.kql_meaning.specs.Summarize.{group_row, group_rows}
-use Rattle.kql_meaning.specs.Examples.{ExtendWindows, SummarizeGreatest, SummarizeByGroup, SummarizeExactly, SummarizeNothing, aggregate_of, greatest_first, keyed, t, longs, named, table, WhereNotOne, WhereNull, WindowColumns, before, column, compared, literal, n, null, other_group, running, runs, some_longs}
+use Rattle.kql_meaning_examples.specs.Examples.{ExtendWindows, SummarizeGreatest, SummarizeByGroup, SummarizeExactly, SummarizeNothing, aggregate_of, greatest_first, keyed, t, longs, named, table, WhereNotOne, WhereNull, WindowColumns, before, column, compared, literal, n, null, other_group, running, runs, some_longs}
 use Rattle.kql_meaning.specs.Expressions.{column_kind, first_kind, kind_of, reading, reading_step, val, values_in, window_kind}
 use Rattle.kql_meaning.specs.Extend.{extend_columns, extend_table}
-use Rattle.kql_meaning.specs.Items.{cells_in, compared_values, items_columns, items_names, items_values, named_columns, result_kinds, results, typed, without}
+use Rattle.kql_meaning.specs.Items.{cells_in, items_columns, items_names, items_values, named_columns, without}
+use Rattle.kql_meaning.specs.Results.{compared_values, greatest_row, result_kinds, results, row_of, typed}
 use Rattle.kql_meaning.specs.Readings.{Reading, kinds_of, no_reading, reading_at, values_at, values_over}
 use Rattle.kql_meaning.specs.Tables.{absent_in, cell, cell_in, distinct_by, is_name_among, places, places_below}
 use Rattle.kql_meaning.specs.Numbers.{added, counted, fitted, sum_of}
 use Rattle.kql_meaning.specs.Values.{absent, absent_as, holds, number_of, same_key, same_keys}
 use Rattle.kql_meaning.specs.Where.{where_table}
-use Rattle.kql_meaning.specs.Windows.{count_in, last_where, looked, rows_away, run_start, running_sum, value_before, where_none, windowed}
-use Rattle.kql_meaning.proofs.ReadingSteps.{reading_steps}
-use Rattle.kql_meaning.proofs.ValueSteps.{val-Column}
+use Rattle.kql_meaning.specs.Windows.{count_in, last_where, rows_away, run_start, running_sum, value_before, where_none, windowed}
+use Rattle.kql_meaning.proofs.ReadingLaws.{reading_steps}
+use Rattle.kql_meaning.proofs.ValueLaws.{val-Column}
 
 -- `where`, by how its predicate reads.
 abbrev kept_by : Grid → Reading → Grid
@@ -108,7 +109,7 @@ unfolding items_values
 window_values i = rw (window-results window.RowCumsum (column (codes "x") ∷ other_group ∷ []) runs i, window-results window.Prev (column (codes "x") ∷ literal 1 ∷ expr.Literal (record { kind = kind.Long; value = value.Long (negsuc 0) }) ∷ []) runs i, value-reading running.expr running_read running-reading runs i, value-reading before.expr before_read before-reading runs i) refl
 
 pub extend_windows : ExtendWindows
-unfolding windowed looked value_before rows_away where_none count_in running_sum run_start last_where values_over reading_at fitted sum_of added number_of fit holds truth applied argument comparison equality values_at items_names without is_name_among cells_in cell cell_in absent_in absent absent_as places places_below column_kind same
+unfolding windowed value_before rows_away where_none count_in running_sum run_start last_where values_over reading_at fitted sum_of added number_of fit holds truth applied argument comparison equality values_at items_names without is_name_among cells_in cell cell_in absent_in absent absent_as places places_below column_kind same
 extend_windows = extend-values (running ∷ before ∷ []) runs (λ i. running_read.at runs i [] ∷ before_read.at runs i [] ∷ []) window_values ∙ refl
 
 -- The columns of items, by how they read.

@@ -8,7 +8,7 @@ use Rattle.kql_dynamic.specs.Arrays.{array}
 use Rattle.kql_dynamic.specs.Parts.{value_of}
 use Rattle.kql_scalar_fns.specs.Conversion.{long_held, one_if, to_long}
 use Rattle.kql_scalar_fns.specs.Dynamic.{element}
-use Rattle.kql_scalar_fns.specs.Readings.{long_written}
+use Rattle.kql_cells.specs.Readings.{long_written}
 use Rattle.kql_cells.specs.declared.dynamic.Dyn.TheVariants as dyn
 use Rattle.kql_cells.specs.declared.schema.Column.{Column}
 use Rattle.kql_cells.specs.declared.value.Kind.TheVariants as kind
@@ -19,17 +19,17 @@ use Rattle.kql_functions.specs.declared.aggregate.Aggregate.TheVariants as aggre
 use Rattle.kql_bound.specs.declared.parts.SeriesPlan.{SeriesPlan}
 use Rattle.kql_meaning.specs.Aggregates.{aggregated, all_values}
 use Rattle.kql_meaning.specs.Groups.{distinct_keys, group_of, key_by}
-use Rattle.kql_meaning.specs.MakeSeries.{axis_of, bins, falls_in, is_bin, is_inside, of_bin, rows_in_bin, rows_inside, series_columns, series_item_columns, series_of, series_row, series_rows, series_table}
+use Rattle.kql_meaning.specs.MakeSeries.{axis_of, bins, falls_in, is_inside, of_bin, rows_in_bin, rows_inside, series_columns, series_item_columns, series_of, series_row, series_rows, series_table}
 use Rattle.kql_meaning.specs.Numbers.{added, count_of_terms, fitted, sum_of, terms}
 use Rattle.kql_meaning.specs.Readings.{reading_at, values_over}
 use Rattle.kql_meaning.specs.Sources.{number_in}
-use Rattle.kql_meaning.proofs.ExamplesOfValues.{column-columns, kind_by, sum-reading, sum_read, value-reading}
-use Rattle.kql_meaning.specs.Examples.{ExpandBag, ExpandBagAsArrays, ExpandBoth, ExpandColumns, ExpandInPlaceToLong, ExpandToLong, dynamic_text, mixed, SeriesColumns, SeriesOfSums, aggregate_of, array_of, bins_of_five, long_literal, n, named, of_longs, t, timed, column, dynamic_long, null}
+use Rattle.kql_meaning_examples.proofs.ExamplesOfValues.{column-columns, kind_by, sum-reading, sum_read, value-reading}
+use Rattle.kql_meaning_examples.specs.Examples.{ExpandBag, ExpandBagAsArrays, ExpandBoth, ExpandColumns, ExpandInPlaceToLong, ExpandToLong, dynamic_text, mixed, SeriesColumns, SeriesOfSums, aggregate_of, array_of, bins_of_five, long_literal, n, named, of_longs, t, timed, column, dynamic_long, null}
 use Rattle.kql_meaning.specs.Expressions.{column_kind, val}
 use Rattle.kql_meaning.specs.MvExpand.{entry_part, expand_columns, expand_table, expanded_row, item_named, item_parts, kind_named, new_columns, new_items, part_as, part_at, parts_of, replaced_cell, replaced_column, replaced_columns, rows_given}
 use Rattle.kql_meaning.specs.Tables.{absent_in, cell, cell_in, distinct_by, has_column, is_name_among, names_of, places, places_below}
 use Rattle.kql_meaning.specs.Values.{absent, number_as, number_of, same_key, same_keys}
-use Rattle.kql_meaning.proofs.ValueSteps.{val-Column}
+use Rattle.kql_meaning.proofs.ValueLaws.{val-Column}
 
 -- The parts of the cells.
 array-parts : (array : Bool) (xs : List Dyn) → parts_of array (value.Dynamic (dyn.Array xs)) ≡ map value_of xs
@@ -93,7 +93,7 @@ rows_of_sums : series_by bins_of_five inside (λ i. cell inside i (codes "g") �
 rows_of_sums = ap (λ (f : List Value → Value). map (λ k. k ++ (f k ∷ axis_of bins_of_five ∷ [])) (distinct_keys (λ i. cell inside i (codes "g") ∷ []) inside)) (fun_ext (λ k. sums-value (group_of (λ i. cell inside i (codes "g") ∷ []) inside k)))
 
 computed : map (λ k. k ++ (sums_by (group_of (λ i. cell inside i (codes "g") ∷ []) inside k) ∷ axis_of bins_of_five ∷ [])) (distinct_keys (λ i. cell inside i (codes "g") ∷ []) inside) ≡ ((t (codes "a") ∷ of_longs (11 ∷ 1 ∷ []) ∷ of_longs (0 ∷ 5 ∷ []) ∷ []) ∷ (t (codes "b") ∷ of_longs (2 ∷ 9 ∷ []) ∷ of_longs (0 ∷ 5 ∷ []) ∷ []) ∷ [])
-unfolding inside axis_of rows_in_bin falls_in is_bin bins is_inside rows_inside number_in terms count_of_terms number_of number_as added distinct_keys distinct_by group_of same_keys same_key cell cell_in absent_in absent places places_below sum_read aggregated all_values values_over reading_at fitted sum_of fit column_kind element
+unfolding inside axis_of rows_in_bin falls_in bins is_inside rows_inside number_in terms count_of_terms number_of number_as added distinct_keys distinct_by group_of same_keys same_key cell cell_in absent_in absent places places_below sum_read aggregated all_values values_over reading_at fitted sum_of fit column_kind element
 computed = refl
 
 pub series_of_sums : SeriesOfSums

@@ -13,14 +13,14 @@ use Rattle.kql_scalar_fns.specs.Arguments.{argument}
 use Rattle.kql_scalar_fns.specs.Logic.{truth}
 use Rattle.kql_scalar_fns.specs.Search.{found, search_call, stands}
 use Rattle.kql_bound.specs.declared.expr.BExpr.TheOpen.{BExpr-F}
-use Rattle.kql_meaning.specs.Examples.{ScanColumns, ScanTwoSteps, events, has_letter, i_of_s1, literal, matched, n, null, t, two_steps}
+use Rattle.kql_meaning_examples.specs.Examples.{ScanColumns, ScanTwoSteps, events, has_letter, i_of_s1, literal, matched, n, null, t, two_steps}
 use Rattle.kql_meaning.specs.Expressions.{reading, reading_step, recorded, step_value, val}
 use Rattle.kql_meaning.specs.Readings.{Reading, Records, values_at}
 use Rattle.kql_meaning.specs.Scan.{Held, Machine, Turn, after, all_rows, assigned, begun_anew, check_one, check_two, comes_true, declared_columns, declared_defaults, emitted_at_once, emitted_if_last, first_outcome, held_rows, id_cells, id_columns, is_all, is_last, machine_at_start, new_record, promoted, records_of, renewed, replaced, row_after, row_of_record, row_turn, rows_at_end, scan_columns, scan_rows, scan_table, state_before, state_of, steps_down, tried, with_declared, with_state}
 use Rattle.kql_meaning.specs.Tables.{absent_in, cell, cell_in, is_name_among, places, places_below}
 use Rattle.kql_meaning.specs.Values as values
-use Rattle.kql_meaning.proofs.ReadingSteps.{reading_steps}
-use Rattle.kql_meaning.proofs.ValueSteps.{val-Literal, val-Step}
+use Rattle.kql_meaning.proofs.ReadingLaws.{reading_steps}
+use Rattle.kql_meaning.proofs.ValueLaws.{val-Literal, val-Step}
 
 -- How the expressions of the steps read.
 unfoldable pub letter_read : List ℕ → Reading

@@ -1,18 +1,21 @@
 //! Small expressions, and the type of each.
-use crate::{
-    column_kind, example_of_expansion, example_of_joins, example_of_next_and_row_number,
-    example_of_parse, example_of_partition, example_of_range, example_of_scan,
-    example_of_scan_outputs, example_of_series, example_of_sort, example_of_summarize,
-    example_of_union, example_of_where, example_of_windows, kind_of, law_of_bins, law_of_cuts,
-    law_of_expansion, law_of_greatest_and_least, law_of_groups, law_of_inner_join,
-    law_of_innerunique_join, law_of_join_names, law_of_keys, law_of_leftouter_join, law_of_matches,
-    law_of_nothing, law_of_outer_joins, law_of_partition, law_of_runs, law_of_scan,
-    law_of_semi_joins, law_of_sort, law_of_summarize, law_of_terms, law_of_union,
-};
 use kql_bound::{BExpr, ChainSign, Exprs, Link, Links, Lit, StepColumn};
 use kql_cells::{Column, KText, Kind, Value};
 use kql_functions::{Aggregate, ComparisonFunc, Func, Window};
 use kql_items::{Boxed, Items};
+use kql_meaning::{
+    column_kind, kind_of, law_of_bins, law_of_cuts, law_of_expansion, law_of_greatest_and_least,
+    law_of_groups, law_of_inner_join, law_of_innerunique_join, law_of_join_names, law_of_keys,
+    law_of_leftouter_join, law_of_matches, law_of_nothing, law_of_outer_joins, law_of_partition,
+    law_of_rows, law_of_runs, law_of_scan, law_of_semi_joins, law_of_sort, law_of_summarize,
+    law_of_terms, law_of_union,
+};
+use kql_meaning_examples::{
+    example_of_expansion, example_of_joins, example_of_next_and_row_number, example_of_parse,
+    example_of_partition, example_of_range, example_of_scan, example_of_scan_outputs,
+    example_of_series, example_of_sort, example_of_summarize, example_of_union, example_of_where,
+    example_of_windows,
+};
 use std::alloc::{AllocError, Global};
 use std::test::Fail;
 
@@ -224,6 +227,7 @@ fn laws_hold() {
     law_of_nothing();
     law_of_outer_joins();
     law_of_partition();
+    law_of_rows();
     law_of_runs();
     law_of_scan();
     law_of_semi_joins();
