@@ -303,98 +303,47 @@ impl Keyword {
         ensures reserved { result ≡ is_reserved_keyword self }
     {
         match self {
-            Keyword::And => true,
-            Keyword::Or => true,
-            Keyword::In => true,
-            Keyword::InTilde => true,
-            Keyword::Between => true,
-            Keyword::Contains => true,
-            Keyword::ContainsCs => true,
-            Keyword::Startswith => true,
-            Keyword::StartswithCs => true,
-            Keyword::Endswith => true,
-            Keyword::EndswithCs => true,
-            Keyword::Has => true,
-            Keyword::HasCs => true,
-            Keyword::Matches => true,
-            Keyword::True => true,
-            Keyword::False => true,
-            Keyword::By => true,
-            Keyword::On => true,
-            Keyword::Asc => true,
-            Keyword::Desc => true,
-            Keyword::Nulls => true,
-            Keyword::From => true,
-            Keyword::To => true,
-            Keyword::Step => true,
-            Keyword::With => true,
-            Keyword::Kind => true,
-            Keyword::Hint => true,
-            Keyword::Default => true,
-            Keyword::Typeof => true,
-            Keyword::Let => true,
-            Keyword::Range => true,
-            Keyword::Print => true,
-            Keyword::Union => true,
-            Keyword::DollarLeft => true,
-            Keyword::DollarRight => true,
-            Keyword::MvExpand => true,
-            Keyword::MakeSeries => true,
-            Keyword::ProjectAway => true,
-            Keyword::ProjectKeep => true,
-            Keyword::ProjectRename => true,
-            Keyword::Other => false,
-            Keyword::Bag => false,
-            Keyword::All => false,
-            Keyword::Int => false,
-            Keyword::Top => false,
-            Keyword::Take => false,
-            Keyword::Sort => false,
-            Keyword::Scan => false,
-            Keyword::Join => false,
-            Keyword::Last => false,
-            Keyword::None => false,
-            Keyword::Long => false,
-            Keyword::Time => false,
-            Keyword::Bool => false,
-            Keyword::Real => false,
-            Keyword::Guid => false,
-            Keyword::Where => false,
-            Keyword::Limit => false,
-            Keyword::Count => false,
-            Keyword::Order => false,
-            Keyword::Parse => false,
-            Keyword::Array => false,
-            Keyword::First => false,
-            Keyword::Outer => false,
-            Keyword::Inner => false,
-            Keyword::Regex => false,
-            Keyword::Extend => false,
-            Keyword::Lookup => false,
-            Keyword::Simple => false,
-            Keyword::Output => false,
-            Keyword::Double => false,
-            Keyword::String => false,
-            Keyword::Project => false,
-            Keyword::Relaxed => false,
-            Keyword::Declare => false,
-            Keyword::Decimal => false,
-            Keyword::Dynamic => false,
-            Keyword::Distinct => false,
-            Keyword::Datetime => false,
-            Keyword::Timespan => false,
-            Keyword::Leftsemi => false,
-            Keyword::Leftanti => false,
-            Keyword::Serialize => false,
-            Keyword::Summarize => false,
-            Keyword::Partition => false,
-            Keyword::Leftouter => false,
-            Keyword::Fullouter => false,
-            Keyword::Rightsemi => false,
-            Keyword::Rightanti => false,
-            Keyword::Rightouter => false,
-            Keyword::Innerunique => false,
-            Keyword::WithMatchId => false,
+            Keyword::In
+            | Keyword::InTilde
+            | Keyword::Between
+            | Keyword::Contains
+            | Keyword::ContainsCs
+            | Keyword::Startswith
+            | Keyword::StartswithCs
+            | Keyword::Endswith
+            | Keyword::EndswithCs
+            | Keyword::Has
+            | Keyword::HasCs => true,
+            Keyword::And
+            | Keyword::Or
+            | Keyword::Matches
+            | Keyword::True
+            | Keyword::False
+            | Keyword::By
+            | Keyword::On
+            | Keyword::Asc
+            | Keyword::Desc
+            | Keyword::Nulls => true,
+            Keyword::From
+            | Keyword::To
+            | Keyword::Step
+            | Keyword::With
+            | Keyword::Kind
+            | Keyword::Hint
+            | Keyword::Default
+            | Keyword::Typeof
+            | Keyword::Let => true,
+            Keyword::Range
+            | Keyword::Print
+            | Keyword::Union
+            | Keyword::DollarLeft
+            | Keyword::DollarRight
+            | Keyword::MvExpand
+            | Keyword::MakeSeries
+            | Keyword::ProjectAway
+            | Keyword::ProjectKeep
+            | Keyword::ProjectRename => true,
+            _ => false,
         }
     }
 
@@ -404,98 +353,18 @@ impl Keyword {
         ensures literal { result ≡ is_literal_keyword self }
     {
         match self {
-            Keyword::Bool => true,
-            Keyword::Long => true,
-            Keyword::Datetime => true,
-            Keyword::Timespan => true,
-            Keyword::Time => true,
-            Keyword::Dynamic => true,
-            Keyword::Int => true,
-            Keyword::Real => true,
-            Keyword::Double => true,
-            Keyword::Decimal => true,
-            Keyword::Guid => true,
-            Keyword::And => false,
-            Keyword::Or => false,
-            Keyword::In => false,
-            Keyword::InTilde => false,
-            Keyword::Between => false,
-            Keyword::Contains => false,
-            Keyword::ContainsCs => false,
-            Keyword::Startswith => false,
-            Keyword::StartswithCs => false,
-            Keyword::Endswith => false,
-            Keyword::EndswithCs => false,
-            Keyword::Has => false,
-            Keyword::HasCs => false,
-            Keyword::Matches => false,
-            Keyword::True => false,
-            Keyword::False => false,
-            Keyword::By => false,
-            Keyword::On => false,
-            Keyword::Asc => false,
-            Keyword::Desc => false,
-            Keyword::Nulls => false,
-            Keyword::From => false,
-            Keyword::To => false,
-            Keyword::Step => false,
-            Keyword::With => false,
-            Keyword::Kind => false,
-            Keyword::Hint => false,
-            Keyword::Default => false,
-            Keyword::Typeof => false,
-            Keyword::Let => false,
-            Keyword::Range => false,
-            Keyword::Print => false,
-            Keyword::Union => false,
-            Keyword::DollarLeft => false,
-            Keyword::DollarRight => false,
-            Keyword::MvExpand => false,
-            Keyword::MakeSeries => false,
-            Keyword::ProjectAway => false,
-            Keyword::ProjectKeep => false,
-            Keyword::ProjectRename => false,
-            Keyword::Other => false,
-            Keyword::Bag => false,
-            Keyword::All => false,
-            Keyword::Top => false,
-            Keyword::Take => false,
-            Keyword::Sort => false,
-            Keyword::Scan => false,
-            Keyword::Join => false,
-            Keyword::Last => false,
-            Keyword::None => false,
-            Keyword::Where => false,
-            Keyword::Limit => false,
-            Keyword::Count => false,
-            Keyword::Order => false,
-            Keyword::Parse => false,
-            Keyword::Array => false,
-            Keyword::First => false,
-            Keyword::Outer => false,
-            Keyword::Inner => false,
-            Keyword::Regex => false,
-            Keyword::Extend => false,
-            Keyword::Lookup => false,
-            Keyword::Simple => false,
-            Keyword::Output => false,
-            Keyword::String => false,
-            Keyword::Project => false,
-            Keyword::Relaxed => false,
-            Keyword::Declare => false,
-            Keyword::Distinct => false,
-            Keyword::Leftsemi => false,
-            Keyword::Leftanti => false,
-            Keyword::Serialize => false,
-            Keyword::Summarize => false,
-            Keyword::Partition => false,
-            Keyword::Leftouter => false,
-            Keyword::Fullouter => false,
-            Keyword::Rightsemi => false,
-            Keyword::Rightanti => false,
-            Keyword::Rightouter => false,
-            Keyword::Innerunique => false,
-            Keyword::WithMatchId => false,
+            Keyword::Bool
+            | Keyword::Long
+            | Keyword::Datetime
+            | Keyword::Timespan
+            | Keyword::Time
+            | Keyword::Dynamic
+            | Keyword::Int
+            | Keyword::Real
+            | Keyword::Double
+            | Keyword::Decimal
+            | Keyword::Guid => true,
+            _ => false,
         }
     }
 }

@@ -1,7 +1,7 @@
 use crate::keyword::Keyword;
 use crate::place::Place;
-use kql_items::Items;
 use kql_cells::KText;
+use kql_items::Items;
 
 /// A token with the place of its first byte.
 #[derive(Debug, Drop)]

@@ -11,12 +11,13 @@ use Rattle.kql_syntax.specs.declared.query.LetBody.TheVariants as letbody
 use Rattle.kql_syntax.specs.Levels.{Level, source_words}
 use Rattle.kql_syntax.specs.Forms.{Form, level, either, extends}
 use Rattle.kql_syntax.specs.Derives.{Is, Begins, Found, Refused, Stands, Missing, IsForm, BeginsForm}
-use Rattle.kql_syntax.proofs.Laws.{begins_closes, closes, is_of_begins}
-use Rattle.kql_syntax.proofs.Firsts.{stands_left, stands_right}
-use Rattle.kql_syntax.proofs.Rules.{FoundIn, RefusedIn, level_found, level_refused, makes_found, makes_refused, pair_found, pair_refused, either_left, either_refused_left, many_stops, stands_other, stands_among, in_found, in_refused, in_left, in_right, in_refused_left, in_refused_right, under_found, under_refused}
-use Rattle.kql_parser.specs.Named.{NoName, Unbarred, Piped, Unpiped}
+use Rattle.kql_syntax.proofs.FormLaws.{begins_closes, closes, is_of_begins}
+use Rattle.kql_syntax.proofs.StartLaws.{stands_left, stands_right}
+use Rattle.kql_syntax.proofs.ReadingLaws.{FoundIn, RefusedIn, level_found, level_refused, makes_found, makes_refused, pair_found, pair_refused, either_left, either_refused_left, many_stops, stands_other, stands_among, in_found, in_refused, in_left, in_right, in_refused_left, in_refused_right, under_found, under_refused}
+use Rattle.kql_operators.specs.Named.{NoName}
+use Rattle.kql_parser.specs.Piped.{Unbarred, Piped, Unpiped}
 use Rattle.kql_parser.specs.Query.{body_of, let_body}
-use Rattle.kql_parser.proofs.Names.{name_expr, name_begins, name_found, name_is_expr}
+use Rattle.kql_syntax.proofs.NameLaws.{name_expr, name_begins, name_found, name_is_expr}
 
 abbrev table_of : Name → Pipe
 table_of n = roll-Pipe (record { source = source.Table n; ops = [] })

@@ -1,6 +1,5 @@
-pub mod Begun
 pub mod Cuts
 pub mod LetBodies
-pub mod Names
-pub mod OneResult
-pub mod WordClasses
+pub mod LimitFacts
+pub mod ResultLaws
+pub mod TreeLaws

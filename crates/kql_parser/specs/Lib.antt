@@ -1,5 +1,5 @@
 pub mod Limits
-pub mod Named
 pub mod Operators
 pub mod Parsing
+pub mod Piped
 pub mod Query

@@ -1,12 +1,12 @@
 -- What `parse` answers: the query that all tokens are, or where they are refused.
-use Rattle.std.specs.Prelude.{ℕ, ◌+◌, ◌-◌, ◌≤◌, ◌≡◌, ◌⊎◌, min, List, length, Option, Some, None, Result, Ok, Err, slice_get}
+use Rattle.std.specs.Prelude.{ℕ, ◌+◌, ◌≤◌, ◌≡◌, ◌⊎◌, List, length, Result, Ok, Err}
 use Rattle.kql_lexer.specs.declared.place.Place.{Place}
 use Rattle.kql_lexer.specs.declared.token.Token.{Token}
 use Rattle.kql_syntax.specs.declared.parse.SyntaxFault.{SyntaxFault}
 use Rattle.kql_syntax.specs.declared.parse.SyntaxFault.TheVariants as fault
 use Rattle.kql_syntax.specs.declared.query.Query.{Query}
 use Rattle.kql_syntax.specs.Derives.{IsForm, BeginsForm}
-use Rattle.kql_syntax.specs.Parsing.{OpensTooDeep}
+use Rattle.kql_syntax.specs.Parsing.{OpensTooDeep, place_of}
 use Rattle.kql_parser.specs.Operators.{NamesTooMany}
 use Rattle.kql_parser.specs.Query.{query}
 
@@ -45,15 +45,6 @@ pub record TooMany (s : List Token) (w : ℕ) : Type 0 where
   pub many : NamesTooMany s w
   pub begins : BeginsForm s query 0 (w + 1)
   pub shallow : ShallowTo s w
-
--- the place of a token; of none it is the start of a text
-abbrev pub place_or_start : Option Token → Place
-place_or_start (Some t) = t.place
-place_or_start None = record { line = 1; column = 1; byte = 0 }
-
--- the place of the token with this index, or of the last token where there is none
-abbrev pub place_of : List Token → ℕ → Place
-place_of s i = place_or_start (slice_get s (min i (length s - 1)))
 
 -- a refusal with this code at this place
 pub record Refuses (s : List Token) (code : ℕ) (p : Place) : Type 0 where

@@ -6,7 +6,7 @@ ghost use Rattle.kql_syntax.specs.Levels.{Level};
 ghost use Rattle.kql_syntax.specs.Forms.{level, many, option, pair, mark, before};
 ghost use Rattle.kql_syntax.specs.Derives.{Found};
 ghost use Rattle.kql_syntax.specs.Reading.{Reads};
-ghost use Rattle.kql_parser.specs.Named.{Piped, Unpiped};
+ghost use Rattle.kql_parser.specs.Piped.{Piped, Unpiped};
 ghost use Rattle.kql_parser.specs.Query.{let_body, let_statement, main_pipe, query};
 
 use crate::bodies::body_of;

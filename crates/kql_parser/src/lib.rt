@@ -1,17 +1,14 @@
-//! The parser of queries: let statements, sources and operators.
+//! The parser of queries: let statements, sources, and the operators that may hold pipes.
 #![tactic(auto)]
 
 mod bodies;
 mod count;
-mod joins;
-mod leaf;
+mod laws;
 mod lets;
 mod limits;
 mod look;
-mod ops;
 mod parser;
-mod parts;
 mod pipes;
-mod scans;
 
+pub use laws::queries_are_one;
 pub use parser::parse;

@@ -1,27 +1,12 @@
-ghost use Rattle.std.specs.Prelude.{◌≡◌};
 ghost use Rattle.kql_parser.specs.Limits.{Limited, Unlimited};
-ghost use Rattle.kql_parser.specs.Parsing.{place_of, Parses};
+ghost use Rattle.kql_parser.specs.Parsing.{Parses};
 
 use crate::lets::query;
 use crate::limits::limit;
-use kql_lexer::{Place, Token, Tokens};
+use kql_lexer::{Token, Tokens};
 use kql_syntax::reader::Fault;
-use kql_syntax::{Query, SyntaxFault};
+use kql_syntax::{Query, SyntaxFault, place_of};
 use std::alloc::Global;
-
-/// The place of the token with this index, or of the last token where there is none.
-fn place_of(ts: &[Token], at: usize) -> Place
-    ensures { result ≡ place_of ts.now at }
-{
-    match ts.get(usize::min(at, ts.len().saturating_sub(1))) {
-        Some(token) => token.place,
-        None => Place {
-            line: 1,
-            column: 1,
-            byte: 0,
-        },
-    }
-}
 
 /// Reads tokens of which none is too much.
 fn parse_within(alloc: Global, ts: &[Token]) -> Result<Query, SyntaxFault>

@@ -6,12 +6,12 @@ ghost use Rattle.kql_syntax.specs.Forms.{level, many, after, listed, option, pai
 ghost use Rattle.kql_syntax.specs.Grammar.{hint, of_kind, union, join, join_sign, partition, table_op, join_key, commas, round};
 ghost use Rattle.kql_syntax.specs.Reading.{Reads};
 
-use crate::joins::{join_kind, on_keys};
-use crate::ops::{column_op, group_op, row_op};
-use crate::parts::{hints, items, name_after, range, union_kind_option};
-use crate::scans::scan;
 use kql_items::{Boxed, Items};
 use kql_lexer::{Keyword, Token};
+use kql_operators::{
+    column_op, group_op, hints, items, join_kind, name_after, on_keys, range, row_op, scan,
+    union_kind_option,
+};
 use kql_syntax::reader::{Fault, expect, name, take};
 use kql_syntax::{
     Class, Hint, Join, JoinSign, Name, On, Op, Partition, Pipe, Source, TableArg, TableOp, Union,

@@ -3,7 +3,7 @@ use Rattle.std.proofs.Common.{◌≡◌, ◌∙◌, ℕ, List, ap, refl, sym}
 use Rattle.std.specs.Prelude.{Option, Some, None, IfSome, IfOk, IsErrAnd, Result, Ok, Err}
 use Rattle.kql_lexer.specs.declared.token.Token.{Token}
 use Rattle.kql_parser.specs.Parsing.{Parses}
-use Rattle.kql_parser.proofs.OneResult.{not-refused, one-refusal}
+use Rattle.kql_parser.proofs.ResultLaws.{not-refused, one-refusal}
 use Rattle.kql_syntax.specs.declared.parse.SyntaxFault.{SyntaxFault}
 use Rattle.kql_syntax.specs.declared.parse.SyntaxFault.TheVariants as syntax
 use Rattle.kql_program.specs.Answer.{HasOneAnswer, answer, query_rows, tokens_read}

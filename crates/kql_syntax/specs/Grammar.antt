@@ -175,16 +175,24 @@ by_items = after (class.Key word.By ∷ []) items
 abbrev pub of_kind : {A : Type 0} → Form A → Form A
 of_kind a = after (class.Key word.Kind ∷ []) (after (class.Assign ∷ []) a)
 
+-- what may be the value of a hint
+abbrev pub hint_values : List Class
+hint_values = class.Word ∷ class.Number ∷ []
+
 abbrev pub hint_value : Form HintValue
-hint_value = makes hint_value_of (token (class.Word ∷ class.Number ∷ []))
+hint_value = makes hint_value_of (token hint_values)
 
 abbrev pub hint : Form Hint
 hint =
     makes (λ p. record { place = p.0; name = p.1.0; value = p.1.1 })
     (pair (mark (class.Key word.Hint ∷ [])) (pair (after (class.Dot ∷ []) any_word) (after (class.Assign ∷ []) hint_value)))
 
+-- the kinds of a union
+abbrev pub union_kinds : List Class
+union_kinds = class.Key word.Outer ∷ class.Key word.Inner ∷ []
+
 abbrev pub union_kind : Form UnionKind
-union_kind = makes union_kind_of (token (class.Key word.Outer ∷ class.Key word.Inner ∷ []))
+union_kind = makes union_kind_of (token union_kinds)
 
 abbrev pub union : Form Union
 union = makes (λ p. roll-Union (record { kind = p.0; tables = p.1 })) (pair (option (of_kind union_kind)) (commas (level Level.TableArg)))
@@ -200,11 +208,19 @@ range =
 abbrev pub renaming : Form (Name × Name)
 renaming = pair (before (level Level.Name) (class.Assign ∷ [])) (level Level.Name)
 
+-- how keys are ordered
+abbrev pub orders : List Class
+orders = class.Key word.Asc ∷ class.Key word.Desc ∷ []
+
 abbrev pub sort_order : Form SortOrder
-sort_order = makes sort_order_of (token (class.Key word.Asc ∷ class.Key word.Desc ∷ []))
+sort_order = makes sort_order_of (token orders)
+
+-- where nulls stand
+abbrev pub nulls_ends : List Class
+nulls_ends = class.Key word.First ∷ class.Key word.Last ∷ []
 
 abbrev pub nulls_end : Form NullsEnd
-nulls_end = makes nulls_end_of (token (class.Key word.First ∷ class.Key word.Last ∷ []))
+nulls_end = makes nulls_end_of (token nulls_ends)
 
 abbrev pub key : Form Key
 key =
@@ -237,16 +253,24 @@ make_series =
     (pair (after (class.Key word.To ∷ []) (level Level.Expr))
     (pair (after (class.Key word.Step ∷ []) (level Level.Expr)) (maybe by_items))))))
 
+-- the kinds of an expansion
+abbrev pub expand_kinds : List Class
+expand_kinds = class.Key word.Bag ∷ class.Key word.Array ∷ []
+
 abbrev pub expand_kind : Form ExpandKind
-expand_kind = makes expand_kind_of (token (class.Key word.Bag ∷ class.Key word.Array ∷ []))
+expand_kind = makes expand_kind_of (token expand_kinds)
 
 abbrev pub expand : Form Expand
 expand =
     makes (λ p. record { item = p.0; to = p.1 })
     (pair (level Level.Item) (option (after (class.Key word.To ∷ []) (after (class.Key word.Typeof ∷ []) (round any_word)))))
 
+-- the kinds of a pattern
+abbrev pub parse_kinds : List Class
+parse_kinds = class.Key word.Simple ∷ class.Key word.Relaxed ∷ []
+
 abbrev pub parse_kind : Form ParseKind
-parse_kind = makes parse_kind_of (token (class.Key word.Simple ∷ class.Key word.Relaxed ∷ []))
+parse_kind = makes parse_kind_of (token parse_kinds)
 
 abbrev pub pattern : Form Pat
 pattern =
@@ -291,8 +315,12 @@ decl =
 abbrev pub setting : Form (Name × Expr)
 setting = pair (before (level Level.Name) (class.Assign ∷ [])) (level Level.Expr)
 
+-- which rows a step of a scan gives
+abbrev pub outputs : List Class
+outputs = class.Key word.All ∷ class.Key word.Last ∷ class.Key word.None ∷ []
+
 abbrev pub output_word : Form Output
-output_word = makes output_of (token (class.Key word.All ∷ class.Key word.Last ∷ class.Key word.None ∷ []))
+output_word = makes output_of (token outputs)
 
 abbrev pub step : Form Step
 step =

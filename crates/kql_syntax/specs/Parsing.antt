@@ -45,16 +45,19 @@ pub record TooDeep {A : Type 0} (a : Form A) (s : List Token) (i w : ℕ) : Type
   pub deep : OpensTooDeep s i w
   pub begins : BeginsForm s a i (w + 1)
 
+-- the place of a token; of none it is the start of a text
+abbrev pub place_or_start : Option Token → Place
+place_or_start (Some t) = t.place
+place_or_start None = record { line = 1; column = 1; byte = 0 }
+
 -- the place of the token with this index, or of the last token where there is none
-pub record PlaceOf (s : List Token) (i : ℕ) (p : Place) : Type 0 where
-  pub it : Token
-  pub at : slice_get s (min i (length s - 1)) ≡ Some it
-  pub place : p ≡ it.place
+abbrev pub place_of : List Token → ℕ → Place
+place_of s i = place_or_start (slice_get s (min i (length s - 1)))
 
 -- a refusal with this code at this place
 pub record Refuses {A : Type 0} (a : Form A) (s : List Token) (i code : ℕ) (p : Place) : Type 0 where
   pub at : ℕ
-  pub place : PlaceOf s at p
+  pub place : p ≡ place_of s at
   pub cause : ((code ≡ 201) × Unexpected a s i at) ⊎ ((code ≡ 202) × TooDeep a s i at)
 
 -- the tree and its end, or the refusal; want of memory says nothing

@@ -1,5 +1,5 @@
 -- What a word of a choice says is what its token spells: none falls to a default.
-use Rattle.std.specs.Prelude.{◌≡◌, Bool, true, List, Option, Some}
+use Rattle.std.specs.Prelude.{◌≡◌, true, List, Option, Some}
 use Rattle.kql_lexer.specs.declared.place.Place.{Place}
 use Rattle.kql_lexer.specs.declared.token.Token.{Token}
 use Rattle.kql_lexer.specs.declared.token.TokenForm.{TokenForm}

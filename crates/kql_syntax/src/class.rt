@@ -84,6 +84,20 @@ pub enum Class {
     Negated,
 }
 
+/// How an expression starts.
+pub const EXPR_STARTS: [Class; 10] = [
+    Class::Minus,
+    Class::Number,
+    Class::Span,
+    Class::Text,
+    Class::Typed,
+    Class::Key(Keyword::True),
+    Class::Key(Keyword::False),
+    Class::Open,
+    Class::Name,
+    Class::OpenSquare,
+];
+
 /// The number of a word: from 200 on the reserved ones, those that compare first.
 fn word_number(keyword: Keyword) -> u16
     ensures number { result ≡ word_number keyword }

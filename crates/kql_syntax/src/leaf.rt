@@ -10,8 +10,8 @@ use crate::tree::{
     BetweenOp, BetweenSign, CompareOp, CompareSign, InOp, InSign, Literal, ProdOp, ProdSign, SumOp,
     SumSign, Word,
 };
-use kql_lexer::{Keyword, Token, TokenForm};
 use kql_cells::KText;
+use kql_lexer::{Keyword, Token, TokenForm};
 use std::alloc::{AllocError, Global};
 
 /// The text of a word or a string; of any other token it is empty.

@@ -3,6 +3,7 @@
 
 mod choices;
 mod class;
+mod laws;
 mod leaf;
 mod parse;
 mod query;
@@ -10,9 +11,10 @@ pub mod reader;
 mod tree;
 
 pub use choices::choices_are_spelled;
-pub use class::{Class, is_name, is_of};
+pub use class::{Class, EXPR_STARTS, is_name, is_of};
+pub use laws::trees_are_one;
 pub use leaf::text_in;
-pub use parse::{SyntaxFault, parse_expr};
+pub use parse::{SyntaxFault, parse_expr, place_of, too_deep};
 pub use query::{
     ColumnOp, Decl, Distinct, Expand, ExpandKind, GroupOp, Groups, Hint, HintValue, Item, Join,
     JoinKind, JoinSign, Key, Let, LetBody, MakeSeries, NullsEnd, On, OnPair, Op, Output, ParseKind,

@@ -3,7 +3,7 @@
 ghost use Rattle.std.specs.Prelude.{◌≡◌, ◌+◌, ◌^◌, ◌<◌, ◌≤◌, length, IfSome};
 ghost use Rattle.kql_syntax.specs.Levels.{Level};
 ghost use Rattle.kql_syntax.specs.Forms.{level};
-ghost use Rattle.kql_syntax.specs.Parsing.{too_deep, PlaceOf, Parses};
+ghost use Rattle.kql_syntax.specs.Parsing.{too_deep, place_of, Parses};
 
 use crate::class::{Class, has};
 use crate::reader::{Fault, expr};
@@ -11,6 +11,9 @@ use crate::tree::Expr;
 use kql_lexer::{Place, Token, Tokens};
 use std::alloc::Global;
 use thiserror::Error;
+
+/// How many brackets may be open.
+const DEPTH_TOP: usize = 64;
 
 /// Why tokens are refused.
 #[derive(Clone, Copy, Debug, PartialEq, Eq, Error)]
@@ -23,9 +26,9 @@ pub enum SyntaxFault {
     OutOfMemory,
 }
 
-/// The first bracket that opens where 64 are open, in tokens that begin at index `at`.
+/// The index of the first bracket that opens where 64 are open, in tokens that begin at index `at`.
 #[tactic(auto, unfolding(crate::specs::Parsing::too_deep))]
-fn too_deep(ts: &[Token], at: usize) -> Option<usize>
+pub fn too_deep(ts: &[Token], at: usize) -> Option<usize>
     requires { at + length ts.now < 2 ^ 64 }
     ensures deep { result ≡ too_deep at 0 ts.now }
     ensures within { IfSome result (λ w. (at ≤ w) × (w < at + length ts.now)) }
@@ -35,7 +38,7 @@ fn too_deep(ts: &[Token], at: usize) -> Option<usize>
     let mut unclosed = 0;
     'left: while let Some((token, rest)) = left.split_first() {
         if has(&[Class::Open, Class::OpenSquare], &token.form) {
-            if unclosed >= 64 {
+            if unclosed >= DEPTH_TOP {
                 return Some(next);
             }
             unclosed += 1;
@@ -48,13 +51,18 @@ fn too_deep(ts: &[Token], at: usize) -> Option<usize>
     None
 }
 
-/// The place of the token with this index, or of the last token where there is none.
-fn place_of(ts: &[Token], at: usize) -> Place
-    requires { 0 < length ts.now }
-    ensures place { PlaceOf ts.now at result }
+/// The place of the token with this index, or of the last token where there is none; of no tokens the start of a text.
+pub fn place_of(ts: &[Token], at: usize) -> Place
+    ensures place { result ≡ place_of ts.now at }
 {
-    let index = usize::min(at, ts.len() - 1);
-    ts[index].place
+    match ts.get(usize::min(at, ts.len().saturating_sub(1))) {
+        Some(token) => token.place,
+        None => Place {
+            line: 1,
+            column: 1,
+            byte: 0,
+        },
+    }
 }
 
 /// Reads the longest expression from a token on.

@@ -1,9 +1,9 @@
 //! The trees of queries.
 
 use crate::tree::{Expr, Name, Word};
+use kql_cells::KText;
 use kql_items::{Boxed, Items};
 use kql_lexer::Place;
-use kql_cells::KText;
 
 /// A query: let statements, and a pipe.
 #[derive(Drop)]

@@ -22,9 +22,9 @@ use crate::tree::{
     Access, And, Arg, BetweenSign, Cmp, CompareSign, Expr, InSign, Name, Post, Prod, ProdSign,
     Sign, Sum, SumSign, Term, Word,
 };
+use kql_cells::KText;
 use kql_items::{Boxed, Items};
 use kql_lexer::{Keyword, Place, Token};
-use kql_cells::KText;
 use std::alloc::{AllocError, Global};
 
 /// Literals.

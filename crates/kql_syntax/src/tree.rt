@@ -2,9 +2,9 @@
 //!
 //! Each place is that of the first byte of a token: of the name, literal, word or sign that it stands beside.
 
+use kql_cells::KText;
 use kql_items::{Boxed, Items};
 use kql_lexer::{Keyword, Place};
-use kql_cells::KText;
 
 /// A word as it is written, reserved or not.
 #[derive(Drop)]

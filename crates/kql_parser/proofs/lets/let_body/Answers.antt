@@ -1,4 +1,4 @@
-use Rattle.kql_syntax.proofs.Rules.{raises}
+use Rattle.kql_syntax.proofs.ReadingLaws.{raises}
 use Rattle.kql_parser.proofs.LetBodies.{piped_found, piped_refused, unpiped_found, unpiped_refused}
 use Rattle.kql_parser.proofs.lets.let_body.Goals as goal
 

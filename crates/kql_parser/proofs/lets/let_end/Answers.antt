@@ -1,5 +1,5 @@
 use Rattle.std.proofs.Common.{refl}
-use Rattle.kql_syntax.proofs.Rules.{before_found, before_refused, before_none, passes, raises}
+use Rattle.kql_syntax.proofs.ReadingLaws.{before_found, before_refused, before_none, passes, raises}
 use Rattle.kql_parser.proofs.lets.let_end.Goals as goal
 
 pub returns-in_err-body-clause-read : goal.returns-in_err-body-clause-read

@@ -1,5 +1,5 @@
 use Rattle.std.proofs.Common.{refl}
-use Rattle.kql_syntax.proofs.Rules.{before_found, before_refused, before_none, raises}
+use Rattle.kql_syntax.proofs.ReadingLaws.{before_found, before_refused, before_none, raises}
 use Rattle.kql_parser.proofs.lets.let_name.Goals as goal
 
 pub returns-in_err-name-clause-read : goal.returns-in_err-name-clause-read

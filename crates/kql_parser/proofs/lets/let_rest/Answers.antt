@@ -1,5 +1,5 @@
 use Rattle.std.proofs.Common.{refl}
-use Rattle.kql_syntax.proofs.Rules.{pair_found, pair_refused, pair_refused_late, raises}
+use Rattle.kql_syntax.proofs.ReadingLaws.{pair_found, pair_refused, pair_refused_late, raises}
 use Rattle.kql_parser.proofs.lets.let_rest.Goals as goal
 
 pub returns-in_err-name-clause-read : goal.returns-in_err-name-clause-read

@@ -1,5 +1,5 @@
 use Rattle.std.proofs.Common.{refl, arith}
-use Rattle.kql_syntax.proofs.Rules.{makes_found, makes_refused, pair_found, pair_refused_late, raises, ahead_more, ahead_end, ahead_refused, refused_after}
+use Rattle.kql_syntax.proofs.ReadingLaws.{makes_found, makes_refused, pair_found, pair_refused_late, raises, ahead_more, ahead_end, ahead_refused, refused_after}
 use Rattle.kql_parser.proofs.lets.lets.Goals as goal
 
 pub returns-in_err-term-clause-read : goal.returns-in_err-term-clause-read

@@ -1,5 +1,5 @@
 use Rattle.std.proofs.Common.{◌-◌, ◌≤◌, length}
-use Rattle.kql_syntax.proofs.Rules.{Ahead}
+use Rattle.kql_syntax.proofs.ReadingLaws.{Ahead}
 use Rattle.kql_parser.specs.Query.{let_statement}
 use Rattle.kql_parser.proofs.lets.lets.Given as goal
 

@@ -1,5 +1,5 @@
 use Rattle.std.proofs.Common.{refl}
-use Rattle.kql_syntax.proofs.Rules.{makes_found, makes_refused, pair_found, pair_refused, before_found, before_refused, before_none, passes, raises}
+use Rattle.kql_syntax.proofs.ReadingLaws.{makes_found, makes_refused, pair_found, pair_refused, before_found, before_refused, before_none, passes, raises}
 use Rattle.kql_parser.proofs.lets.pipe_end.Goals as goal
 
 pub returns-in_err-main-clause-read : goal.returns-in_err-main-clause-read

@@ -1,5 +1,5 @@
 use Rattle.std.proofs.Common.{refl}
-use Rattle.kql_syntax.proofs.Rules.{makes_found, makes_refused, pair_found, pair_refused, pair_refused_late, raises}
+use Rattle.kql_syntax.proofs.ReadingLaws.{makes_found, makes_refused, pair_found, pair_refused, pair_refused_late, raises}
 use Rattle.kql_parser.proofs.lets.query.Goals as goal
 
 pub returns-in_err-lets-clause-read : goal.returns-in_err-lets-clause-read

@@ -1,5 +1,5 @@
 use Rattle.std.proofs.Common.{refl}
-use Rattle.kql_syntax.proofs.Rules.{option_none, option_some}
+use Rattle.kql_syntax.proofs.ReadingLaws.{option_none, option_some}
 use Rattle.kql_parser.proofs.lets.semicolon.Goals as goal
 
 pub returns-in-Some-clause-read : goal.returns-in-Some-clause-read

@@ -1,5 +1,5 @@
 use Rattle.std.proofs.Common.{inl, inr, refl}
-use Rattle.kql_syntax.proofs.Rules.{found_starts}
+use Rattle.kql_syntax.proofs.ReadingLaws.{found_starts}
 use Rattle.kql_parser.proofs.look.is_piped.Goals as goal
 
 pub returns-in-Some-clause-yes : goal.returns-in-Some-clause-yes

@@ -1,6 +1,6 @@
 use Rattle.std.proofs.Common.{refl, arith}
 use Rattle.kql_syntax.specs.Levels.{Level}
-use Rattle.kql_syntax.proofs.Rules.{level_found, level_refused, makes_found, makes_refused, pair_found, pair_refused, pair_refused_late, after_found, after_refused, after_none, before_found, before_refused, before_none, either_left, either_right, either_refused_left, either_refused_right, found_other, missing_both, none_starts, passes, raises, ahead_more, ahead_end, ahead_refused, listed_start, listed_more, listed_end, listed_refused, listed_refused_first, refused_after}
+use Rattle.kql_syntax.proofs.ReadingLaws.{level_found, level_refused, makes_found, makes_refused, pair_found, pair_refused, pair_refused_late, after_found, after_refused, after_none, before_found, before_refused, before_none, either_left, either_right, either_refused_left, either_refused_right, found_other, missing_both, none_starts, passes, raises, ahead_more, ahead_end, ahead_refused, listed_start, listed_more, listed_end, listed_refused, listed_refused_first, refused_after}
 use Rattle.kql_parser.proofs.pipes.+pipe.Goals as goal
 
 pub tables-returns-in_err-first-clause-read : goal.tables-returns-in_err-first-clause-read

@@ -2,7 +2,7 @@ use Rattle.std.proofs.Common.{◌+◌, ◌-◌, ◌*◌, ◌≤◌, ◌<◌, len
 use Rattle.kql_syntax.specs.declared.class.Class.TheVariants as class
 use Rattle.kql_syntax.specs.Levels.{Level}
 use Rattle.kql_syntax.specs.Forms.{level, after}
-use Rattle.kql_syntax.proofs.Rules.{Ahead, Listing}
+use Rattle.kql_syntax.proofs.ReadingLaws.{Ahead, Listing}
 use Rattle.kql_parser.proofs.pipes.+pipe.Given as goal
 
 abbrev pub invariant-tables-list : goal.invariant-tables-list

@@ -1,6 +1,6 @@
 use Rattle.std.proofs.Common.{sym, arith, ◌∙◌, ◌+◌, refl}
 use Rattle.std.proofs.lemmas.List.{length-take-le}
-use Rattle.kql_syntax.proofs.Cuts.{rest_deep, deep_within, cut_found, cut_unexpected, cut_deep, refuses_unexpected, refuses_deep}
+use Rattle.kql_syntax.proofs.DepthLaws.{rest_deep, deep_within, cut_found, cut_unexpected, cut_deep, refuses_unexpected, refuses_deep}
 use Rattle.kql_syntax.proofs.parse.parse_from.Goals as goal
 
 pub returns-then-end-deep : goal.returns-then-end-deep

@@ -1,7 +1,7 @@
 use Rattle.std.proofs.Common.{refl, arith}
 use Rattle.kql_syntax.specs.Levels.{Level}
-use Rattle.kql_syntax.proofs.Rules.{level_found, level_refused, makes_found, makes_refused, pair_found, pair_refused, pair_refused_late, after_found, after_refused, after_none, before_found, before_refused, before_none, either_left, either_right, either_refused_left, either_refused_right, option_none, option_some, option_refused, found_starts, found_other, missing_both, none_starts, passes, raises, ahead_more, ahead_end, ahead_refused, listed_start, listed_more, listed_end, listed_refused, listed_refused_first, optional_refused, refused_after, level_found_in, level_refused_in, in_found, in_refused, in_left, in_right, in_refused_right, in_left_none, in_right_none, in_refused_left_none, in_refused_right_none, under_none, under_found, under_refused, under_either}
-use Rattle.kql_syntax.proofs.Begun.{access_begins, arguments_begins}
+use Rattle.kql_syntax.proofs.ReadingLaws.{level_found, level_refused, makes_found, makes_refused, pair_found, pair_refused, pair_refused_late, after_found, after_refused, after_none, before_found, before_refused, before_none, either_left, either_right, either_refused_left, either_refused_right, option_none, option_some, option_refused, found_starts, found_other, missing_both, none_starts, passes, raises, ahead_more, ahead_end, ahead_refused, listed_start, listed_more, listed_end, listed_refused, listed_refused_first, optional_refused, refused_after, level_found_in, level_refused_in, in_found, in_refused, in_left, in_right, in_refused_right, in_left_none, in_right_none, in_refused_left_none, in_refused_right_none, under_none, under_found, under_refused, under_either}
+use Rattle.kql_syntax.proofs.BeginLaws.{access_begins, arguments_begins}
 use Rattle.kql_syntax.proofs.reader.+read.Goals as goal
 
 pub expr-returns-in_err-first-clause-read : goal.expr-returns-in_err-first-clause-read

@@ -3,7 +3,7 @@ use Rattle.kql_syntax.specs.declared.class.Class.TheVariants as class
 use Rattle.kql_syntax.specs.Levels.{Level}
 use Rattle.kql_syntax.specs.Forms.{level}
 use Rattle.kql_syntax.specs.Grammar.{or_more, and_more, sum_more, prod_more}
-use Rattle.kql_syntax.proofs.Rules.{Ahead, Listing}
+use Rattle.kql_syntax.proofs.ReadingLaws.{Ahead, Listing}
 use Rattle.kql_syntax.proofs.reader.+read.Given as goal
 
 abbrev pub decreases-expr : goal.decreases-expr

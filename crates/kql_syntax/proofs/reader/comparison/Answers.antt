@@ -1,4 +1,4 @@
-use Rattle.kql_syntax.proofs.Rules.{makes_found}
+use Rattle.kql_syntax.proofs.ReadingLaws.{makes_found}
 use Rattle.kql_syntax.proofs.reader.comparison.Goals as goal
 
 pub returns-clause-some : goal.returns-clause-some

@@ -1,6 +1,6 @@
 use Rattle.std.proofs.Common.{refl}
 use Rattle.kql_syntax.specs.Levels.{Level}
-use Rattle.kql_syntax.proofs.Rules.{level_found, level_refused, makes_found, makes_refused, pair_found, pair_refused, pair_refused_late, before_found, before_refused, before_none, either_left, either_right, either_refused_right, found_other, raises}
+use Rattle.kql_syntax.proofs.ReadingLaws.{level_found, level_refused, makes_found, makes_refused, pair_found, pair_refused, pair_refused_late, before_found, before_refused, before_none, either_left, either_right, either_refused_right, found_other, raises}
 use Rattle.kql_syntax.proofs.reader.name.Goals as goal
 
 pub returns-in-Some-clause-read : goal.returns-in-Some-clause-read

@@ -1,5 +1,5 @@
 use Rattle.std.proofs.Common.{refl}
-use Rattle.kql_syntax.proofs.Rules.{makes_found, none_starts}
+use Rattle.kql_syntax.proofs.ReadingLaws.{makes_found, none_starts}
 use Rattle.kql_syntax.proofs.reader.string.Goals as goal
 
 pub returns-in_ok-text_in-in-Some-clause-read : goal.returns-in_ok-text_in-in-Some-clause-read

@@ -1,6 +1,6 @@
 use Rattle.std.proofs.Common.{sym, ◌∙◌, refl}
 use Rattle.std.proofs.lemmas.Option.{slice_get_read}
-use Rattle.kql_syntax.proofs.Rules.{token_found, token_other}
+use Rattle.kql_syntax.proofs.ReadingLaws.{token_found, token_other}
 use Rattle.kql_syntax.proofs.reader.token_at.Goals as goal
 
 pub returns-then-has-clause-some : goal.returns-then-has-clause-some

@@ -1,0 +1,12 @@
+use Rattle.std.proofs.Common.{refl}
+use Rattle.kql_syntax.proofs.ReadingLaws.{makes_found, makes_refused, after_found, after_refused, option_none, option_some, option_refused, raises, refused_after}
+use Rattle.kql_operators.proofs.parts.by_items.Goals as goal
+
+pub returns-in_err-keys-clause-read : goal.returns-in_err-keys-clause-read
+returns-in_err-keys-clause-read c = raises _ c.from_residual.ensures.1 c.in_err-keys.ensures.read (λ e r. (makes_refused (option_refused (refused_after r) (after_refused c.in-Some.ensures.some r))))
+
+pub returns-in-Some-clause-read : goal.returns-in-Some-clause-read
+returns-in-Some-clause-read c = (makes_found (option_some (after_found c.in-Some.ensures.some c.in_ok-keys.ensures.read) refl))
+
+pub returns-clause-read : goal.returns-clause-read
+returns-clause-read c = rw c.new.ensures.empty (makes_found (option_none c.in_default.ensures.none refl))

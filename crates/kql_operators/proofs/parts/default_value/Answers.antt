@@ -1,0 +1,15 @@
+use Rattle.std.proofs.Common.{refl, arith}
+use Rattle.kql_syntax.proofs.ReadingLaws.{after_found, after_refused, after_none, option_none, option_some, option_refused, raises, refused_after}
+use Rattle.kql_operators.proofs.parts.default_value.Goals as goal
+
+pub returns-in_err-_sign-clause-read : goal.returns-in_err-_sign-clause-read
+returns-in_err-_sign-clause-read c = raises _ c.from_residual.ensures.1 c.in_err-_sign.ensures.read (λ e r. (option_refused (refused_after r) (after_refused c.in-Some.ensures.some (after_none r))))
+
+pub returns-in_err-value-clause-read : goal.returns-in_err-value-clause-read
+returns-in_err-value-clause-read c = raises _ c.from_residual-in_err-value.ensures.1 c.in_err-value.ensures.read (λ e r. (option_refused (omega (arith, refused_after r, c.in_ok-_sign.ensures.within.0)) (after_refused c.in-Some.ensures.some (after_refused c.in_ok-_sign.ensures.read r))))
+
+pub returns-in-Some-clause-read : goal.returns-in-Some-clause-read
+returns-in-Some-clause-read c = (option_some (after_found c.in-Some.ensures.some (after_found c.in_ok-_sign.ensures.read c.in_ok-value.ensures.read)) refl)
+
+pub returns-clause-read : goal.returns-clause-read
+returns-clause-read c = (option_none c.in_default.ensures.none refl)

@@ -1,0 +1,11 @@
+use Rattle.std.proofs.Common.{◌-◌, ◌≤◌, ◌<◌, length, [], ◌∷◌}
+use Rattle.kql_syntax.specs.declared.class.Class.TheVariants as class
+use Rattle.kql_syntax.specs.Grammar.{expand}
+use Rattle.kql_syntax.proofs.ReadingLaws.{Listing}
+use Rattle.kql_operators.proofs.parts.expands.Given as goal
+
+abbrev pub invariant-list : goal.invariant-list
+invariant-list l = record { order : l.fn.at < l.end; within : l.end ≤ length l.ts; listing : Listing (class.Comma ∷ []) (expand) l.ts l.fn.at l.end l.items }
+
+abbrev pub decreases-list : goal.decreases-list
+decreases-list l = length l.ts - l.end

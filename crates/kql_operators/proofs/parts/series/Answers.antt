@@ -1,0 +1,12 @@
+use Rattle.std.proofs.Common.{refl}
+use Rattle.kql_syntax.proofs.ReadingLaws.{makes_found, makes_refused, pair_found, pair_refused, pair_refused_late, passes, raises}
+use Rattle.kql_operators.proofs.parts.series.Goals as goal
+
+pub returns-in_err-item-clause-read : goal.returns-in_err-item-clause-read
+returns-in_err-item-clause-read c = raises _ c.from_residual.ensures.1 c.in_err-item.ensures.read (λ e r. (makes_refused (pair_refused r refl)))
+
+pub returns-in-Err-clause-read : goal.returns-in-Err-clause-read
+returns-in-Err-clause-read c = passes (λ e r. (makes_refused (pair_refused_late c.in_ok-item.ensures.read r refl))) c.in-Err.ensures.read
+
+pub returns-in-Ok-clause-read : goal.returns-in-Ok-clause-read
+returns-in-Ok-clause-read c = (makes_found (pair_found c.in_ok-item.ensures.read c.in-Ok.ensures.read refl))

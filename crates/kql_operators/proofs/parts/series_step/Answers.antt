@@ -1,0 +1,12 @@
+use Rattle.std.proofs.Common.{refl}
+use Rattle.kql_syntax.proofs.ReadingLaws.{pair_found, pair_refused, pair_refused_late, passes, raises}
+use Rattle.kql_operators.proofs.parts.series_step.Goals as goal
+
+pub returns-in_err-step-clause-read : goal.returns-in_err-step-clause-read
+returns-in_err-step-clause-read c = raises _ c.from_residual.ensures.1 c.in_err-step.ensures.read (λ e r. pair_refused r refl)
+
+pub returns-in-Err-clause-read : goal.returns-in-Err-clause-read
+returns-in-Err-clause-read c = passes (λ e r. pair_refused_late c.in_ok-step.ensures.read r refl) c.in-Err.ensures.read
+
+pub returns-in-Ok-clause-read : goal.returns-in-Ok-clause-read
+returns-in-Ok-clause-read c = pair_found c.in_ok-step.ensures.read c.in-Ok.ensures.read refl

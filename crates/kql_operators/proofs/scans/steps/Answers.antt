@@ -1,0 +1,19 @@
+use Rattle.std.proofs.Common.{refl, arith}
+use Rattle.kql_syntax.proofs.ReadingLaws.{found_starts, raises, some_start, some_more, some_end, some_refused, some_refused_first}
+use Rattle.kql_syntax.proofs.BeginLaws.{step_begins}
+use Rattle.kql_operators.proofs.scans.steps.Goals as goal
+
+pub returns-in_err-first-clause-read : goal.returns-in_err-first-clause-read
+returns-in_err-first-clause-read c = raises _ c.from_residual.ensures.1 c.in_err-first.ensures.read (λ e r. some_refused_first r refl)
+
+pub list-init : goal.list-init
+list-init c = record { order = grind arith; within = grind arith; run = some_start (rw (c.in_ok-push.ensures.added, c.new-items.ensures.empty) refl) c.in_ok-first.ensures.read refl }
+
+pub returns-in_err-item-clause-read : goal.returns-in_err-item-clause-read
+returns-in_err-item-clause-read c = raises _ c.from_residual-in_err-item.ensures.1 c.in_err-item.ensures.read (λ e r. some_refused c.list.invariant.run (r.furthest _ (step_begins (found_starts c.in-Some.ensures.some refl))) r refl)
+
+pub list-preserved : goal.list-preserved
+list-preserved c = record { order = grind arith; within = grind arith; run = some_more c.in_ok-push-2.ensures.added c.list.invariant.run c.in_ok-item.ensures.read refl refl }
+
+pub returns-clause-read : goal.returns-clause-read
+returns-clause-read c = some_end c.list.invariant.run c.in_default.ensures.none refl

@@ -1,9 +1,0 @@
-use Rattle.std.proofs.Common.{refl}
-use Rattle.kql_syntax.proofs.Rules.{makes_found, none_starts}
-use Rattle.kql_parser.proofs.leaf.expand_kind.Goals as goal
-
-pub returns-in-Some-clause-read : goal.returns-in-Some-clause-read
-returns-in-Some-clause-read c = rw c.expand_kind_of.ensures (makes_found c.in-Some.ensures.some)
-
-pub returns-in-None-clause-read : goal.returns-in-None-clause-read
-returns-in-None-clause-read c = record { place = none_starts c.in-None.ensures.none refl }
