@@ -10,6 +10,7 @@ pub use Rattle.kql_cells.specs.Table
 pub use Rattle.kql_cells.specs.Values
 pub mod Grids
 pub mod Kept
+pub mod Moves
 pub mod Nullable
 pub mod Numbers
 pub mod Pieces

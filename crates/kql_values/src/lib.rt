@@ -12,6 +12,7 @@ mod store;
 mod table;
 mod text_column;
 mod vector;
+mod vectors;
 
 pub use catalogue::{Catalogue, Named};
 pub use kql_cells::{
@@ -24,7 +25,9 @@ use kql_items::Items;
 pub use rows::Rows;
 pub use store::{NumberKind, Numbers};
 pub use table::Table;
+pub use text_column::TextColumn;
 pub use vector::Vector;
+pub use vectors::absent_cell;
 
 /// Tables, one after another.
 pub type Tables = Items<Table>;
