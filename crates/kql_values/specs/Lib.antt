@@ -1,0 +1,17 @@
+pub use Rattle.kql_cells.specs.Catalogues
+pub use Rattle.kql_cells.specs.Dynamic
+pub use Rattle.kql_cells.specs.Hashed
+pub use Rattle.kql_cells.specs.Named
+pub use Rattle.kql_cells.specs.Ordered
+pub use Rattle.kql_cells.specs.Readings
+pub use Rattle.kql_cells.specs.Same
+pub use Rattle.kql_cells.specs.Seen
+pub use Rattle.kql_cells.specs.Table
+pub use Rattle.kql_cells.specs.Values
+pub mod Grids
+pub mod Kept
+pub mod Nullable
+pub mod Numbers
+pub mod Pieces
+pub mod Stores
+pub mod Texts
