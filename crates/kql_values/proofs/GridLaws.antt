@@ -11,7 +11,8 @@ use Rattle.std.proofs.Common.{length-append}
 use Rattle.std.proofs.lemmas.List.FromFn.{length-map-range_with_len, get_or-map-range_with_len}
 use Rattle.std.proofs.lemmas.List.Elements.{All-head, All-tail}
 use Rattle.kql_cells.specs.Seen.{value_at, row_at}
-use Rattle.kql_values.specs.Grids.{HaveLength, row_of, rows_of, column_at, joined, singletons, beside, picked}
+use Rattle.kql_values.specs.Grids.{HaveLength, row_of, rows_of, column_at, joined, singletons}
+use Rattle.kql_values.specs.Moves.{beside, picked}
 use Rattle.kql_cells.specs.declared.value.Value.{Value}
 use Rattle.kql_cells.specs.declared.value.Value.TheVariants as val
 
@@ -179,7 +180,7 @@ rows_of-joined n m cs ds e h =
     let size : length (rows_of n cs ++ rows_of m ds) ≡ n + m = omega arith in
     rows_of-are (n + m) (joined cs ds) (rows_of n cs ++ rows_of m ds) size (λ i lt. joined-at n m cs ds i e h lt (cases_lt i n))
 
-singletons-HaveLength : {X : Type 0} (vs : List X) → HaveLength 1 (singletons vs)
+pub singletons-HaveLength : {X : Type 0} (vs : List X) → HaveLength 1 (singletons vs)
 unfolding HaveLength
 singletons-HaveLength [] = tt
 singletons-HaveLength (v ∷ vs) = (refl, singletons-HaveLength vs)
@@ -189,7 +190,7 @@ unfolding row_of
 row_of-singletons [] = refl
 row_of-singletons (v ∷ vs) = ap (λ l. v ∷ l) (row_of-singletons vs)
 
-rows_of-singletons : (vs : List Value) → rows_of 1 (singletons vs) ≡ vs ∷ []
+pub rows_of-singletons : (vs : List Value) → rows_of 1 (singletons vs) ≡ vs ∷ []
 unfolding rows_of
 rows_of-singletons vs = ap (λ l. l ∷ []) (row_of-singletons vs)
 

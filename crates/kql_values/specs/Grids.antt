@@ -1,7 +1,10 @@
 -- Rows that are stored by columns.
-use Rattle.std.specs.Prelude.{ℕ, ◌≡◌, List, [], ◌∷◌, ◌++◌, map, length}
+use Rattle.std.specs.Prelude.{ℕ, ◌≡◌, ◌≢◌, List, [], ◌∷◌, ◌++◌, map, length, slice_index_or, All, Option}
 use Rattle.std.specs.List.{range_with_len}
 use Rattle.kql_cells.specs.Seen.{value_at}
+use Rattle.kql_cells.specs.Table.{CellFits}
+use Rattle.kql_values.specs.Moves.{absent, value_or}
+use Rattle.kql_cells.specs.declared.schema.Column.{Column}
 use Rattle.kql_cells.specs.declared.value.Value.{Value}
 
 -- each list has so many items
@@ -32,12 +35,18 @@ joined (xs ∷ lists) (ys ∷ more) = (xs ++ ys) ∷ joined lists more
 abbrev pub singletons : {X : Type 0} → List X → List (List X)
 singletons xs = map (λ x. x ∷ []) xs
 
--- each row followed by the row at its place of others
-unfoldable pub beside : {X : Type 0} → List (List X) → List (List X) → List (List X)
-beside [] others = []
-beside (row ∷ rows) [] = []
-beside (row ∷ rows) (other ∷ others) = (row ++ other) ∷ beside rows others
+-- one list for each column, of so many values, which fit it
+unfoldable pub ColumnsFit : List Column → ℕ → List (List Value) → Type 0
+ColumnsFit [] n [] = Unit {0}
+ColumnsFit (c ∷ cs) n (v ∷ vs) = ((length v ≡ n) × All (CellFits c) v) × ColumnsFit cs n vs
+ColumnsFit _ n _ = ⊥
 
--- the values of a row at these places
-abbrev pub picked : List ℕ → List Value → List Value
-picked places row = map (value_at row) places
+-- each column at places, with its absent cell where there is none
+unfoldable pub or_absent : List Column → List (List Value) → List (Option ℕ) → List (List Value)
+or_absent [] vs places = []
+or_absent (c ∷ cs) [] places = []
+or_absent (c ∷ cs) (v ∷ vs) places = map (value_or (absent c.kind) v) places ∷ or_absent cs vs places
+
+-- two lists are as long, and have the same but at these places
+unfoldable pub AgreeOff : List ℕ → List (List Value) → List (List Value) → Type 0
+AgreeOff places xs ys = (length xs ≡ length ys) × ((j : ℕ) → All (λ i. i ≢ j) places → slice_index_or xs j [] ≡ slice_index_or ys j [])

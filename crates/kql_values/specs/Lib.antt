@@ -11,6 +11,7 @@ pub use Rattle.kql_cells.specs.Values
 pub mod Grids
 pub mod Growing
 pub mod Kept
+pub mod Moves
 pub mod Nullable
 pub mod Numbers
 pub mod Pieces

@@ -13,6 +13,7 @@ mod store;
 mod table;
 mod text_column;
 mod vector;
+mod vectors;
 
 pub use builder::TableBuilder;
 pub use catalogue::{Catalogue, Named};
@@ -26,7 +27,9 @@ use kql_items::Items;
 pub use rows::Rows;
 pub use store::{NumberKind, Numbers};
 pub use table::Table;
+pub use text_column::TextColumn;
 pub use vector::Vector;
+pub use vectors::absent_cell;
 
 /// Tables, one after another.
 pub type Tables = Items<Table>;

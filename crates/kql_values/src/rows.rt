@@ -1,10 +1,13 @@
-ghost use Rattle.std.specs.Prelude.{◌≡◌, ℕ, ◌<◌, ◌≤◌, ◌+◌, ◌^◌, ◌++◌, ◌∷◌, ◌↔◌, if◌then◌else◌, [], length, take, map, is_ok, slice_range, slice_index_or, All, IfOk, IsTrue, OnErr, OnOk};
-ghost use Rattle.kql_values.specs.Grids.{HaveLength, beside, column_at, joined, picked, row_of, rows_of, singletons};
-ghost use Rattle.kql_cells.specs.Seen.{cell_at, row_at, seen, value_at};
+ghost use Rattle.std.specs.Prelude.{◌≡◌, ◌<◌, ◌≤◌, ◌^◌, ◌++◌, ◌∷◌, ◌↔◌, [], length, map, slice_range, All, IfOk, IsTrue, OnErr, OnOk};
+ghost use Rattle.kql_values.specs.Grids.{HaveLength, rows_of};
+ghost use Rattle.kql_cells.specs.Seen.{cell_at, row_at, seen};
 
 use crate::vector::{Vector, kind_of};
-use kql_cells::{CellRef, Kind, Row, Value};
-use kql_items::Items;
+use crate::vectors::{
+    append_to_each, cells_of_columns, cells_of_values, copy_columns, copy_row_of, gather_columns,
+    grown, push_to_each, slice_columns,
+};
+use kql_cells::{CellRef, Row, Value};
 use std::alloc::{AllocError, Global};
 use std::marker::Model;
 
@@ -45,21 +48,6 @@ impl Rows {
             columns: Vec::new(alloc),
             count: 0,
         }
-    }
-
-    /// No rows, in columns for values of these types.
-    pub fn of_kinds(alloc: Global, kinds: &[Kind]) -> Result<Rows, AllocError>
-        ensures empty { IfOk result (λ r. r ≡ []) }
-    {
-        let mut columns = Vec::with_capacity(alloc, kinds.len())?;
-        for kind in kinds {
-            columns.push(Vector::new(alloc, *kind))?;
-        }
-        Ok(Rows {
-            alloc,
-            columns,
-            count: 0,
-        })
     }
 
     /// The rows of columns that are each so long.
@@ -107,15 +95,6 @@ impl Rows {
         self.columns[j].cell(i)
     }
 
-    /// A column, where there is a row.
-    pub fn column(&self, j: usize) -> &Vector
-        requires row { 0 < length self.now }
-        requires column { j < length (row_at self.now 0) }
-        ensures cells { result.now ≡ column_at self.now j }
-    {
-        &self.columns[j]
-    }
-
     /// The columns.
     pub fn columns(&self) -> &[Vector]
         ensures rows { rows_of (length self.now) result.now ≡ self.now }
@@ -128,6 +107,7 @@ impl Rows {
     pub fn into_columns(self) -> (usize, Vec<Vector>)
         ensures rows { rows_of result.0 result.1.items ≡ self }
         ensures long { HaveLength result.0 result.1.items }
+        ensures small { result.0 < 2 ^ 63 }
     {
         let Rows {
             alloc: _,
@@ -263,59 +243,6 @@ impl Rows {
             count: self.count,
         })
     }
-
-    /// Each row with its values at these places alone, in this order.
-    pub fn select(&self, alloc: Global, places: &[usize]) -> Result<Rows, AllocError>
-        requires { All (λ row. All (λ j. j < length row) places.now) self.now }
-        ensures rows { IfOk result (λ r. r ≡ map (picked places.now) self.now) }
-    {
-        if self.count == 0 {
-            return Ok(Rows::new(alloc));
-        }
-        let columns = select_columns(alloc, &self.columns, places)?;
-        Ok(Rows {
-            alloc,
-            columns,
-            count: self.count,
-        })
-    }
-
-    /// Each row followed by the row at its place of as many others. Without memory all are dropped.
-    pub fn beside(self, other: Rows) -> Result<Rows, AllocError>
-        requires { length self ≡ length other }
-        ensures rows { IfOk result (λ r. r ≡ beside self other) }
-    {
-        let Rows {
-            alloc,
-            mut columns,
-            count,
-        } = self;
-        let Rows {
-            alloc: _,
-            columns: mut more,
-            count: _,
-        } = other;
-        columns.append(&mut more)?;
-        Ok(Rows {
-            alloc,
-            columns,
-            count,
-        })
-    }
-}
-
-// The count of rows and so many more.
-fn grown(count: usize, more: usize) -> Result<usize, AllocError>
-    requires low { count < 2 ^ 63 }
-    requires few { more < 2 ^ 63 }
-    ensures sum { IfOk result (λ n. (n ≡ count + more) × (n < 2 ^ 63)) }
-{
-    let sum = count + more;
-    if sum < 0x8000_0000_0000_0000 {
-        Ok(sum)
-    } else {
-        Err(AllocError)
-    }
 }
 
 // Makes columns for a first row, where there are not so many yet.
@@ -349,159 +276,4 @@ fn fresh_columns(alloc: Global, row: &[CellRef<'_>]) -> Result<Vec<Vector>, Allo
         columns.push(Vector::new(alloc, kind_of(*cell)))?;
     }
     Ok(columns)
-}
-
-// Cuts each column off.
-fn truncate_each(columns: &mut Vec<Vector>, count: usize)
-    ensures { columns.new.items ≡ map (take count) columns.old.items }
-{
-    for column in columns.iter_mut() {
-        column.truncate(count);
-    }
-}
-
-// Adds what each cell shows to the column at its place, or nothing.
-fn push_to_each(
-    columns: &mut Vec<Vector>,
-    count: usize,
-    row: &[CellRef<'_>],
-) -> Result<(), AllocError>
-    requires long { HaveLength count columns.old.items }
-    requires width { length columns.old.items ≡ length row.now }
-    ensures added { OnOk result (columns.new.items ≡ joined columns.old.items (singletons (map seen row.now))) }
-    ensures kept { OnErr result (columns.new.items ≡ columns.old.items) }
-{
-    for j in 0..row.len() {
-        let column = &mut columns[j];
-        if let Err(e) = column.push_cell(row[j]) {
-            truncate_each(columns, count);
-            return Err(e);
-        }
-    }
-    Ok(())
-}
-
-// Moves the cells of each column to the end of the column at its place, or nothing.
-fn append_to_each(
-    columns: &mut Vec<Vector>,
-    count: usize,
-    more: Vec<Vector>,
-) -> Result<(), AllocError>
-    requires long { HaveLength count columns.old.items }
-    requires width { length columns.old.items ≡ length more.items }
-    ensures added { OnOk result (columns.new.items ≡ joined columns.old.items more.items) }
-    ensures kept { OnErr result (columns.new.items ≡ columns.old.items) }
-{
-    let mut j = 0;
-    for vector in more {
-        let column = &mut columns[j];
-        if let Err(e) = column.append(vector) {
-            truncate_each(columns, count);
-            return Err(e);
-        }
-        j += 1;
-    }
-    Ok(())
-}
-
-// The cells of values.
-fn cells_of_values(alloc: Global, row: &[Value]) -> Result<Vec<CellRef<'_>>, AllocError>
-    ensures { IfOk result (λ v. map seen v.items ≡ row.now) }
-{
-    let mut cells = Vec::with_capacity(alloc, row.len())?;
-    for value in row {
-        cells.push(value.as_cell())?;
-    }
-    Ok(cells)
-}
-
-// The cells at a place of columns.
-#[tactic(auto, using(crate::proofs::GridLaws::row_steps))]
-fn cells_of_columns(
-    alloc: Global,
-    columns: &Vec<Vector>,
-    i: usize,
-) -> Result<Vec<CellRef<'_>>, AllocError>
-    requires { All (λ c. i < length c) columns.now.items }
-    ensures { IfOk result (λ v. map seen v.items ≡ row_of columns.now.items i) }
-{
-    let mut cells = Vec::with_capacity(alloc, columns.len())?;
-    for column in columns {
-        cells.push(column.cell(i))?;
-    }
-    Ok(cells)
-}
-
-// The values at a place of columns.
-#[tactic(auto, using(crate::proofs::GridLaws::row_steps))]
-fn copy_row_of(alloc: Global, columns: &Vec<Vector>, i: usize) -> Result<Row, AllocError>
-    requires { All (λ c. i < length c) columns.now.items }
-    ensures { IfOk result (λ r. r ≡ row_of columns.now.items i) }
-{
-    let mut row = Items::with_capacity(alloc, columns.len())?;
-    for column in columns {
-        row.push(column.cell(i).to_value(alloc)?)?;
-    }
-    Ok(row)
-}
-
-// Each column at these places.
-fn gather_columns(
-    alloc: Global,
-    columns: &Vec<Vector>,
-    places: &[usize],
-) -> Result<Vec<Vector>, AllocError>
-    requires { All (λ c. All (λ i. i < length c) places.now) columns.now.items }
-    ensures { IfOk result (λ v. v.items ≡ map (λ c. map (value_at c) places.now) columns.now.items) }
-{
-    let mut gathered = Vec::with_capacity(alloc, columns.len())?;
-    for column in columns {
-        gathered.push(column.gather(alloc, places)?)?;
-    }
-    Ok(gathered)
-}
-
-// Each column from a place to another.
-fn slice_columns(
-    alloc: Global,
-    columns: &Vec<Vector>,
-    from: usize,
-    to: usize,
-) -> Result<Vec<Vector>, AllocError>
-    requires order { from ≤ to }
-    requires within { All (λ c. to ≤ length c) columns.now.items }
-    ensures { IfOk result (λ v. v.items ≡ map (λ c. slice_range c from to) columns.now.items) }
-{
-    let mut parts = Vec::with_capacity(alloc, columns.len())?;
-    for column in columns {
-        parts.push(column.slice(alloc, from, to)?)?;
-    }
-    Ok(parts)
-}
-
-// Each column once more.
-fn copy_columns(alloc: Global, columns: &Vec<Vector>) -> Result<Vec<Vector>, AllocError>
-    ensures { IfOk result (λ v. v.items ≡ columns.now.items) }
-{
-    let mut copies = Vec::with_capacity(alloc, columns.len())?;
-    for column in columns {
-        copies.push(column.copy(alloc)?)?;
-    }
-    Ok(copies)
-}
-
-// The columns at these places.
-fn select_columns(
-    alloc: Global,
-    columns: &Vec<Vector>,
-    places: &[usize],
-) -> Result<Vec<Vector>, AllocError>
-    requires { All (λ j. j < length columns.now.items) places.now }
-    ensures { IfOk result (λ v. v.items ≡ map (λ j. slice_index_or columns.now.items j []) places.now) }
-{
-    let mut selected = Vec::with_capacity(alloc, places.len())?;
-    for place in places {
-        selected.push(columns[*place].copy(alloc)?)?;
-    }
-    Ok(selected)
 }

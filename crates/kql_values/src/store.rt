@@ -94,6 +94,28 @@ impl Store {
         }
     }
 
+    /// The texts, where the cells are stored as texts.
+    pub fn texts(&self) -> Option<&TextColumn>
+        ensures same { IfSome result (λ t. map text_value t.now ≡ values_of self.now) }
+    {
+        match self {
+            Store::Texts(texts) => Some(texts),
+            _ => None,
+        }
+    }
+
+    /// No cells, in a store of the same sort.
+    pub fn fresh(&self, alloc: Global) -> Store
+        ensures empty { values_of result ≡ [] }
+    {
+        match self {
+            Store::Bools(_) => Store::Bools(Items::new(alloc)),
+            Store::Numbers(kind, _) => Store::Numbers(*kind, NumberColumn::new(alloc)),
+            Store::Texts(_) => Store::Texts(TextColumn::new(alloc)),
+            Store::Mixed(_) => Store::Mixed(Items::new(alloc)),
+        }
+    }
+
     // Adds what a cell shows at the end, if cells like it are stored here.
     fn take(&mut self, alloc: Global, cell: CellRef<'_>) -> Result<bool, AllocError>
         ensures added { IfOk result (λ taken. values_of self.new ≡ (if taken then values_of self.old ++ seen cell.entry ∷ [] else values_of self.old)) }

@@ -1,8 +1,11 @@
 ghost use Rattle.std.specs.Prelude.{◌≡◌, ◌<◌, ◌≤◌, ◌^◌, ◌++◌, ◌∷◌, ◌↔◌, if◌then◌else◌, [], length, take, map, replicate, slice_range, All, IfOk, IfSome, IsTrue, OnErr, OnOk, Some};
+ghost use Rattle.kql_values.specs.Moves.{IsWithin, value_or};
 ghost use Rattle.kql_values.specs.Numbers.{values_of_numbers};
+ghost use Rattle.kql_values.specs.Stores.{text_value};
 ghost use Rattle.kql_cells.specs.Seen.{seen, value_at};
 
 use crate::store::{Numbers, Store};
+use crate::text_column::TextColumn;
 use kql_cells::{CellRef, Kind, Value};
 use std::alloc::{AllocError, Global};
 use std::marker::Model;
@@ -79,6 +82,10 @@ impl Vector {
         ensures kept { OnErr result (self.new ≡ self.old) }
     {
         let Vector { alloc: _, store } = more;
+        if self.store.len() == 0 {
+            self.store = store;
+            return Ok(());
+        }
         self.store.append(self.alloc, store)
     }
 
@@ -98,6 +105,37 @@ impl Vector {
             alloc,
             store: self.store.gather(alloc, places)?,
         })
+    }
+
+    /// Copies of the cells at these places, in this order, and what `absent` shows where a place is none.
+    pub fn gather_or_absent(
+        &self,
+        alloc: Global,
+        places: &[Option<usize>],
+        absent: CellRef<'_>,
+    ) -> Result<Vector, AllocError>
+        requires { All (IsWithin (length self.now)) places.now }
+        ensures cells { IfOk result (λ v. v ≡ map (value_or (seen absent.entry) self.now) places.now) }
+    {
+        let mut gathered = Vector {
+            alloc,
+            store: self.store.fresh(alloc),
+        };
+        for place in places {
+            gathered.push_cell(self.cell_or(*place, absent))?;
+        }
+        Ok(gathered)
+    }
+
+    // The cell at a place, or this one where there is none.
+    fn cell_or<'a>(&'a self, place: Option<usize>, absent: CellRef<'a>) -> CellRef<'a>
+        requires { IsWithin (length self.now) place }
+        ensures same { seen result ≡ value_or (seen absent.entry) self.now place }
+    {
+        match place {
+            None => absent,
+            Some(i) => self.cell(i),
+        }
     }
 
     /// Copies of the cells from a place to another.
@@ -128,6 +166,13 @@ impl Vector {
         ensures mask { IfSome result (λ n. length n.nulls.now ≡ length n.numbers.now) }
     {
         self.store.numbers()
+    }
+
+    /// The texts, where the cells are stored as texts.
+    pub fn texts(&self) -> Option<&TextColumn>
+        ensures same { IfSome result (λ t. map text_value t.now ≡ self.now) }
+    {
+        self.store.texts()
     }
 
     /// One value, so many times.

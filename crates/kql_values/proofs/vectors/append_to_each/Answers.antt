@@ -1,0 +1,34 @@
+use Rattle.std.proofs.Common.{◌≡◌, ◌<◌, ◌+◌, length, refl, ap, sym, ◌∙◌, rules, arith, vec_len}
+use Rattle.std.proofs.Math.ListN.{set}
+use Rattle.std.proofs.lemmas.List.{length_push}
+use Rattle.std.proofs.lemmas.Iterator.Adapters.{YieldsList-from_vec}
+use Rattle.std.proofs.lemmas.Iterator.Consumers.{YieldsList-turn}
+use Rattle.kql_values.proofs.GridLaws.{joined-length, joined-nil, joined-step, restored}
+use Rattle.kql_values.proofs.vectors.append_to_each.Goals as goal
+
+pub loop-vector-init : goal.loop-vector-init
+loop-vector-init c = record { at = refl; added = sym (joined-nil _) }
+
+pub index_mut-column-requires : goal.index_mut-column-requires
+index_mut-column-requires c =
+    let given = c.into_iter-vector-iterator.ensures.into_iter_gives in
+    let turn = YieldsList-turn (YieldsList-from_vec {s = c.into_iter-vector-iterator.result} c.args.more.items given.0 (given.1 ∙ c.args.more.ok.0)) c.loop-vector.yielded _ c.loop-vector.yielded_by _ c.next.new.self c.in-Some.vector c.in-Some.is c.next.ensures.steps in
+    let within : length c.loop-vector.yielded < length c.args.more.items = turn.0 in
+    let count : length c.loop-vector.columns.items ≡ vec_len c.loop-vector.columns = search rules in
+    let size : length c.loop-vector.columns.items ≡ length c.args.columns.now.items = ap length c.loop-vector.invariant.added ∙ joined-length _ _ in
+    omega (arith, c.requires.width, c.loop-vector.invariant.at)
+
+pub returns-in-Err-clause-kept : goal.returns-in-Err-clause-kept
+returns-in-Err-clause-kept c =
+    restored c.args.count c.loop-vector.j c.args.columns.now.items c.loop-vector.yielded c.loop-vector.columns.items _ c.append.new.self c.index_mut-column.result.now c.requires.long c.loop-vector.invariant.added c.in-Err.ensures.kept c.index_mut-column.ensures.value c.truncate_each.ensures
+
+pub loop-vector-preserved : goal.loop-vector-preserved
+loop-vector-preserved c =
+    let given = c.into_iter-vector-iterator.ensures.into_iter_gives in
+    let turn = YieldsList-turn (YieldsList-from_vec {s = c.into_iter-vector-iterator.result} c.args.more.items given.0 (given.1 ∙ c.args.more.ok.0)) c.loop-vector.yielded _ c.loop-vector.yielded_by _ c.next.new.self c.in-Some.vector c.in-Some.is c.next.ensures.steps in
+    let within : length c.loop-vector.yielded < length c.args.more.items = turn.0 in
+    let fits : c.loop-vector.j < length c.args.columns.now.items = omega (arith, c.requires.width, c.loop-vector.invariant.at) in
+    record {
+      at = ap (λ n. n + 1) c.loop-vector.invariant.at ∙ sym (length_push c.loop-vector.yielded c.in-Some.vector);
+      added = joined-step c.args.columns.now.items c.loop-vector.yielded c.loop-vector.columns.items _ _ c.index_mut-column.result.now c.loop-vector.j c.loop-vector.invariant.added c.loop-vector.invariant.at fits c.index_mut-column.ensures.value (ap (set c.loop-vector.columns.items c.loop-vector.j) c.in_default.ensures.added);
+    }

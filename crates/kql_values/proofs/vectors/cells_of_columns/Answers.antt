@@ -1,0 +1,12 @@
+use Rattle.std.proofs.Common.{map, ap, ◌∙◌}
+use Rattle.std.proofs.lemmas.List.{map-append}
+use Rattle.kql_cells.specs.Seen.{seen, value_at}
+use Rattle.kql_values.proofs.GridLaws.{row-step}
+use Rattle.kql_values.proofs.vectors.cells_of_columns.Goals as goal
+
+pub loop-column-preserved : goal.loop-column-preserved
+loop-column-preserved c =
+    let value = c.deref-column-items.ensures.value in
+    let before = rw (← value) at c.loop-column.invariant in
+    let added = ap (map seen) c.in_ok-push.ensures.items ∙ map-append seen _ _ in
+    rw (← value) (row-step c.deref-column-items.result.now c.loop-column.column-index c.args.i c.column-item.result _ _ _ c.loop-column-test.true before (c.cell.ensures.same ∙ ap (λ column. value_at column c.args.i) c.column-item.is) added)
