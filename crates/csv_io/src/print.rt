@@ -27,10 +27,9 @@ pub fn table_text(alloc: Global, t: &Table) -> Result<Bytes, AllocError>
     ensures text { IfOk result (λ b. b ≡ table_text t.now) }
     ensures loads { IfOk result (λ b. IsLoadable t.now.columns → loaded (with_kinds t.now.columns b) ≡ Ok t.now) }
 {
-    let rows = t.rows();
     let mut out = Vec::new(alloc);
     push_names(&mut out, t.schema().columns())?;
-    for i in 0..rows.len() {
+    for i in 0..t.len() {
         push_line(alloc, &mut out, t, i)?;
     }
     Ok(Items::from_vec(out))

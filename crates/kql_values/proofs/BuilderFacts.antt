@@ -12,13 +12,14 @@ use Rattle.kql_cells.specs.declared.schema.Column.{Column}
 use Rattle.kql_cells.specs.declared.value.Value.{Value}
 use Rattle.kql_cells.specs.declared.value.Value.TheVariants as val
 use Rattle.kql_values.proofs.GridLaws.{HaveLength-push, row_of-length, row_of-more, rows_of-are, rows_of-at, rows_of-length, rows_of-none}
-use Rattle.kql_values.specs.Grids.{HaveLength, row_of, rows_of}
+use Rattle.kql_values.proofs.TableFacts.{fits-HaveLength, fits-length, grid-fits}
+use Rattle.kql_values.specs.Grids.{ColumnsFit, HaveLength, row_of, rows_of}
 use Rattle.kql_values.specs.Growing.{IsStored}
 
 -- no row and no cell
-pub stored-none : (s : List Column) (cs : List (List Value)) → HaveLength 0 cs → length cs ≡ length s → IsStored s cs 0 0
+pub stored-none : (s : List Column) (cs : List (List Value)) → ColumnsFit s 0 cs → IsStored s cs 0 0
 unfolding IsStored HaveLength RowFits row_of
-stored-none s cs h e = (e, omega arith, omega arith, tt, h, rw (rows_of-none cs) (All-nil (RowFits s)), tt)
+stored-none s cs f = (fits-length s 0 cs f, omega arith, omega arith, tt, fits-HaveLength s 0 cs f, rw (rows_of-none cs) (All-nil (RowFits s)), tt)
 
 -- so many cells are open
 pub open-length : (s : List Column) (cs : List (List Value)) (n k : ℕ) → IsStored s cs n k → length (row_of (take k cs) n) ≡ k
@@ -147,13 +148,28 @@ stored-row s cs n k h full small =
 
 -- ---- the end
 
-pub stored-whole : (s : List Column) (cs : List (List Value)) (n k : ℕ) → IsStored s cs n k → row_of (take k cs) n ≡ [] → HaveLength n cs × All (RowFits s) (rows_of n cs)
+none-within : (c : Column) (v : List Value) → length v ≡ 0 → All (CellFits c) v
+none-within c [] e = All-nil (CellFits c)
+none-within c (w ∷ v) e = cc
+
+none-fit : (s : List Column) (cs : List (List Value)) → HaveLength 0 cs → length cs ≡ length s → ColumnsFit s 0 cs
+unfolding ColumnsFit HaveLength
+none-fit [] [] h e = tt
+none-fit [] (v ∷ cs) h e = cc
+none-fit (c ∷ s) [] h e = cc
+none-fit (c ∷ s) (v ∷ cs) h e = ((h.0, none-within c v h.0), none-fit s cs h.1 (omega arith))
+
+columns-fit : (s : List Column) (cs : List (List Value)) (n : ℕ) → HaveLength n cs → length cs ≡ length s → All (RowFits s) (rows_of n cs) → ColumnsFit s n cs
+columns-fit s cs zero h e f = none-fit s cs h e
+columns-fit s cs (suc n) h e f = grid-fits s (suc n) cs (omega arith) h f
+
+pub stored-whole : (s : List Column) (cs : List (List Value)) (n k : ℕ) → IsStored s cs n k → row_of (take k cs) n ≡ [] → ColumnsFit s n cs
 unfolding IsStored
 stored-whole s cs n k h none =
     let size = open-length s cs n k h in
     let zero : k ≡ 0 = sym size ∙ ap length none in
     let long : HaveLength n (drop 0 cs) = rw zero at h.4 in
-    (long, h.5)
+    columns-fit s cs n long h.0 h.5
 
 -- a step that failed
 pub stored-kept : (s : List Column) (cs new : List (List Value)) (n k : ℕ) → IsStored s cs n k → new ≡ cs → IsStored s new n k

@@ -1,13 +1,11 @@
 ghost use Rattle.std.specs.Prelude.{◌≡◌, ◌<◌, ◌^◌, ◌++◌, ◌∷◌, [], IfOk, OnErr, OnOk, length, slice_index_or, slice_set};
 ghost use Rattle.kql_cells.specs.Seen.{seen};
-ghost use Rattle.kql_cells.specs.declared.schema.Column.{Column};
-ghost use Rattle.kql_values.specs.Grids.{HaveLength};
 ghost use Rattle.kql_values.specs.Growing.{FitsNext, closed, started, with_cell};
 
-use crate::rows::Rows;
 use crate::table::Table;
 use crate::vector::Vector;
-use kql_cells::{CellRef, Column, Schema, Value};
+use crate::vectors::empty_columns;
+use kql_cells::{CellRef, Schema, Value};
 use std::alloc::{AllocError, Global};
 use std::marker::Model;
 
@@ -126,21 +124,8 @@ impl TableBuilder {
             count,
             filled: _,
         } = self;
-        Table::new(schema, Rows::from_columns(alloc, count, columns))
+        Table::from_columns(alloc, schema, count, columns)
     }
-}
-
-// An empty column for each of a schema's.
-#[tactic(auto, using(crate::proofs::GridLaws::grid_fits))]
-fn empty_columns(alloc: Global, schema: &[Column]) -> Result<Vec<Vector>, AllocError>
-    ensures empty { IfOk result (λ v. HaveLength 0 v.items) }
-    ensures width { IfOk result (λ v. length v.items ≡ length schema.now) }
-{
-    let mut columns = Vec::with_capacity(alloc, schema.len())?;
-    for column in schema {
-        columns.push(Vector::new(alloc, column.kind))?;
-    }
-    Ok(columns)
 }
 
 // Adds what a cell shows to the column at a place.

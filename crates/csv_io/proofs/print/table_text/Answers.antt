@@ -13,12 +13,12 @@ use Rattle.csv_io.proofs.print.table_text.Goals as goal
 pub push_line-requires-clause-width : goal.push_line-requires-clause-width
 push_line-requires-clause-width c =
     let lt : c.loop-i.i < length c.args.t.now.lines = grind (arith, common_steps) in
-    fits-size c.args.t.now.columns (row_at c.args.t.now.lines c.loop-i.i) (c.rows-rows.ensures.fits c.loop-i.i [] lt)
+    fits-size c.args.t.now.columns (row_at c.args.t.now.lines c.loop-i.i) (c.schema.ensures.fits c.loop-i.i [] lt)
 
 pub push_line-requires-clause-forms : goal.push_line-requires-clause-forms
 push_line-requires-clause-forms c =
     let lt : c.loop-i.i < length c.args.t.now.lines = grind (arith, common_steps) in
-    row-forms c.args.t.now.columns (row_at c.args.t.now.lines c.loop-i.i) (c.rows-rows.ensures.fits c.loop-i.i [] lt)
+    row-forms c.args.t.now.columns (row_at c.args.t.now.lines c.loop-i.i) (c.schema.ensures.fits c.loop-i.i [] lt)
 
 pub loop-i-preserved : goal.loop-i-preserved
 loop-i-preserved c =
@@ -38,4 +38,4 @@ returns-clause-loads c =
     let columns = c.columns.ensures.columns ∙ c.schema.ensures.columns in
     let names : AllText (names_of t.columns) = rw columns at c.in_ok-push_names.ensures.utf8 in
     let distinct = rw c.schema.ensures.columns at c.columns.ensures.distinct in
-    loads-again t c.from_vec.result text names distinct c.rows-rows.ensures.fits back
+    loads-again t c.from_vec.result text names distinct c.schema.ensures.fits back
