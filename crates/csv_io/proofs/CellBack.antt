@@ -8,16 +8,18 @@ use Rattle.std.proofs.lemmas.Bool.Decides.{nat_tests}
 use Rattle.std.proofs.lemmas.Fmt.{decimal_nonempty, digits_decimal, digits_value-decimal}
 use Rattle.std.proofs.lemmas.Str.{IsUtf8-nil}
 use Rattle.std.proofs.lemmas.Str.Parse.{not_in_digits}
-use Rattle.csv_io.specs.Cells.{is_whole, long_of, read_cell, read_filled}
+use Rattle.csv_io.specs.Cells.{read_cell, read_filled}
 use Rattle.csv_io.specs.Reload.{ReadsBack}
 use Rattle.csv_io.specs.Text.{cell_text}
-use Rattle.csv_io.proofs.NumberFacts.{own, to-whole}
 use Rattle.kql_dynamic.specs.Json.{parsed}
 use Rattle.kql_dynamic.specs.Parts.{value_of}
 use Rattle.kql_dynamic.specs.Printed.{printed}
 use Rattle.kql_ticks.specs.Forms.{date_in, moment_in, span_in}
 use Rattle.kql_ticks.specs.Texts.{moment_text, span_text}
+use Rattle.kql_cells.proofs.NumberFacts.{own, to-whole}
 use Rattle.kql_cells.specs.Dynamic.{is_null}
+use Rattle.kql_cells.specs.Keys.{absent}
+use Rattle.kql_cells.specs.Readings.{bool_written, is_whole, long_written}
 use Rattle.kql_cells.specs.Values.{IsOfKind}
 use Rattle.kql_cells.specs.declared.dynamic.Dyn.{Dyn}
 use Rattle.kql_cells.specs.declared.value.Kind.{Kind}
@@ -37,6 +39,7 @@ filled k (b ∷ bs) v n e = e
 
 -- null
 null-kinds : (k : Kind) → IsOfKind k value.Null → read_cell k [] ≡ Some value.Null
+unfolding absent
 null-kinds kind.Bool h = refl
 null-kinds kind.Long h = refl
 null-kinds kind.Text h = absurd h
@@ -49,6 +52,7 @@ null-back = (IsUtf8-nil, null-kinds)
 
 -- a bool
 true-kinds : (k : Kind) → IsOfKind k (value.Bool true) → read_cell k (cell_text (value.Bool true)) ≡ Some (value.Bool true)
+unfolding bool_written
 true-kinds kind.Bool h = refl
 true-kinds kind.Long h = absurd h
 true-kinds kind.Text h = absurd h
@@ -57,6 +61,7 @@ true-kinds kind.Span h = absurd h
 true-kinds kind.Dynamic h = absurd h
 
 false-kinds : (k : Kind) → IsOfKind k (value.Bool false) → read_cell k (cell_text (value.Bool false)) ≡ Some (value.Bool false)
+unfolding bool_written
 false-kinds kind.Bool h = refl
 false-kinds kind.Long h = absurd h
 false-kinds kind.Text h = absurd h
@@ -83,8 +88,8 @@ below n m e = grind (arith, nat_tests)
 upto : (n m : ℕ) → n ≤ m → nat_le n m ≡ true
 upto n m e = grind (arith, nat_tests)
 
-long-text : (z : ℤ) → FitsSigned w64 z → long_of (signed_decimal z) ≡ Some z
-unfolding long_of
+long-text : (z : ℤ) → FitsSigned w64 z → long_written (signed_decimal z) ≡ Some z
+unfolding long_written
 long-text (pos n) f =
     let size : n < 2 ^ 63 = f.sfits in
     let wide : n < 2 ^ 64 = omega arith in
@@ -114,6 +119,7 @@ long-back z t f u e = (rw e at u, long-kinds z f)
 
 -- a text
 text-cell : (t : List ℕ) → read_cell kind.Text t ≡ Some (value.Text t)
+unfolding absent
 text-cell [] = refl
 text-cell (b ∷ bs) = refl
 

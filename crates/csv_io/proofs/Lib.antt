@@ -2,7 +2,7 @@ pub mod CellBack
 pub mod FieldFacts
 pub mod HeaderFacts
 pub mod LoadFacts
-pub mod NumberFacts
+pub mod OutputFacts
 pub mod RecordsLeftFacts
 pub mod Reloaded
 pub mod TextFacts

@@ -2,8 +2,7 @@ pub mod Cells
 pub mod Faults
 pub mod Header
 pub mod Load
-pub mod Printed
-pub mod Pushed
+pub mod Next
 pub mod RecordsLeft
 pub mod Reload
 pub mod Text

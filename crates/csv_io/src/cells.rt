@@ -1,119 +1,63 @@
-ghost use Rattle.std.specs.Prelude.{◌≡◌, ◌==◌, IfOk, IfSome, slice_index};
-ghost use Rattle.csv_io.specs.Cells.{FitsKind, bool_of, empty_cell, long_of, read_cell, read_filled};
+ghost use Rattle.std.specs.Prelude.{◌≡◌, ◌≢◌, IfSome, option_map};
+ghost use Rattle.kql_cells.specs.Seen.{seen};
+ghost use Rattle.csv_io.specs.Cells.{FitsKind, read_filled};
 
-use kql_cells::{KText, Kind, Value};
-use kql_dynamic::parse_json;
+use kql_cells::{CellRef, Kind, read_bool, read_long};
 use kql_ticks::{read_moment, read_span};
-use std::alloc::{AllocError, Global};
 
-// The value of a field in a column of this type, or none where it is of another form.
-pub(crate) fn read_cell(alloc: Global, kind: Kind, text: &str) -> Result<Option<Value>, AllocError>
-    ensures value { IfOk result (λ v. v ≡ read_cell kind text.now) }
-    ensures fits { IfOk result (λ v. IfSome v (FitsKind kind)) }
-{
-    if text.is_empty() {
-        Ok(Some(empty_cell(alloc, kind)))
-    } else {
-        read_filled(alloc, kind, text)
-    }
-}
-
-fn empty_cell(alloc: Global, kind: Kind) -> Value
-    ensures value { result ≡ empty_cell kind }
-    ensures fits { FitsKind kind result }
+// What a field that is not empty shows in a column of this type, or none where it is of another form. In a column of
+// dynamic values it would be a value of its own.
+pub(crate) fn filled_cell(kind: Kind, text: &str) -> Option<CellRef<'_>>
+    requires { kind ≢ Kind.Dynamic }
+    ensures value { option_map seen result ≡ read_filled kind text.now }
+    ensures fits { IfSome result (λ c. FitsKind kind (seen c)) }
 {
     match kind {
-        Kind::Text => Value::Text(KText::new(alloc)),
-        Kind::Bool => Value::Null,
-        Kind::Long => Value::Null,
-        Kind::Moment => Value::Null,
-        Kind::Span => Value::Null,
-        Kind::Dynamic => Value::Null,
+        Kind::Text => Some(CellRef::Text(text)),
+        Kind::Bool => bool_cell(text),
+        Kind::Long => long_cell(text),
+        Kind::Moment => moment_cell(text),
+        Kind::Span => span_cell(text),
+        Kind::Dynamic => None,
     }
 }
 
-fn read_filled(alloc: Global, kind: Kind, text: &str) -> Result<Option<Value>, AllocError>
-    ensures value { IfOk result (λ v. v ≡ read_filled kind text.now) }
-    ensures fits { IfOk result (λ v. IfSome v (FitsKind kind)) }
+fn bool_cell<'a>(text: &str) -> Option<CellRef<'a>>
+    ensures value { option_map seen result ≡ read_filled Kind.Bool text.now }
+    ensures fits { IfSome result (λ c. FitsKind Kind.Bool (seen c)) }
 {
-    match kind {
-        Kind::Text => Ok(Some(Value::Text(KText::from_str(alloc, text)?))),
-        Kind::Bool => Ok(bool_value(text)),
-        Kind::Long => Ok(long_value(text)),
-        Kind::Moment => Ok(moment_value(text)),
-        Kind::Span => Ok(span_value(text)),
-        Kind::Dynamic => Ok(Some(parse_json(alloc, text)?)),
-    }
-}
-
-fn bool_value(text: &str) -> Option<Value>
-    ensures value { result ≡ read_filled Kind.Bool text.now }
-    ensures fits { IfSome result (FitsKind Kind.Bool) }
-{
-    match parse_bool(text) {
-        Some(holds) => Some(Value::Bool(holds)),
+    match read_bool(text) {
+        Some(holds) => Some(CellRef::Bool(holds)),
         None => None,
     }
 }
 
-fn parse_bool(text: &str) -> Option<bool>
-    ensures { result ≡ bool_of text.now }
+fn long_cell<'a>(text: &str) -> Option<CellRef<'a>>
+    ensures value { option_map seen result ≡ read_filled Kind.Long text.now }
+    ensures fits { IfSome result (λ c. FitsKind Kind.Long (seen c)) }
 {
-    if text.eq_ignore_ascii_case("true") {
-        Some(true)
-    } else if text.eq_ignore_ascii_case("false") {
-        Some(false)
-    } else {
-        None
-    }
-}
-
-fn long_value(text: &str) -> Option<Value>
-    ensures value { result ≡ read_filled Kind.Long text.now }
-    ensures fits { IfSome result (FitsKind Kind.Long) }
-{
-    match parse_long(text) {
-        Some(number) => Some(Value::Long(number)),
+    match read_long(text) {
+        Some(number) => Some(CellRef::Long(number)),
         None => None,
     }
 }
 
-// Digits with a minus before them or none, in the range of a long.
-#[tactic(auto, using(crate::proofs::NumberFacts::number_facts))]
-fn parse_long(text: &str) -> Option<i64>
-    ensures { result ≡ long_of text.now }
-{
-    if begins_with_plus(text) {
-        return None;
-    }
-    text.parse::<i64>().ok()
-}
-
-fn begins_with_plus(text: &str) -> bool
-    ensures { result ≡ (slice_index text.now 0 == 43) }
-{
-    match text.as_bytes().first() {
-        Some(byte) => *byte == b'+',
-        None => false,
-    }
-}
-
-fn moment_value(text: &str) -> Option<Value>
-    ensures value { result ≡ read_filled Kind.Moment text.now }
-    ensures fits { IfSome result (FitsKind Kind.Moment) }
+fn moment_cell<'a>(text: &str) -> Option<CellRef<'a>>
+    ensures value { option_map seen result ≡ read_filled Kind.Moment text.now }
+    ensures fits { IfSome result (λ c. FitsKind Kind.Moment (seen c)) }
 {
     match read_moment(text) {
-        Some(ticks) => Some(Value::Moment(ticks)),
+        Some(ticks) => Some(CellRef::Moment(ticks)),
         None => None,
     }
 }
 
-fn span_value(text: &str) -> Option<Value>
-    ensures value { result ≡ read_filled Kind.Span text.now }
-    ensures fits { IfSome result (FitsKind Kind.Span) }
+fn span_cell<'a>(text: &str) -> Option<CellRef<'a>>
+    ensures value { option_map seen result ≡ read_filled Kind.Span text.now }
+    ensures fits { IfSome result (λ c. FitsKind Kind.Span (seen c)) }
 {
     match read_span(text) {
-        Some(ticks) => Some(Value::Span(ticks)),
+        Some(ticks) => Some(CellRef::Span(ticks)),
         None => None,
     }
 }

@@ -7,8 +7,8 @@ mod feed;
 mod fields;
 mod header;
 mod loading;
+mod output;
 mod print;
-mod writing;
 
 pub use fault::DataFault;
 pub use loading::load;

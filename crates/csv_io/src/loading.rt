@@ -1,19 +1,20 @@
-ghost use Rattle.std.specs.Prelude.{◌≡◌, [], Ok, IfErr, IfOk, OnOk};
+ghost use Rattle.std.specs.Prelude.{◌≡◌, ◌+◌, [], Ok, IfErr, IfOk, OnOk, length};
 ghost use Rattle.csv.specs.Records.{AllText, fields_of};
-ghost use Rattle.csv_io.specs.Cells.{FitsKind};
 ghost use Rattle.csv_io.specs.Faults.{IsFaultOf, Reads};
 ghost use Rattle.csv_io.specs.Load.{cell_faults, cell_of, cells_of, faults_of, file_records, grid_of, loaded, row_faults, rows_faults, rows_grid};
+ghost use Rattle.csv_io.specs.Next.{IsNext};
 ghost use Rattle.csv_io.specs.TextRecords.{AllRecordsText};
-ghost use Rattle.kql_cells.specs.Table.{RowFits};
+ghost use Rattle.kql_values.specs.Growing.{with_cell};
 
-use crate::cells::read_cell;
+use crate::cells::filled_cell;
 use crate::fault::{BAD_CELL, BAD_LENGTH, DataFault, NO_HEADER, NOT_UTF8, refused};
 use crate::feed::Feed;
 use crate::fields::field;
 use crate::header::read_header;
 use csv::ByteRecord;
-use kql_cells::{Column, Kind, Row, Schema, Table, Value};
-use kql_items::Items;
+use kql_cells::{Kind, Schema};
+use kql_dynamic::parse_json;
+use kql_values::{Table, TableBuilder};
 use std::alloc::Global;
 use std::str;
 
@@ -64,54 +65,62 @@ fn load_rows(
 {
     let mut feed = feed;
     let mut record = record;
-    let mut row = Items::new(alloc);
-    let mut table = Table::empty(alloc, schema);
+    let mut table = TableBuilder::new(alloc, schema)?;
     'records: while feed.next(&mut record)? {
-        let number = table.len() as u64 + 1;
-        read_row(alloc, table.schema().columns(), &record, number, &mut row)?;
-        table.push_drained(&mut row)?;
+        read_row(alloc, &mut table, &record)?;
+        table.end_row()?;
     }
-    Ok(table)
+    Ok(table.finish())
 }
 
-// Fills a row with the cells of a record.
-fn read_row(
-    alloc: Global,
-    columns: &[Column],
-    line: &ByteRecord,
-    number: u64,
-    row: &mut Row,
-) -> Result<(), DataFault>
+// Adds the cells of a record.
+fn read_row(alloc: Global, table: &mut TableBuilder, line: &ByteRecord) -> Result<(), DataFault>
     requires text { AllText (fields_of line.now) }
-    requires fresh { row.old ≡ [] }
-    ensures read { Reads (row_faults columns.now number (fields_of line.now)) tt result }
-    ensures cells { OnOk result (row.new ≡ cells_of columns.now (fields_of line.now)) }
-    ensures fits { OnOk result (RowFits columns.now row.new) }
+    requires fresh { table.old.row ≡ [] }
+    ensures read { Reads (row_faults table.old.grid.columns (length table.old.grid.lines + 1) (fields_of line.now)) tt result }
+    ensures grid { OnOk result (table.new.grid ≡ table.old.grid) }
+    ensures row { OnOk result (table.new.row ≡ cells_of table.old.grid.columns (fields_of line.now)) }
+    ensures whole { OnOk result (length table.new.row ≡ length table.old.grid.columns) }
 {
-    if line.len() != columns.len() {
+    let number = table.len() as u64 + 1;
+    let width = table.schema().len();
+    if line.len() != width {
         return Err(refused(BAD_LENGTH, number, line.len()));
     }
-    for j in 0..columns.len() {
-        let value = read_value(alloc, columns[j].kind, field(line, j), number, j + 1)?;
-        row.push(value)?;
+    for j in 0..width {
+        let kind = table.schema().columns()[j].kind;
+        read_cell(alloc, table, kind, field(line, j), number, j + 1)?;
     }
     Ok(())
 }
 
-// The value of a field in a column of this type.
-#[tactic(auto, unfolding(crate::specs::Load::cell_of, crate::specs::Load::cell_faults))]
-fn read_value(
+// Adds the cell of a field in a column of this type.
+#[tactic(auto, using(crate::proofs::FieldFacts::cell_facts))]
+fn read_cell(
     alloc: Global,
+    table: &mut TableBuilder,
     kind: Kind,
     text: &str,
     row: u64,
     column: usize,
-) -> Result<Value, DataFault>
-    ensures read { Reads (cell_faults kind row column text.now) (cell_of kind text.now) result }
-    ensures fits { IfOk result (FitsKind kind) }
+) -> Result<(), DataFault>
+    requires { IsNext table.old kind }
+    ensures read { Reads (cell_faults kind row column text.now) tt result }
+    ensures added { OnOk result (table.new ≡ with_cell table.old (cell_of kind text.now)) }
 {
-    match read_cell(alloc, kind, text)? {
-        Some(value) => Ok(value),
+    if text.is_empty() {
+        table.push_cell(kind.absent())?;
+        return Ok(());
+    }
+    if kind == Kind::Dynamic {
+        table.push_value(parse_json(alloc, text)?)?;
+        return Ok(());
+    }
+    match filled_cell(kind, text) {
+        Some(cell) => {
+            table.push_cell(cell)?;
+            Ok(())
+        }
         None => Err(refused(BAD_CELL, row, column)),
     }
 }

@@ -1,20 +1,20 @@
-ghost use Rattle.std.specs.Prelude.{◌≡◌, ◌<◌, [], All, IfOk, IsUtf8, Ok, OnOk, length, map};
-ghost use Rattle.csv.specs.Records.{AllText, fields_of, partial_of};
+ghost use Rattle.std.specs.Prelude.{◌≡◌, ◌<◌, ◌++◌, All, IfOk, IsUtf8, Ok, OnOk, length};
+ghost use Rattle.csv.specs.Records.{AllText};
+ghost use Rattle.csv.specs.Writing.{default_writer, field_text, row_text};
 ghost use Rattle.kql_cells.specs.Seen.{row_at, seen};
 ghost use Rattle.kql_cells.specs.Values.{IsMoment, IsWellFormed};
 ghost use Rattle.kql_cells.specs.declared.value.Value.TheVariants as value;
 ghost use Rattle.csv_io.specs.Load.{loaded};
-ghost use Rattle.csv_io.specs.Pushed.{HasPushed};
 ghost use Rattle.csv_io.specs.Reload.{IsLoadable, ReadsBack, with_kinds};
-ghost use Rattle.csv_io.specs.Text.{cell_text, names_of, table_text};
+ghost use Rattle.csv_io.specs.Text.{cell_text, line_text, names_of, table_text};
 
-use crate::writing::{finish, new_writer, write_line};
-use csv::ByteRecord;
+use crate::output::{end_line, push_field, push_separator};
 use itoa::Buffer;
-use kql_cells::{Bytes, CellRef, Column, Dyn, Rows, Table};
+use kql_cells::{Bytes, CellRef, Column, Dyn};
 use kql_dynamic::print_json;
 use kql_items::Items;
 use kql_ticks::{print_moment, print_span};
+use kql_values::Table;
 use std::alloc::{AllocError, Global};
 
 /// The text of a table: a line of the columns' names, without their types, and a line for each row. A null is an empty
@@ -27,106 +27,93 @@ pub fn table_text(alloc: Global, t: &Table) -> Result<Bytes, AllocError>
     ensures text { IfOk result (λ b. b ≡ table_text t.now) }
     ensures loads { IfOk result (λ b. IsLoadable t.now.columns → loaded (with_kinds t.now.columns b) ≡ Ok t.now) }
 {
-    let rows = t.rows();
-    let mut line = ByteRecord::new(alloc);
-    push_names(&mut line, t.schema().columns())?;
-    let mut wtr = new_writer(alloc);
-    write_line(&mut wtr, &line)?;
-    for i in 0..rows.len() {
-        line.clear();
-        push_cells(alloc, &mut line, rows, i)?;
-        write_line(&mut wtr, &line)?;
+    let mut out = Vec::new(alloc);
+    push_names(&mut out, t.schema().columns())?;
+    for i in 0..t.len() {
+        push_line(alloc, &mut out, t, i)?;
     }
-    Ok(Items::from_vec(finish(wtr)?))
+    Ok(Items::from_vec(out))
 }
 
-fn push_names(line: &mut ByteRecord, columns: &[Column]) -> Result<(), AllocError>
-    requires fields { fields_of line.old ≡ [] }
-    requires partial { partial_of line.old ≡ [] }
-    ensures fields { OnOk result (fields_of line.new ≡ names_of columns.now) }
-    ensures utf8 { OnOk result (AllText (fields_of line.new)) }
+// Adds a line of the columns' names.
+fn push_names(out: &mut Vec<u8>, columns: &[Column]) -> Result<(), AllocError>
+    ensures text { OnOk result (out.new.items ≡ out.old.items ++ row_text default_writer (names_of columns.now)) }
+    ensures utf8 { OnOk result (AllText (names_of columns.now)) }
 {
-    for column in columns {
-        push_text(line, column.name.as_str())?;
+    let start = out.len();
+    for j in 0..columns.len() {
+        push_separator(out, j)?;
+        push_field(out, columns[j].name.as_str())?;
     }
+    end_line(out, start)?;
     Ok(())
 }
 
-fn push_cells(alloc: Global, line: &mut ByteRecord, rows: &Rows, i: usize) -> Result<(), AllocError>
-    requires fields { fields_of line.old ≡ [] }
-    requires partial { partial_of line.old ≡ [] }
-    requires row { i < length rows.now }
-    requires forms { All IsWellFormed (row_at rows.now i) }
-    ensures fields { OnOk result (fields_of line.new ≡ map cell_text (row_at rows.now i)) }
-    ensures back { OnOk result (All ReadsBack (row_at rows.now i)) }
+// Adds a line of the cells of a row.
+fn push_line(alloc: Global, out: &mut Vec<u8>, t: &Table, i: usize) -> Result<(), AllocError>
+    requires row { i < length t.now.lines }
+    requires width { length (row_at t.now.lines i) ≡ length t.now.columns }
+    requires forms { All IsWellFormed (row_at t.now.lines i) }
+    ensures text { OnOk result (out.new.items ≡ out.old.items ++ line_text (row_at t.now.lines i)) }
+    ensures back { OnOk result (All ReadsBack (row_at t.now.lines i)) }
 {
-    for j in 0..rows.width(i) {
-        push_cell(alloc, line, rows.cell(i, j))?;
+    let start = out.len();
+    let width = t.schema().len();
+    for j in 0..width {
+        push_separator(out, j)?;
+        push_cell(alloc, out, t.cell(i, j))?;
     }
+    end_line(out, start)?;
     Ok(())
 }
 
-fn push_cell(alloc: Global, line: &mut ByteRecord, cell: CellRef<'_>) -> Result<(), AllocError>
-    requires partial { partial_of line.old ≡ [] }
+fn push_cell(alloc: Global, out: &mut Vec<u8>, cell: CellRef<'_>) -> Result<(), AllocError>
     requires form { IsWellFormed (seen cell) }
-    ensures pushed { OnOk result (HasPushed line.old (cell_text (seen cell.entry)) line.new) }
+    ensures added { OnOk result (out.new.items ≡ out.old.items ++ field_text default_writer (cell_text (seen cell.entry))) }
     ensures back { OnOk result (ReadsBack (seen cell.entry)) }
 {
     match cell {
-        CellRef::Null => push_text(line, ""),
-        CellRef::Bool(true) => push_text(line, "true"),
-        CellRef::Bool(false) => push_text(line, "false"),
-        CellRef::Long(n) => push_long(line, n),
-        CellRef::Text(t) => push_text(line, t),
-        CellRef::Moment(x) => push_moment(alloc, line, x),
-        CellRef::Span(x) => push_span(alloc, line, x),
-        CellRef::Dynamic(d) => push_dynamic(alloc, line, d),
+        CellRef::Null => push_field(out, ""),
+        CellRef::Bool(true) => push_field(out, "true"),
+        CellRef::Bool(false) => push_field(out, "false"),
+        CellRef::Long(n) => push_long(out, n),
+        CellRef::Text(t) => push_field(out, t),
+        CellRef::Moment(x) => push_moment(alloc, out, x),
+        CellRef::Span(x) => push_span(alloc, out, x),
+        CellRef::Dynamic(d) => push_dynamic(alloc, out, d),
     }
 }
 
-fn push_long(line: &mut ByteRecord, n: i64) -> Result<(), AllocError>
-    requires { partial_of line.old ≡ [] }
-    ensures pushed { OnOk result (HasPushed line.old (cell_text (value.Long n)) line.new) }
+fn push_long(out: &mut Vec<u8>, n: i64) -> Result<(), AllocError>
+    ensures added { OnOk result (out.new.items ≡ out.old.items ++ field_text default_writer (cell_text (value.Long n))) }
     ensures back { OnOk result (ReadsBack (value.Long n)) }
 {
     let mut buffer = Buffer::new();
-    push_text(line, buffer.format(n))
+    push_field(out, buffer.format(n))
 }
 
-fn push_moment(alloc: Global, line: &mut ByteRecord, x: i64) -> Result<(), AllocError>
-    requires partial { partial_of line.old ≡ [] }
-    requires range { IsMoment x }
-    ensures pushed { OnOk result (HasPushed line.old (cell_text (value.Moment x)) line.new) }
+fn push_moment(alloc: Global, out: &mut Vec<u8>, x: i64) -> Result<(), AllocError>
+    requires { IsMoment x }
+    ensures added { OnOk result (out.new.items ≡ out.old.items ++ field_text default_writer (cell_text (value.Moment x))) }
     ensures back { OnOk result (ReadsBack (value.Moment x)) }
 {
     let text = print_moment(alloc, x)?;
-    push_text(line, text.as_str())
+    push_field(out, text.as_str())
 }
 
-fn push_span(alloc: Global, line: &mut ByteRecord, x: i64) -> Result<(), AllocError>
-    requires { partial_of line.old ≡ [] }
-    ensures pushed { OnOk result (HasPushed line.old (cell_text (value.Span x)) line.new) }
+fn push_span(alloc: Global, out: &mut Vec<u8>, x: i64) -> Result<(), AllocError>
+    ensures added { OnOk result (out.new.items ≡ out.old.items ++ field_text default_writer (cell_text (value.Span x))) }
     ensures back { OnOk result (ReadsBack (value.Span x)) }
 {
     let text = print_span(alloc, x)?;
-    push_text(line, text.as_str())
+    push_field(out, text.as_str())
 }
 
-fn push_dynamic(alloc: Global, line: &mut ByteRecord, d: &Dyn) -> Result<(), AllocError>
-    requires partial { partial_of line.old ≡ [] }
-    requires form { IsWellFormed (value.Dynamic d.now) }
-    ensures pushed { OnOk result (HasPushed line.old (cell_text (value.Dynamic d.now)) line.new) }
+fn push_dynamic(alloc: Global, out: &mut Vec<u8>, d: &Dyn) -> Result<(), AllocError>
+    requires { IsWellFormed (value.Dynamic d.now) }
+    ensures added { OnOk result (out.new.items ≡ out.old.items ++ field_text default_writer (cell_text (value.Dynamic d.now))) }
     ensures back { OnOk result (ReadsBack (value.Dynamic d.now)) }
 {
     let text = print_json(alloc, d)?;
-    push_text(line, text.as_str())
-}
-
-// Adds a field of this text.
-fn push_text(line: &mut ByteRecord, text: &str) -> Result<(), AllocError>
-    requires { partial_of line.old ≡ [] }
-    ensures pushed { OnOk result (HasPushed line.old text.now line.new) }
-    ensures utf8 { IsUtf8 text.now }
-{
-    line.push_field(text.as_bytes())
+    push_field(out, text.as_str())
 }

@@ -1,5 +1,6 @@
 use super::*;
-use kql_cells::{CellRef, Table};
+use kql_cells::CellRef;
+use kql_values::Table;
 use std::alloc::{AllocError, Global};
 use std::str;
 use std::test::Fail;
@@ -62,6 +63,11 @@ const TABLES: &[(&str, &str, &str)] = &[
         "a:datetime,b:timespan\n2024-03-01 10:05,36h\n,\n2024-03-01T10:07:30.5Z,-1.5h\n",
         "ms--ms",
         "a,b\n2024-03-01T10:05:00.0000000Z,1.12:00:00\n,\n2024-03-01T10:07:30.5000000Z,-01:30:00\n",
+    ),
+    (
+        "s:timespan\n10675199.02:48:05.4775807\n-10675199.02:48:05.4775808\n",
+        "ss",
+        "s\n10675199.02:48:05.4775807\n-10675199.02:48:05.4775808\n",
     ),
     (
         "a:dynamic,b:dynamic\n\"[1,2]\",\"[7,8,9]\"\n[],[]\n,5\n",
@@ -224,6 +230,11 @@ const ROWS: &[(&str, u32, u64, u64)] = &[
     ("a:long\n-9223372036854775809\n", 306, 1, 1),
     ("a:bool\n1\n", 306, 1, 1),
     ("a:bool\ntrue \n", 306, 1, 1),
+    ("a:bool\ntrué\n", 306, 1, 1),
+    ("a:bool\nfalſe\n", 306, 1, 1),
+    ("a:bool\nｔｒｕｅ\n", 306, 1, 1),
+    ("s:timespan\n10675199.02:48:05.4775808\n", 306, 1, 1),
+    ("s:timespan\n-10675199.02:48:05.4775809\n", 306, 1, 1),
 ];
 
 #[test]
@@ -258,25 +269,31 @@ fn files_that_are_no_text(rt: HostRuntime) {
     assert_eq!(rt; wrong_bytes(rt.alloc(), BYTES), 8);
 }
 
-// A header of so many columns.
-fn wide(alloc: Global, count: u32) -> Result<String, AllocError> {
+// A header of so many columns and a last one of this name.
+fn wide(alloc: Global, count: u32, last: &str) -> Result<String, AllocError> {
     let mut header = String::new(alloc);
     for i in 0..count {
         write!(header, "c{i},")?;
     }
-    header.push_str("last\n")?;
+    write!(header, "{last}\n")?;
     Ok(header)
+}
+
+fn wide_refusal(alloc: Global, count: u32, last: &str) -> Result<(u32, u64, u64), AllocError> {
+    let header = wide(alloc, count, last)?;
+    Ok(refusal(alloc, header.as_bytes()))
 }
 
 #[test]
 fn the_widest_header(rt: HostRuntime) -> Result<(), Fail> {
-    let header = wide(rt.alloc(), 255)?;
+    let header = wide(rt.alloc(), 255, "last")?;
     let table = load(rt.alloc(), header.as_bytes())?;
     assert_eq!(rt; table.schema().columns().len(), 256);
     let printed = table_text(rt.alloc(), &table)?;
     assert_eq!(rt; printed.as_slice(), header.as_bytes());
-    let header = wide(rt.alloc(), 256)?;
-    assert_eq!(rt; refusal(rt.alloc(), header.as_bytes()), (303, 0, 257));
+    assert_eq!(rt; wide_refusal(rt.alloc(), 256, "last")?, (303, 0, 257));
+    assert_eq!(rt; wide_refusal(rt.alloc(), 256, "c0")?, (303, 0, 257));
+    assert_eq!(rt; wide_refusal(rt.alloc(), 255, "c0")?, (304, 0, 256));
     Ok(())
 }
 

@@ -12,10 +12,11 @@ ghost use Rattle.kql_program.specs.declared.refusal.Stop.TheVariants as stop;
 use crate::command::table_parts;
 use crate::refusal::{Refusal, Stop};
 use csv_io::{DataFault, load};
-use kql_cells::{Bytes, Catalogue, KText, Named, Table};
+use kql_cells::{Bytes, KText};
 use kql_items::Items;
 use kql_lexer::{MAX_BYTES, Tokens, lex};
 use kql_outside::{Shelf, read_up_to};
+use kql_values::{Catalogue, Named, Table};
 use std::alloc::Global;
 
 /// How many bytes the table files may have together.

@@ -1,15 +1,17 @@
-ghost use Rattle.std.specs.Prelude.{◌≡◌, ◌<◌, All, Err, Ok, IfOk, MatchResult, find, length};
+ghost use Rattle.std.specs.Prelude.{◌≡◌, ◌<◌, All, Err, Ok, IfOk, MatchResult, filter, find, length, map, option_map};
 ghost use Rattle.std.specs.Option.{option_copied};
 ghost use Rattle.std.specs.Str.{bytes_eq};
 ghost use Rattle.kql_cells.specs.Seen.{row_at, seen};
 ghost use Rattle.kql_program.specs.Answer.{rows_of};
 ghost use Rattle.kql_program.specs.Binding.{column_named, condition_of, conditions_of, is_long_at, is_number, kept_by, meets_all, table_named};
 ghost use Rattle.kql_program.specs.Refusals.{Gives};
+ghost use Rattle.kql_values.specs.Kept.{all_named, named_of};
 
 use crate::query::{Filter, Label, Request};
 use crate::refusal::{Refusal, Stop};
-use kql_cells::{Catalogue, CellRef, Column, Kind, Named, Rows, Schema, Table};
+use kql_cells::{CellRef, Column, Kind, Places, Schema};
 use kql_items::Items;
+use kql_values::{Catalogue, Named, Table};
 use std::alloc::{AllocError, Global};
 
 /// A filter over the columns of a table: the place of its column, and its number.
@@ -35,7 +37,7 @@ pub(crate) fn request_rows(
 // The table of a name, or 410 at the name.
 #[tactic(auto, unfolding(crate::specs::Binding::table_named))]
 fn find_table<'a>(name: &Label, tables: &'a [Named]) -> Result<&'a Table, Refusal>
-    ensures found { MatchResult result (λ t. table_named name.now tables.now ≡ Ok t.now) (λ r. table_named name.now tables.now ≡ Err r) }
+    ensures found { MatchResult result (λ t. table_named name.now (all_named tables.now) ≡ Ok t.now) (λ r. table_named name.now (all_named tables.now) ≡ Err r) }
 {
     match find_named(tables, name.text.as_str()) {
         Some(named) => Ok(&named.table),
@@ -48,7 +50,7 @@ fn find_table<'a>(name: &Label, tables: &'a [Named]) -> Result<&'a Table, Refusa
 
 // The first table of a name.
 fn find_named<'a>(tables: &'a [Named], name: &str) -> Option<&'a Named>
-    ensures { option_copied result ≡ find (λ t. bytes_eq t.name name.now) tables.now }
+    ensures { option_map named_of (option_copied result) ≡ find (λ t. bytes_eq t.name name.now) (all_named tables.now) }
 {
     let mut rest = tables;
     'tables: while let Some((first, others)) = rest.split_first() {
@@ -126,15 +128,27 @@ fn keep_rows(alloc: Global, table: &Table, conditions: &[Condition]) -> Result<T
     requires { All (λ c. c.column < length table.now.columns) conditions.now }
     ensures rows { IfOk result (λ t. t ≡ kept_by conditions.now table.now) }
 {
-    let source = table.rows();
-    let mut rows = Rows::new(alloc);
-    for i in 0..source.len() {
+    let places = kept_places(alloc, table, conditions)?;
+    table.gather(alloc, places.as_slice())
+}
+
+// The places of the rows that meet all conditions, in order.
+fn kept_places(
+    alloc: Global,
+    table: &Table,
+    conditions: &[Condition],
+) -> Result<Places, AllocError>
+    requires { All (λ c. c.column < length table.now.columns) conditions.now }
+    ensures within { IfOk result (λ places. All (λ i. i < length table.now.lines) places) }
+    ensures kept { IfOk result (λ places. map (row_at table.now.lines) places ≡ filter (meets_all conditions.now) table.now.lines) }
+{
+    let mut places = Items::new(alloc);
+    for i in 0..table.len() {
         if meets_all(table, i, conditions) {
-            rows.push_from(alloc, source, i)?;
+            places.push(i)?;
         }
     }
-    let schema = table.schema().copy(alloc)?;
-    Ok(Table::new(schema, rows))
+    Ok(places)
 }
 
 // Whether a row meets all conditions.

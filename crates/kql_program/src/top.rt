@@ -2,7 +2,7 @@ ghost use Rattle.std.specs.Prelude.{◌≡◌, ◌≤◌, Err, IfSome};
 ghost use Rattle.kql_outside.specs.Causes.{Rose};
 ghost use Rattle.kql_program.specs.Answer.{Answers, AreRows, HasOneAnswer};
 ghost use Rattle.kql_program.specs.Command.{texts};
-ghost use Rattle.kql_program.specs.Outcomes.{HasOutcome, MeetsFaults, Writes, WritesStop, outside, sink_now};
+ghost use Rattle.kql_program.specs.Outcomes.{HasOutcome, MeetsFaults, SinkNow, Writes, WritesStop, outside, sink_now};
 ghost use Rattle.kql_program.specs.Refusals.{Reaches};
 ghost use Rattle.kql_program.specs.declared.refusal.Stop.TheVariants as stop;
 
@@ -15,8 +15,9 @@ use crate::refusal::{Refusal, Stop};
 use crate::rows::request_rows;
 use crate::syntax::check_syntax;
 use csv_io::table_text;
-use kql_cells::{Bytes, Table};
+use kql_cells::Bytes;
 use kql_outside::{Gate, Shelf, Sink, write_all};
+use kql_values::Table;
 use std::alloc::Global;
 use std::thread::Threads;
 
@@ -69,9 +70,11 @@ pub fn kql<R: Threads + Sync, F: Shelf, O: Sink, E: Sink, G: Gate + Sync>(
     ensures files { F.files shelf.new ≡ F.files shelf.old }
 
     // What the ending says of the answer to these words and files, and of what was written.
-    ensures outcome { HasOutcome (texts words.now) (F.files shelf.old)
-        (outside (F.faults shelf.old) (sink_now (O.written out.old) (O.room out.old) (O.faults out.old)) (sink_now (E.written err.old) (E.room err.old) (E.faults err.old)))
-        (outside (F.faults shelf.new) (sink_now (O.written out.new) (O.room out.new) (O.faults out.new)) (sink_now (E.written err.new) (E.room err.new) (E.faults err.new))) result }
+    ensures outcome {
+        let out_at : O → SinkNow = λ o. sink_now (O.written o) (O.room o) (O.faults o) in
+        let err_at : E → SinkNow = λ e. sink_now (E.written e) (E.room e) (E.faults e) in
+        HasOutcome (texts words.now) (F.files shelf.old) (outside (F.faults shelf.old) (out_at out.old) (err_at err.old)) (outside (F.faults shelf.new) (out_at out.new) (err_at err.new)) result
+    }
 
     // Where the files are told there is one answer.
     ensures one { IfSome (F.files shelf.old) (λ files. HasOneAnswer (texts words.now) files) }

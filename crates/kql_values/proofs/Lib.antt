@@ -1,3 +1,4 @@
+pub mod BuilderFacts
 pub mod CatalogueLaws
 pub mod GridLaws
 pub mod NullableFacts

@@ -9,6 +9,7 @@ pub use Rattle.kql_cells.specs.Seen
 pub use Rattle.kql_cells.specs.Table
 pub use Rattle.kql_cells.specs.Values
 pub mod Grids
+pub mod Growing
 pub mod Kept
 pub mod Moves
 pub mod Nullable

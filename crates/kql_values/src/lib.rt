@@ -4,6 +4,7 @@
 //! column hold is in `kql_cells`, which this crate passes on whole.
 #![tactic(auto)]
 
+mod builder;
 mod byte_pieces;
 mod catalogue;
 mod number_column;
@@ -14,6 +15,7 @@ mod text_column;
 mod vector;
 mod vectors;
 
+pub use builder::TableBuilder;
 pub use catalogue::{Catalogue, Named};
 pub use kql_cells::{
     Bytes, CellRef, Column, Dyn, DynBag, DynList, KText, KeyList, Kind, LEVELS_TOP, MOMENT_TOP,

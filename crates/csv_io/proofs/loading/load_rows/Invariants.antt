@@ -4,10 +4,13 @@ use Rattle.csv_io.specs.TextRecords.{AllRecordsText}
 use Rattle.csv_io.proofs.loading.load_rows.Given as goal
 
 abbrev pub invariant-records : goal.invariant-records
-invariant-records l =
-    AllRecordsText l.feed × (l.row ≡ []) × (l.table.columns ≡ l.fn.schema)
-    × (l.table.lines ++ map (cells_of l.fn.schema) l.feed ≡ map (cells_of l.fn.schema) l.fn.feed)
-    × (rows_faults l.fn.schema (length l.table.lines + 1) l.feed ≡ rows_faults l.fn.schema 1 l.fn.feed)
+invariant-records l = record {
+  texts : AllRecordsText l.feed;
+  between : l.table.row ≡ [];
+  columns : l.table.grid.columns ≡ l.fn.schema;
+  lines : l.table.grid.lines ++ map (cells_of l.fn.schema) l.feed ≡ map (cells_of l.fn.schema) l.fn.feed;
+  faults : rows_faults l.fn.schema (length l.table.grid.lines + 1) l.feed ≡ rows_faults l.fn.schema 1 l.fn.feed;
+}
 
 abbrev pub decreases-records : goal.decreases-records
 decreases-records l = length l.feed

@@ -1,54 +1,45 @@
-use Rattle.std.proofs.Common.{◌≡◌, ◌≤◌, ◌<◌, ◌∙◌, length, sym, arith, refl, rules}
+use Rattle.std.proofs.Common.{◌≡◌, ◌≤◌, ◌<◌, ◌+◌, ◌∙◌, ap, arith, length, refl, sym}
 use Rattle.std.proofs.lemmas.Grind.{common_steps}
 use Rattle.std.proofs.lemmas.Result.{err_from_is_err_and}
 use Rattle.csv.specs.Records.{fields_of}
-use Rattle.csv_io.proofs.LoadFacts.{cells-end, cells-fault, fits-all, fits-more, fits-none, row-even, row-uneven}
+use Rattle.csv_io.proofs.FieldFacts.{next-at}
+use Rattle.csv_io.proofs.LoadFacts.{cells-end, cells-fault, row-even, row-uneven}
 use Rattle.csv_io.proofs.loading.read_row.Goals as goal
 
-pub loop-j-init : goal.loop-j-init
-loop-j-init c = record {
-  cells = rw c.requires.fresh refl;
-  faults = refl;
-  fits = fits-none c.args.columns.now c.args.row.now c.requires.fresh;
-}
-
-pub loop-j-preserved : goal.loop-j-preserved
-loop-j-preserved c =
-    let columns = c.args.columns.now in
-    let k : c.loop-j.j < length columns = grind (arith, common_steps) in
-    record {
-      cells = first_of (search rules, grind (arith, common_steps));
-      faults = first_of (search rules, grind (arith, common_steps));
-      fits = rw c.in_ok-push.ensures.added (fits-more columns c.loop-j.j c.index-columns-j.result c.loop-j.row c.in_ok-value.value k c.loop-j.invariant.fits c.in_ok-value.ensures.fits);
-    }
-
-pub returns-then-len-columns-clause-read : goal.returns-then-len-columns-clause-read
-returns-then-len-columns-clause-read c =
+pub returns-then-len-width-clause-read : goal.returns-then-len-width-clause-read
+returns-then-len-width-clause-read c =
     let fields = fields_of c.args.line.now in
-    let uneven = row-uneven c.args.columns.now c.args.number fields (λ e. c.if-len-columns.true (c.len.ensures ∙ e)) in
-    rw (uneven, c.refused.ensures, c.len-then-len-columns.ensures) refl
+    let width = c.len-width.ensures.count ∙ ap length c.schema.ensures.columns in
+    let uneven = row-uneven c.args.table.now.grid.columns (length c.args.table.now.grid.lines + 1) fields (λ e. c.if-len-width.true (c.len-2.ensures ∙ e ∙ sym width)) in
+    rw (uneven, c.refused.ensures, c.len-then-len-width.ensures, c.len.ensures.count) refl
 
-pub returns-in_err-value-clause-read : goal.returns-in_err-value-clause-read
-returns-in_err-value-clause-read c =
+pub read_cell-requires : goal.read_cell-requires
+read_cell-requires c =
+    let columns = c.columns.ensures.columns ∙ c.schema-in-loop-j.ensures.columns in
+    let width = c.len-width.ensures.count ∙ ap length c.schema.ensures.columns in
+    let within : c.loop-j.j < length c.args.table.now.grid.columns = grind (arith, common_steps) in
+    next-at c.loop-j.table c.args.table.now.grid c.columns.result.now c.loop-j.j _ within c.loop-j.invariant.grid c.loop-j.invariant.count columns
+
+pub returns-in_err-read_cell-clause-read : goal.returns-in_err-read_cell-clause-read
+returns-in_err-read_cell-clause-read c =
     let p = err_from_is_err_and c.from_residual.result c.from_residual.ensures.1 in
-    let columns = c.args.columns.now in
     let fields = fields_of c.args.line.now in
-    let even : length fields ≡ length columns = sym c.len.ensures ∙ c.if-len-columns.false in
-    let k : c.loop-j.j < length columns = grind (arith, common_steps) in
+    let schema = c.args.table.now.grid.columns in
+    let width = c.len-width.ensures.count ∙ ap length c.schema.ensures.columns in
+    let columns = c.columns.ensures.columns ∙ c.schema-in-loop-j.ensures.columns ∙ ap (λ g. g.columns) c.loop-j.invariant.grid in
+    let even : length fields ≡ length schema = sym c.len-2.ensures ∙ (c.if-len-width.false ∙ width) in
+    let k : c.loop-j.j < length schema = grind (arith, common_steps) in
     let f : c.loop-j.j < length fields = omega arith in
-    let first = rw c.field.ensures at c.in_err-value.ensures.read in
-    rw (row-even columns c.args.number fields even, p.1, p.2) (cells-fault columns fields c.args.number c.loop-j.j _ _ _ k f c.loop-j.invariant.faults first)
+    let first = rw (c.field.ensures, columns, c.len.ensures.count) at c.in_err-read_cell.ensures.read in
+    let faults = rw c.len.ensures.count at c.loop-j.invariant.faults in
+    rw (row-even schema (length c.args.table.now.grid.lines + 1) fields even, p.1, p.2) (cells-fault schema fields (length c.args.table.now.grid.lines + 1) c.loop-j.j _ _ _ k f faults first)
 
 pub returns-clause-read : goal.returns-clause-read
 returns-clause-read c =
-    let columns = c.args.columns.now in
     let fields = fields_of c.args.line.now in
-    let even : length fields ≡ length columns = sym c.len.ensures ∙ c.if-len-columns.false in
-    let all : length columns ≤ c.loop-j.j = grind (arith, common_steps) in
-    (row-even columns c.args.number fields even ∙ cells-end columns fields c.args.number c.loop-j.j _ all c.loop-j.invariant.faults, refl)
-
-pub returns-clause-fits : goal.returns-clause-fits
-returns-clause-fits c =
-    let columns = c.args.columns.now in
-    let all : length columns ≤ c.loop-j.j = grind (arith, common_steps) in
-    fits-all columns c.loop-j.j c.loop-j.row all c.loop-j.invariant.fits
+    let schema = c.args.table.now.grid.columns in
+    let width = c.len-width.ensures.count ∙ ap length c.schema.ensures.columns in
+    let even : length fields ≡ length schema = sym c.len-2.ensures ∙ (c.if-len-width.false ∙ width) in
+    let all : length schema ≤ c.loop-j.j = grind (arith, common_steps) in
+    let faults = rw c.len.ensures.count at c.loop-j.invariant.faults in
+    (row-even schema (length c.args.table.now.grid.lines + 1) fields even ∙ cells-end schema fields (length c.args.table.now.grid.lines + 1) c.loop-j.j _ all faults, refl)

@@ -7,4 +7,4 @@ pub returns-clause-back : goal.returns-clause-back
 returns-clause-back c =
     let fits : FitsSigned w64 c.args.n = c.ranges.n in
     let text = simp to_z-of_z at c.format.ensures.text in
-    always c.push_text.result _ (long-back c.args.n c.format.result.now fits c.format.utf8 text)
+    always c.push_field.result _ (long-back c.args.n c.format.result.now fits c.format.utf8 text)

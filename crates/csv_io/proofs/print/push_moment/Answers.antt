@@ -9,4 +9,4 @@ returns-clause-back c =
     let same = c.as_str.ensures.same in
     let text = simp to_z-of_z at c.in_ok-text.ensures.text in
     let back = simp to_z-of_z at c.in_ok-text.ensures.read_back in
-    always c.push_text.result _ (moment-back c.args.x c.in_ok-text.text (rw same at c.as_str.utf8) text back)
+    always c.push_field.result _ (moment-back c.args.x c.in_ok-text.text (rw same at c.as_str.utf8) text back)

@@ -1,19 +1,33 @@
-use Rattle.std.proofs.Common.{arith, rules}
-use Rattle.std.proofs.lemmas.Grind.{common_steps}
-use Rattle.csv.specs.Records.{fields_of}
+use Rattle.std.proofs.Common.{◌≡◌, ◌≤◌, ◌<◌, ◌++◌, ◌∙◌, [], ap, arith, get_or, length, refl, rules, sym, take, vec_len}
+use Rattle.std.proofs.lemmas.List.{append-nil, get_or-map, length-map, take_all, take_more}
+use Rattle.csv.specs.Records.{AllText}
+use Rattle.csv.specs.Writing.{default_writer, row_body}
+use Rattle.csv_io.specs.Text.{names_of}
+use Rattle.csv_io.proofs.OutputFacts.{line-end, line-step}
 use Rattle.csv_io.proofs.TextFacts.{no-fields, text-push}
 use Rattle.csv_io.proofs.print.push_names.Goals as goal
 
-pub loop-column-init : goal.loop-column-init
-loop-column-init c = record {
-  fields = c.requires.fields;
-  partial = c.requires.partial;
-  utf8 = no-fields (fields_of c.args.line.now) c.requires.fields;
-}
+pub loop-j-init : goal.loop-j-init
+loop-j-init c = record { text = sym (append-nil _); utf8 = no-fields [] refl }
 
-pub loop-column-preserved : goal.loop-column-preserved
-loop-column-preserved c = record {
-  fields = first_of (search rules, grind (arith, common_steps));
-  partial = first_of (search rules, grind (arith, common_steps));
-  utf8 = rw c.in_ok-push_text.ensures.pushed.0 (text-push (fields_of c.loop-column.line) c.as_str.result.now c.loop-column.invariant.utf8 c.as_str.utf8);
-}
+pub loop-j-preserved : goal.loop-j-preserved
+loop-j-preserved c =
+    let columns = c.args.columns.now in
+    let names = names_of columns in
+    let j = c.loop-j.j in
+    let lt : j < length columns = c.loop-j-test.true in
+    let within : j < length names = omega (arith, length-map columns (λ column. column.name)) in
+    let here = get_or-map (λ column. column.name) columns j c.index-columns-j.result [] lt in
+    let name : c.as_str.result.now ≡ get_or names j [] = c.as_str.ensures.same ∙ (ap (λ column. column.name) c.index-columns-j.is ∙ sym here) in
+    record {
+      text = line-step c.args.out.now.items _ _ _ c.as_str.result.now names j within c.loop-j.invariant.text c.in_ok-push_separator.ensures name c.in_ok-push_field.ensures.added;
+      utf8 = rw (take_more names j [] within, ← name) (text-push (take j names) c.as_str.result.now c.loop-j.invariant.utf8 c.as_str.utf8);
+    }
+
+pub returns-clause-text : goal.returns-clause-text
+returns-clause-text c =
+    let names = names_of c.args.columns.now in
+    let all : length names ≤ c.loop-j.j = omega (arith, length-map c.args.columns.now (λ column. column.name), c.loop-j-test.false) in
+    let start : c.len-start.result ≡ length c.args.out.now.items = search rules in
+    let text = rw (take_all c.loop-j.j names all) at c.loop-j.invariant.text in
+    line-end c.args.out.now.items _ _ names c.len-start.result start text c.in_ok-end_line.ensures
