@@ -14,7 +14,7 @@ use Rattle.kql_dynamic.specs.Arrays.{array, array_concat, array_index_of, array_
 use Rattle.kql_dynamic.specs.Bags.{bag, bag_has_key, bag_keys, bag_merge, bag_of, bag_pack, entries_backwards, pairs}
 use Rattle.kql_dynamic.specs.Json.{parsed, read_or_text}
 use Rattle.kql_dynamic.specs.Parts.{argument as arg, at_index, at_name, element_at, elements, entries, entry_at, from_start, long, text, value_of, value_or_null, value_within_levels}
-use Rattle.kql_dynamic.specs.Sets.{distinct, is_among, of_two_arrays, set_difference, set_has_element, set_intersect, set_union}
+use Rattle.kql_dynamic.specs.Sets.{distinct, is_among, of_two_arrays, set_difference, set_has_element, set_intersect, set_union, two_arrays}
 use Rattle.kql_cells.specs.Same.{same}
 use Rattle.kql_cells.specs.declared.dynamic.Dyn.TheVariants as dyn
 use Rattle.kql_cells.specs.Dynamic.{is_null, levels}
@@ -129,9 +129,7 @@ bag_merge-kind : (ds : List Dyn) → IsOfKind kind.Dynamic (bag_merge ds)
 bag_merge-kind ds = or-kind {X = (List (List ℕ × Dyn))} kind.Dynamic tt (entries_backwards ds) (λ es. bag (bag_of es)) (λ es. tt)
 
 two-kind : (ds : List Dyn) (make : List Dyn → List Dyn → Value) → ((xs ys : List Dyn) → IsOfKind kind.Dynamic (make xs ys)) → IsOfKind kind.Dynamic (of_two_arrays ds make)
-two-kind ds make h =
-    or-kind {X = List Dyn} kind.Dynamic tt (elements (arg ds 0)) (λ xs. value_or_null (elements (arg ds 1)) (λ ys. make xs ys))
-    (λ xs. or-kind {X = List Dyn} kind.Dynamic tt (elements (arg ds 1)) (λ ys. make xs ys) (λ ys. h xs ys))
+two-kind ds make h = or-kind {X = List Dyn × List Dyn} kind.Dynamic tt (two_arrays ds) (λ p. make p.0 p.1) (λ p. h p.0 p.1)
 
 set_union-kind : (ds : List Dyn) → IsOfKind kind.Dynamic (set_union ds)
 set_union-kind ds = two-kind ds (λ xs ys. array (distinct (xs ++ ys))) (λ xs ys. tt)

@@ -117,7 +117,17 @@ binary_not | -9223372036854775808 | 9223372036854775807
 - | @638448480000000000; ~864000000000 | @638447616000000000
 floor | 5; null | null
 binary_and | 1; null | null
-binary_or | null; 1 | null"#;
+binary_or | null; 1 | null
+* | ~-9223372036854775808; -1 | null
+* | -1; ~-9223372036854775808 | null
+/ | ~-9223372036854775808; -1 | null
+bin | @14; ~0 | null
+bin | @14; ~-5 | null
+bin | ~9; ~-5 | null
+floor | @14; ~0 | null
+floor | @14; ~-5 | null
+bin_at | @12; ~0; @4 | null
+bin_at | @12; ~-5; @4 | null"#;
 
 pub(crate) const COMPARISON: &str = r#"== | 1; 1 | true
 == | null; null | null
@@ -246,7 +256,24 @@ has_cs | 'xbc bc; 'bc | true
 > | null; 1 | null
 >= | 3; 2 | true
 !in | 1; 2; null | true
-!between | null; 1; 2 | null"#;
+!between | null; 1; 2 | null
+between | @5; @1; null | null
+between | @5; @9; null | false
+between | @5; null; @9 | null
+between | @5; null; @4 | false
+between | @5; null; ~3 | null
+between | null; @1; ~2 | null
+between | ~6; null; ~5 | false
+between | ~6; ~5; null | null
+!between | @5; @1; null | null
+!between | @5; @9; null | true
+!between | @5; null; ~3 | null
+in~ | 'straße; 'x; 'STRASSE | true
+!in~ | 'straße; 'x; 'STRASSE | false
+in | 'straße; 'x; 'STRASSE | false
+contains | 'ÉCOLE; 'école | true
+!contains | 'ÉCOLE; 'école | false
+contains_cs | 'ÉCOLE; 'école | false"#;
 
 pub(crate) const CHOICE: &str = r#"isnull | null | true
 isnull | ' | false
@@ -423,7 +450,10 @@ replace_string | null; 'a; 'b | null
 replace_string | 'a; null; 'b | null
 replace_string | 'a; 'a; null | null
 strcmp | null; 'a | null
-strcmp | 'a; null | null"#;
+strcmp | 'a; null | null
+tobool | 'falſe | null
+tobool | 'ＴＲＵＥ | null
+tobool | 'trué | null"#;
 
 pub(crate) const TIME: &str = r#"startofweek | @638448480000000000 | @638444160000000000
 startofday | @638448663600000000 | @638448480000000000
@@ -584,9 +614,9 @@ at | [1,2]; 2 | null
 at | {"a":3}; 'a | =3
 at | {"a":3}; 'b | null
 array_length | [1,2] | 2
-array_length | 5 | null
+array_length | =5 | null
 array_concat | [1]; [2,3] | [1,2,3]
-array_concat | [1]; 5 | null
+array_concat | [1]; =5 | null
 array_slice | [1,2,3]; 1; -1 | [2,3]
 array_slice | [1,2,3]; 5; 9 | []
 array_reverse | [1,2] | [2,1]
@@ -700,7 +730,7 @@ set_union | {}; [1] | null
 set_union | null; [1] | null
 set_intersect | [1,2]; [] | []
 set_intersect | [null,"a"]; ["a",null] | [null,"a"]
-set_intersect | [1]; 5 | null
+set_intersect | [1]; =5 | null
 set_difference | [1,1,2]; [] | [1,2]
 set_difference | [1]; [1] | []
 set_difference | {}; [1] | null
@@ -726,4 +756,11 @@ set_intersect | null; [1] | null
 set_intersect | [1]; null | null
 set_difference | null; [1] | null
 split | null; '- | null
-split | 'a; null | null"#;
+split | 'a; null | null
+bag_keys | {"é":1,"z":2,"Z":3,"a":4} | ["Z","a","z","é"]
+bag_keys | {"😀":1,"｡":2} | ["｡","😀"]
+tostring | {"é":1,"z":2} | '{"z":2,"é":1}
+tobool | ="falſe" | null
+array_reverse | =5 | null
+bag_keys | =5 | null
+set_union | =5; [1] | null"#;

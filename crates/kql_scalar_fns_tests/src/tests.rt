@@ -1,7 +1,7 @@
 use crate::rows::{ARITHMETIC, CHOICE, COMPARISON, DYNAMIC, TIME};
+use kql_cells::{CellRef, Dyn, KText, Value};
 use kql_dynamic::parse_json;
 use kql_scalar_fns::*;
-use kql_cells::{CellRef, Dyn, KText, Value};
 use std::alloc::{AllocError, Global};
 use std::test::Fail;
 
