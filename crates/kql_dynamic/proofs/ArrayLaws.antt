@@ -7,7 +7,7 @@ use Rattle.kql_cells.specs.declared.dynamic.Dyn.{Dyn}
 use Rattle.kql_cells.specs.declared.dynamic.Dyn.TheVariants as V
 use Rattle.kql_dynamic.specs.Arrays.{array, joined, sliced}
 use Rattle.kql_dynamic.specs.Laws.{FirstIsSliced, SecondIsSliced, SlicesJoin}
-use Rattle.kql_dynamic.proofs.PartLemmas.{elements-Array, long-Long}
+use Rattle.kql_dynamic.proofs.PartLaws.{elements-Array, long-Long}
 
 behind-last : (n : ℕ) → (pos n +ℤ negsuc 0) +ℤ pos 1 ≡ pos n
 behind-last n = omega (arith, ints)

@@ -22,9 +22,9 @@ use Rattle.kql_cells.specs.declared.value.Value.TheVariants as value
 use Rattle.kql_dynamic.specs.Bags.{bag, bag_of, entries_backwards, put}
 use Rattle.kql_dynamic.specs.Laws.{FirstBagWins, LastPairWins, first_value}
 use Rattle.kql_dynamic.specs.Parts.{entries, entry_at, value_or_null}
-use Rattle.kql_dynamic.proofs.BagForms.{backwards-parts}
-use Rattle.kql_dynamic.proofs.FormLemmas.{fits, null-Bag}
-use Rattle.kql_dynamic.proofs.PartLemmas.{entries-Bag, entries-fit}
+use Rattle.kql_dynamic.proofs.BagFormLaws.{backwards-parts}
+use Rattle.kql_dynamic.proofs.FormLaws.{fits, null-Bag}
+use Rattle.kql_dynamic.proofs.PartLaws.{entries-Bag, entries-fit}
 use Rattle.kql_dynamic.proofs.ReadBack.{less_from}
 
 abbrev Entries : Type 0

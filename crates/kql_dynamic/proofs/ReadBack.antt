@@ -25,8 +25,8 @@ use Rattle.serde_json.specs.View.{view}
 use Rattle.serde_json.specs.declared.value.Value.{Value, Array, Object}
 use Rattle.kql_dynamic.specs.Json.{dyn_of, entry_of, parsed, part_of}
 use Rattle.kql_dynamic.specs.Parts.{value_of}
-use Rattle.kql_dynamic.proofs.FormLemmas.{fits, value-form}
-use Rattle.kql_dynamic.proofs.JsonForms.{dyn-Array, dyn-Object, levels-dyn_of}
+use Rattle.kql_dynamic.proofs.FormLaws.{fits, value-form}
+use Rattle.kql_dynamic.proofs.JsonFormLaws.{dyn-Array, dyn-Object, levels-dyn_of}
 
 pub less_from : (o : Ordering) → is_lt o ≡ true → o ≡ Less
 less_from Less e = refl

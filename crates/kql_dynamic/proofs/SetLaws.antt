@@ -12,8 +12,8 @@ use Rattle.kql_cells.specs.declared.dynamic.Dyn.{Dyn}
 use Rattle.kql_dynamic.specs.Laws.{DifferenceHolds, DifferenceInOrder, FirstsComeFirst, IntersectHolds, IntersectInOrder, UnionHolds, UnionInOrder, count_before}
 use Rattle.kql_cells.specs.Same.{same, same-decides, same-equiv}
 use Rattle.kql_dynamic.specs.Sets.{distinct, is_among}
-use Rattle.kql_dynamic.proofs.PartLemmas.{elements-Array}
-use Rattle.kql_dynamic.proofs.SetLemmas.{among-distinct, reflexive}
+use Rattle.kql_dynamic.proofs.PartLaws.{elements-Array}
+use Rattle.kql_dynamic.proofs.SetFormLaws.{among-distinct, reflexive}
 
 not-from : (b : Bool) → (b ≡ true → ⊥) → not b ≡ true
 not-from true n = absurd (n refl)

@@ -1,5 +1,5 @@
 -- The calls on sets: arrays as sets of their elements. Each takes its arguments as one list.
-use Rattle.std.specs.Prelude.{Bool, not, if◌then◌else◌, List, [], ◌∷◌, ◌++◌, filter}
+use Rattle.std.specs.Prelude.{Bool, not, if◌then◌else◌, List, [], ◌∷◌, ◌++◌, filter, Option, option_and_then, option_map}
 use Rattle.std.specs.List.{list_any}
 use Rattle.kql_cells.specs.declared.dynamic.Dyn.{Dyn}
 use Rattle.kql_cells.specs.declared.value.Value.{Value}
@@ -21,9 +21,13 @@ distinct (x ∷ xs) = x ∷ filter (λ y. not (same x y)) (distinct xs)
 abbrev pub chosen : Bool → List Dyn → List Dyn → List Dyn
 chosen wanted xs ys = filter (λ x. if wanted then is_among ys x else not (is_among ys x)) xs
 
+-- the elements of the first two of these, none where one is no array
+abbrev pub two_arrays : List Dyn → Option (List Dyn × List Dyn)
+two_arrays args = option_and_then (λ xs. option_map (λ ys. (xs, ys)) (elements (argument args 1))) (elements (argument args 0))
+
 -- what is made of the elements of two arrays; null where one is no array
 abbrev pub of_two_arrays : List Dyn → (List Dyn → List Dyn → Value) → Value
-of_two_arrays args make = value_or_null (elements (argument args 0)) (λ xs. value_or_null (elements (argument args 1)) (λ ys. make xs ys))
+of_two_arrays args make = value_or_null (two_arrays args) (λ p. make p.0 p.1)
 
 -- the elements of both
 abbrev pub set_union : List Dyn → Value

@@ -6,8 +6,8 @@ ghost use Rattle.kql_cells.specs.declared.dynamic.Dyn.TheVariants.{Text};
 ghost use Rattle.kql_dynamic.specs.Bags.{bag_has_key, bag_keys, bag_merge, bag_of, bag_pack, entries_seen, pairs, put};
 
 use crate::parts::{argument, entries, entry_at, text};
-use kql_items::Items;
 use kql_cells::{Dyn, DynBag, DynList, KText, LEVELS_TOP, Value, clone_dyn, has_levels_within};
+use kql_items::Items;
 use std::alloc::{AllocError, Global};
 use std::collections::BTreeMap;
 
@@ -15,10 +15,10 @@ use std::collections::BTreeMap;
 type Entries = BTreeMap<String, Dyn>;
 
 /// The array of a bag's keys, ascending by bytes: `bag_keys(bag)`. It is null where there is no bag.
-pub fn bag_keys(alloc: Global, args: &[Dyn]) -> Result<Value, AllocError>
+pub fn bag_keys(alloc: Global, args: &[&Dyn]) -> Result<Value, AllocError>
     requires count { length args.now ≡ 1 }
-    requires form { IsTrue (list_all is_well_formed_dynamic args.now) }
-    ensures value { IfOk result (λ v. v ≡ bag_keys args.now) }
+    requires form { IsTrue (list_all is_well_formed_dynamic (map (λ d. d.now) args.now)) }
+    ensures value { IfOk result (λ v. v ≡ bag_keys (map (λ d. d.now) args.now)) }
     ensures form { IfOk result IsWellFormed }
 {
     match entries(argument(args, 0)) {
@@ -29,10 +29,10 @@ pub fn bag_keys(alloc: Global, args: &[Dyn]) -> Result<Value, AllocError>
 
 /// Whether a bag has a key: `bag_has_key(bag, key)`. It is null where there is no bag, or the key is no text, and
 /// takes no memory.
-pub fn bag_has_key(_alloc: Global, args: &[Dyn]) -> Result<Value, AllocError>
+pub fn bag_has_key(_alloc: Global, args: &[&Dyn]) -> Result<Value, AllocError>
     requires count { length args.now ≡ 2 }
-    requires form { IsTrue (list_all is_well_formed_dynamic args.now) }
-    ensures value { result ≡ Ok (bag_has_key args.now) }
+    requires form { IsTrue (list_all is_well_formed_dynamic (map (λ d. d.now) args.now)) }
+    ensures value { result ≡ Ok (bag_has_key (map (λ d. d.now) args.now)) }
     ensures form { IfOk result IsWellFormed }
 {
     let Some(entries) = entries(argument(args, 0)) else {
@@ -46,19 +46,20 @@ pub fn bag_has_key(_alloc: Global, args: &[Dyn]) -> Result<Value, AllocError>
 
 /// One bag of the keys of bags: `bag_merge(bag, bag, ..)`. The first bag that has a key gives its value, also a null.
 /// It is null where one is no bag, and the empty bag where there are no arguments.
-pub fn bag_merge(alloc: Global, args: &[Dyn]) -> Result<Value, AllocError>
-    requires { IsTrue (list_all is_well_formed_dynamic args.now) }
-    ensures value { IfOk result (λ v. v ≡ bag_merge args.now) }
+pub fn bag_merge(alloc: Global, args: &[&Dyn]) -> Result<Value, AllocError>
+    requires { IsTrue (list_all is_well_formed_dynamic (map (λ d. d.now) args.now)) }
+    ensures value { IfOk result (λ v. v ≡ bag_merge (map (λ d. d.now) args.now)) }
     ensures form { IfOk result IsWellFormed }
 {
     let mut merged = BTreeMap::new(alloc);
-    let mut left = args;
-    'bags: while let Some((d, before)) = left.split_last() {
-        let Some(entries) = entries(d) else {
+    let mut count = args.len();
+    'bags: while count > 0 {
+        let last = count - 1;
+        let Some(entries) = entries(args[last]) else {
             return Ok(Value::Null);
         };
         put_copies(alloc, &mut merged, entries)?;
-        left = before;
+        count = last;
     }
     Ok(Value::Dynamic(Dyn::Bag(bag_from(alloc, merged)?)))
 }
@@ -66,9 +67,9 @@ pub fn bag_merge(alloc: Global, args: &[Dyn]) -> Result<Value, AllocError>
 /// The bag of keys and values: `bag_pack(key, value, ..)`. A later equal key replaces, and nulls stand as null. It
 /// is null where a key is no text, where the last key has no value, and where it would have more than 127 levels; it
 /// is the empty bag where there are no arguments.
-pub fn bag_pack(alloc: Global, args: &[Dyn]) -> Result<Value, AllocError>
-    requires { IsTrue (list_all is_well_formed_dynamic args.now) }
-    ensures value { IfOk result (λ v. v ≡ bag_pack args.now) }
+pub fn bag_pack(alloc: Global, args: &[&Dyn]) -> Result<Value, AllocError>
+    requires { IsTrue (list_all is_well_formed_dynamic (map (λ d. d.now) args.now)) }
+    ensures value { IfOk result (λ v. v ≡ bag_pack (map (λ d. d.now) args.now)) }
     ensures form { IfOk result IsWellFormed }
 {
     let Some(packed) = packed_entries(alloc, args)? else {
@@ -83,13 +84,13 @@ pub fn bag_pack(alloc: Global, args: &[Dyn]) -> Result<Value, AllocError>
 }
 
 // The entries of keys and values in turn, none where a key is no text or has no value.
-fn packed_entries(alloc: Global, args: &[Dyn]) -> Result<Option<Entries>, AllocError>
-    ensures { IfOk result (λ o. option_map (λ m. entries_seen m.entries) o ≡ option_map bag_of (pairs args.now)) }
+fn packed_entries(alloc: Global, args: &[&Dyn]) -> Result<Option<Entries>, AllocError>
+    ensures { IfOk result (λ o. option_map (λ m. entries_seen m.entries) o ≡ option_map bag_of (pairs (map (λ d. d.now) args.now))) }
 {
     let mut packed = BTreeMap::new(alloc);
     let mut left = args;
-    'pairs: while let Some((key, more)) = left.split_first() {
-        let Some((value, rest)) = more.split_first() else {
+    'pairs: while let [key, more @ ..] = left {
+        let [value, rest @ ..] = more else {
             return Ok(None);
         };
         let Some(key) = text(key) else {
@@ -123,7 +124,7 @@ fn put_copies(alloc: Global, bag: &mut Entries, entries: &[(KText, Dyn)]) -> Res
 }
 
 // Puts a copy of a value at a key.
-#[tactic(auto, using(crate::proofs::BagLemmas::bag_steps))]
+#[tactic(auto, using(crate::proofs::BagPutLaws::bag_steps))]
 fn put_copy(alloc: Global, bag: &mut Entries, key: &str, value: &Dyn) -> Result<(), AllocError>
     ensures { OnOk result (entries_seen bag.new.entries ≡ put (entries_seen bag.old.entries) (key.now, value.now)) }
 {

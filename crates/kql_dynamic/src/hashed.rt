@@ -2,8 +2,7 @@ ghost use Rattle.std.specs.Prelude.{◌≡◌};
 ghost use Rattle.kql_cells.specs.Hashed.{writes_of};
 ghost use Rattle.kql_cells.specs.Same.{same};
 
-use crate::arrays::same;
-use kql_cells::{Dyn, hash_dyn};
+use kql_cells::{Dyn, hash_dyn, same_dyn};
 use std::hash::{Hash, Hasher};
 use std::marker::Model;
 
@@ -61,4 +60,11 @@ impl<'a> Hash for DynRef<'a> {
     fn hash<H: Hasher>(&self, state: &mut H) {
         hash_dyn(self.value, state);
     }
+}
+
+// Whether two values are identical.
+pub(crate) fn same(a: &Dyn, b: &Dyn) -> bool
+    ensures { result ≡ same a.now b.now }
+{
+    same_dyn(a, b)
 }

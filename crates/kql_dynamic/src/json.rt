@@ -9,8 +9,8 @@ ghost use Rattle.std.specs.List.{list_all};
 ghost use Rattle.kql_dynamic.specs.Json.{dyn_of, entry_of, number_dyn, parsed, part_of};
 
 use crate::parts::value_of;
-use kql_items::Items;
 use kql_cells::{Dyn, DynBag, DynList, KText, Value};
+use kql_items::Items;
 use serde_json::{Map, Number, Value as Json};
 use std::alloc::{AllocError, Global};
 
@@ -19,7 +19,7 @@ use std::alloc::{AllocError, Global};
 /// A whole number in the range of an `i64` is a long, another number null; of a repeated key the last value
 /// stays; a `null` at the top is the null value. A text that is no JSON, or nests deeper than 127 levels, is a
 /// dynamic value holding that text.
-#[tactic(auto, using(crate::proofs::JsonForms::json_forms), unfolding(crate::specs::Json::parsed))]
+#[tactic(auto, using(crate::proofs::JsonFormLaws::json_forms), unfolding(crate::specs::Json::parsed))]
 pub fn parse_json(alloc: Global, t: &str) -> Result<Value, AllocError>
     ensures value { IfOk result (λ v. v ≡ parsed t.now) }
     ensures kind { IfOk result (IsOfKind Dynamic) }
@@ -49,7 +49,7 @@ fn read(alloc: Global, t: &str) -> Result<Option<Json>, AllocError>
 }
 
 #[cycle(dyn_of)]
-#[tactic(auto, using(crate::proofs::JsonForms::json_forms))]
+#[tactic(auto, using(crate::proofs::JsonFormLaws::json_forms))]
 fn dyn_of(alloc: Global, json: &Json) -> Result<Dyn, AllocError>
     ensures value { IfOk result (λ d. d ≡ dyn_of (view json.now)) }
     ensures form { IfOk result (λ d. has_form d ≡ true) }
@@ -91,7 +91,7 @@ fn entries_of(alloc: Global, members: &Map<String, Json>) -> Result<DynBag, Allo
 }
 
 // A long where it is one, and else null.
-#[tactic(auto, using(crate::proofs::JsonForms::json_forms))]
+#[tactic(auto, using(crate::proofs::JsonFormLaws::json_forms))]
 fn number_dyn(n: &Number) -> Dyn
     ensures value { result ≡ number_dyn (number_view n.now) }
     ensures form { has_form result ≡ true }

@@ -1,4 +1,4 @@
-ghost use Rattle.std.specs.Prelude.{◌≡◌, ◌<◌, ◌≤◌, ◌^◌, IfOk, IsTrue, length, min, option_map, Some};
+ghost use Rattle.std.specs.Prelude.{◌≡◌, ◌<◌, ◌≤◌, ◌^◌, IfOk, IsTrue, length, map, min, option_map, Some};
 ghost use Rattle.std.specs.List.{list_all};
 ghost use Rattle.kql_cells.specs.Dynamic.{highest, is_well_formed_dynamic, levels};
 ghost use Rattle.kql_cells.specs.Values.{IsWellFormed};
@@ -50,11 +50,17 @@ pub fn levels(d: &Dyn) -> u32
 
 /// Whether all of these are well formed, which the calls on arrays, bags and sets ask of their arguments: the keys
 /// of each bag are distinct and ascend by bytes, and there are at most 127 levels.
-pub fn are_well_formed(args: &[Dyn]) -> bool
-    ensures form { result ≡ list_all is_well_formed_dynamic args.now }
+pub fn are_well_formed(args: &[&Dyn]) -> bool
+    ensures form { result ≡ list_all is_well_formed_dynamic (map (λ d. d.now) args.now) }
 {
-    args.iter()
-        .all(|d| has_form(d) && has_levels_within(d, LEVELS_TOP))
+    let mut left = args;
+    'values: while let [d, more @ ..] = left {
+        if !has_form(d) || !has_levels_within(d, LEVELS_TOP) {
+            return false;
+        }
+        left = more;
+    }
+    true
 }
 
 // The levels, or the greatest number where there are more.
@@ -184,9 +190,9 @@ pub(crate) fn long(d: &Dyn) -> Option<i64>
 }
 
 // The argument at a place.
-pub(crate) fn argument(args: &[Dyn], i: usize) -> &Dyn
+pub(crate) fn argument<'a>(args: &[&'a Dyn], i: usize) -> &'a Dyn
     requires { i < length args.now }
-    ensures { result.now ≡ argument args.now i }
+    ensures { result.now ≡ argument (map (λ d. d.now) args.now) i }
 {
-    &args[i]
+    args[i]
 }

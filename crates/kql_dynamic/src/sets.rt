@@ -1,32 +1,28 @@
-ghost use Rattle.std.specs.Prelude.{◌≡◌, ◌++◌, ◌∷◌, [], Bool, IfOk, IsTrue, Ok, OnOk, if◌then◌else◌, length, map};
+ghost use Rattle.std.specs.Prelude.{◌≡◌, ◌++◌, ◌∷◌, [], Bool, IfOk, IsTrue, Ok, OnOk, if◌then◌else◌, length, map, option_map};
 ghost use Rattle.std.specs.HashSet.{contains};
 ghost use Rattle.std.specs.List.{list_all};
 ghost use Rattle.kql_cells.specs.Dynamic.{is_well_formed_dynamic};
 ghost use Rattle.kql_cells.specs.Values.{IsWellFormed};
 ghost use Rattle.kql_cells.specs.declared.dynamic.Dyn.{Dyn};
 ghost use Rattle.kql_cells.specs.Same.{same};
-ghost use Rattle.kql_dynamic.specs.Sets.{chosen, distinct, is_among, set_difference, set_has_element, set_intersect, set_union};
+ghost use Rattle.kql_dynamic.specs.Sets.{chosen, distinct, is_among, set_difference, set_has_element, set_intersect, set_union, two_arrays};
 
-use crate::arrays::same;
-use crate::hashed::DynRef;
+use crate::hashed::{DynRef, same};
 use crate::parts::{argument, elements};
-use kql_items::Items;
 use kql_cells::{Dyn, DynList, Value, clone_dyn};
+use kql_items::Items;
 use std::alloc::{AllocError, Global};
 use std::collections::HashSet;
 
 /// The distinct elements of two arrays, by first occurrence: `set_union(array, array)`. It is null where one is no
 /// array.
-pub fn set_union(alloc: Global, args: &[Dyn]) -> Result<Value, AllocError>
+pub fn set_union(alloc: Global, args: &[&Dyn]) -> Result<Value, AllocError>
     requires count { length args.now ≡ 2 }
-    requires form { IsTrue (list_all is_well_formed_dynamic args.now) }
-    ensures value { IfOk result (λ v. v ≡ set_union args.now) }
+    requires form { IsTrue (list_all is_well_formed_dynamic (map (λ d. d.now) args.now)) }
+    ensures value { IfOk result (λ v. v ≡ set_union (map (λ d. d.now) args.now)) }
     ensures form { IfOk result IsWellFormed }
 {
-    let Some(first) = elements(argument(args, 0)) else {
-        return Ok(Value::Null);
-    };
-    let Some(second) = elements(argument(args, 1)) else {
+    let Some((first, second)) = two_arrays(args) else {
         return Ok(Value::Null);
     };
     let both = joined(alloc, first, second)?;
@@ -36,16 +32,13 @@ pub fn set_union(alloc: Global, args: &[Dyn]) -> Result<Value, AllocError>
 
 /// The distinct elements of the first array that are in the second, by first occurrence:
 /// `set_intersect(array, array)`. It is null where one is no array.
-pub fn set_intersect(alloc: Global, args: &[Dyn]) -> Result<Value, AllocError>
+pub fn set_intersect(alloc: Global, args: &[&Dyn]) -> Result<Value, AllocError>
     requires count { length args.now ≡ 2 }
-    requires form { IsTrue (list_all is_well_formed_dynamic args.now) }
-    ensures value { IfOk result (λ v. v ≡ set_intersect args.now) }
+    requires form { IsTrue (list_all is_well_formed_dynamic (map (λ d. d.now) args.now)) }
+    ensures value { IfOk result (λ v. v ≡ set_intersect (map (λ d. d.now) args.now)) }
     ensures form { IfOk result IsWellFormed }
 {
-    let Some(first) = elements(argument(args, 0)) else {
-        return Ok(Value::Null);
-    };
-    let Some(second) = elements(argument(args, 1)) else {
+    let Some((first, second)) = two_arrays(args) else {
         return Ok(Value::Null);
     };
     let kept = chosen(alloc, true, first, second)?;
@@ -55,16 +48,13 @@ pub fn set_intersect(alloc: Global, args: &[Dyn]) -> Result<Value, AllocError>
 
 /// The distinct elements of the first array that are not in the second, by first occurrence:
 /// `set_difference(array, array)`. It is null where one is no array.
-pub fn set_difference(alloc: Global, args: &[Dyn]) -> Result<Value, AllocError>
+pub fn set_difference(alloc: Global, args: &[&Dyn]) -> Result<Value, AllocError>
     requires count { length args.now ≡ 2 }
-    requires form { IsTrue (list_all is_well_formed_dynamic args.now) }
-    ensures value { IfOk result (λ v. v ≡ set_difference args.now) }
+    requires form { IsTrue (list_all is_well_formed_dynamic (map (λ d. d.now) args.now)) }
+    ensures value { IfOk result (λ v. v ≡ set_difference (map (λ d. d.now) args.now)) }
     ensures form { IfOk result IsWellFormed }
 {
-    let Some(first) = elements(argument(args, 0)) else {
-        return Ok(Value::Null);
-    };
-    let Some(second) = elements(argument(args, 1)) else {
+    let Some((first, second)) = two_arrays(args) else {
         return Ok(Value::Null);
     };
     let kept = chosen(alloc, false, first, second)?;
@@ -74,16 +64,26 @@ pub fn set_difference(alloc: Global, args: &[Dyn]) -> Result<Value, AllocError>
 
 /// Whether an array has an element that is identical to a value: `set_has_element(array, value)`. It is null where
 /// there is no array, and takes no memory.
-pub fn set_has_element(_alloc: Global, args: &[Dyn]) -> Result<Value, AllocError>
+pub fn set_has_element(_alloc: Global, args: &[&Dyn]) -> Result<Value, AllocError>
     requires count { length args.now ≡ 2 }
-    requires form { IsTrue (list_all is_well_formed_dynamic args.now) }
-    ensures value { result ≡ Ok (set_has_element args.now) }
+    requires form { IsTrue (list_all is_well_formed_dynamic (map (λ d. d.now) args.now)) }
+    ensures value { result ≡ Ok (set_has_element (map (λ d. d.now) args.now)) }
     ensures form { IfOk result IsWellFormed }
 {
     match elements(argument(args, 0)) {
         Some(parts) => Ok(Value::Bool(is_among(parts, argument(args, 1)))),
         None => Ok(Value::Null),
     }
+}
+
+// The elements of two arrays, none where one is no array.
+fn two_arrays<'a>(args: &[&'a Dyn]) -> Option<(&'a [Dyn], &'a [Dyn])>
+    requires { length args.now ≡ 2 }
+    ensures { option_map (λ p. (p.0.now, p.1.now)) result ≡ two_arrays (map (λ d. d.now) args.now) }
+{
+    let first = elements(argument(args, 0))?;
+    let second = elements(argument(args, 1))?;
+    Some((first, second))
 }
 
 // Whether a value is identical to one of these.

@@ -7,7 +7,7 @@ ghost use Rattle.kql_meaning.specs.Numbers.{count_of_terms};
 ghost use Rattle.kql_meaning.specs.Sources.{number_in};
 
 use crate::fit_expressions::{call_or_expr_fits, expr_fits, fits_as, is_aggregate_call};
-use crate::kind_tests::{KindTest, has_kind, is_kind, same_kind, same_known};
+use crate::kind_tests::{KindTest, has_kind, is_kind, same_known};
 use crate::literals::literal_fits;
 use crate::scope::scope_of;
 use kql_bound::{
@@ -16,6 +16,7 @@ use kql_bound::{
 };
 use kql_cells::{Column, KText, Kind, Names, Value};
 use kql_columns::{has_column, is_name_among, names_of, result_kinds};
+use kql_functions::same_kind;
 use kql_items::Items;
 use kql_meaning::{Position, column_kind, kind_of};
 use std::alloc::{AllocError, Global};

@@ -3,9 +3,9 @@ ghost use Rattle.std.specs.Prelude.{◌≡◌, IfOk};
 ghost use Rattle.kql_meaning.specs.Fits.{fits, has_columns, lets_columns, program_columns, same_columns, table_columns, tables_stand};
 
 use crate::fit_plans::{plan_columns, table_columns};
-use crate::kind_tests::same_kind;
 use kql_bound::{Plan, Program};
 use kql_cells::{Column, NamedSchema, Schemas};
+use kql_functions::same_kind;
 use kql_items::Items;
 use std::alloc::{AllocError, Global};
 

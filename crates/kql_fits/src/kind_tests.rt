@@ -1,9 +1,9 @@
 ghost use Rattle.std.specs.Prelude.{◌≡◌};
-ghost use Rattle.kql_functions.specs.Kinds.{has_order, same_kind};
 ghost use Rattle.kql_meaning.specs.FittingExpressions.{has_kind, is_addable, is_key, is_kind, same_known};
 ghost use Rattle.kql_fits.specs.KindTests.{meets};
 
 use kql_cells::Kind;
+use kql_functions::{has_order, same_kind};
 
 /// What is asked of a type.
 #[derive(Clone, Copy, Debug, PartialEq, Eq)]
@@ -87,22 +87,4 @@ fn is_addable(k: Kind) -> bool
         Kind::Span => true,
         _ => false,
     }
-}
-
-fn has_order(k: Kind) -> bool
-    ensures order { result ≡ has_order k }
-{
-    match k {
-        Kind::Long => true,
-        Kind::Moment => true,
-        Kind::Span => true,
-        _ => false,
-    }
-}
-
-/// Whether two types are one.
-pub(crate) fn same_kind(a: Kind, b: Kind) -> bool
-    ensures same { result ≡ same_kind a b }
-{
-    a == b
 }

@@ -4,9 +4,10 @@ ghost use Rattle.std.specs.Option.{option_copied};
 ghost use Rattle.kql_meaning.specs.FittingExpressions.{first_word, is_constant_of, is_count, is_count_value, literal_of, word_in, word_of};
 ghost use Rattle.kql_meaning.specs.Literals.{is_of_kind, is_well_formed, literal_fits};
 
-use crate::kind_tests::{is_kind, same_kind};
+use crate::kind_tests::is_kind;
 use kql_bound::{BExpr, Lit};
 use kql_cells::{Kind, Value};
+use kql_functions::same_kind;
 
 /// Whether a literal is well formed, and null or of the type beside it.
 #[tactic(auto, unfolding(kql_meaning::specs::Literals::literal_fits))]

@@ -4,11 +4,11 @@ ghost use Rattle.std.specs.Option.{option_copied};
 ghost use Rattle.kql_meaning.specs.FittingExpressions.{column_of, is_plain_column, is_this_column, is_this_name, is_this_value, scope_of, step_fits};
 ghost use Rattle.kql_meaning.specs.Values.{same_key};
 
-use crate::kind_tests::same_kind;
 use crate::literals::literal_fits;
 use kql_bound::{BExpr, StepColumn};
 use kql_cells::{Column, KText, Kind, Value};
 use kql_columns::has_column;
+use kql_functions::same_kind;
 use std::marker::Model;
 
 /// What an expression may read: columns, and in scan the steps by name with what each column of an absent record gives.

@@ -1,3 +1,4 @@
 pub mod NameFacts
 pub mod NamedTables
+pub mod RowFacts
 pub mod TableFacts

@@ -1,5 +1,5 @@
 -- Each function, operator, window function and aggregate has a name of its own, and stands once in its table.
-use Rattle.std.proofs.Common.{◌≡◌, ℕ, Bool, true, false, not, List, [], ◌∷◌, refl, ◌∙◌}
+use Rattle.std.proofs.Common.{◌≡◌, ℕ, Bool, true, false, not, List, refl, ◌∙◌}
 use Rattle.std.specs.Prelude.{◌↔◌, Some, Contains}
 use Rattle.std.specs.List.{list_all}
 use Rattle.kql_functions.specs.declared.func.ArithmeticFunc.{ArithmeticFunc}

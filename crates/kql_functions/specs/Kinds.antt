@@ -1,5 +1,6 @@
 -- The types that functions take, and the ones that they give.
 use Rattle.std.specs.Prelude.{ℕ, ◌&&◌, Bool, true, false, nat_le, List, [], ◌∷◌, length, Option, None, Some, if◌then◌else◌}
+use Rattle.std.specs.Borrow.{Bor}
 use Rattle.std.specs.List.{list_all}
 use Rattle.std.specs.Option.{option_or}
 use Rattle.kql_cells.specs.Values.{IsOfKind}
@@ -52,6 +53,16 @@ row ks taken given = if same_kinds ks taken then Some given else None
 -- the first of two rows that fits
 abbrev pub either : Option Kind → Option Kind → Option Kind
 either a b = option_or a b
+
+-- a row of a table of the program
+abbrev pub read_row : Bor (List Kind) × Kind → List Kind × Kind
+read_row r = (r.0.now, r.1)
+
+-- the first row of a table that fits
+abbrev pub rows : List Kind → List (List Kind × Kind) → Option Kind
+rows ks [] = None
+rows ks (r ∷ []) = row ks r.0 r.1
+rows ks (r ∷ s ∷ more) = either (row ks r.0 r.1) (rows ks (s ∷ more))
 
 -- one type throughout
 unfoldable pub all_same : Kind → List Kind → Bool
@@ -144,17 +155,44 @@ one_of_pairs ks = if nat_le 1 (length ks) && are_pairs ks then Some kind.Dynamic
 
 -- the rows of arithmetic
 unfoldable pub arithmetic_kind : ArithmeticFunc → List Kind → Option Kind
-arithmetic_kind arithmetic.Add ks = either (row ks (kind.Long ∷ kind.Long ∷ []) kind.Long) (either (row ks (kind.Span ∷ kind.Span ∷ []) kind.Span) (either (row ks (kind.Moment ∷ kind.Span ∷ []) kind.Moment) (row ks (kind.Span ∷ kind.Moment ∷ []) kind.Moment)))
-arithmetic_kind arithmetic.Subtract ks = either (row ks (kind.Long ∷ kind.Long ∷ []) kind.Long) (either (row ks (kind.Span ∷ kind.Span ∷ []) kind.Span) (either (row ks (kind.Moment ∷ kind.Span ∷ []) kind.Moment) (row ks (kind.Moment ∷ kind.Moment ∷ []) kind.Span)))
-arithmetic_kind arithmetic.Multiply ks = either (row ks (kind.Long ∷ kind.Long ∷ []) kind.Long) (either (row ks (kind.Span ∷ kind.Long ∷ []) kind.Span) (row ks (kind.Long ∷ kind.Span ∷ []) kind.Span))
-arithmetic_kind arithmetic.Divide ks = either (row ks (kind.Long ∷ kind.Long ∷ []) kind.Long) (either (row ks (kind.Span ∷ kind.Long ∷ []) kind.Span) (row ks (kind.Span ∷ kind.Span ∷ []) kind.Long))
+arithmetic_kind arithmetic.Add ks = rows ks (
+    (kind.Long ∷ kind.Long ∷ [], kind.Long) ∷
+    (kind.Span ∷ kind.Span ∷ [], kind.Span) ∷
+    (kind.Moment ∷ kind.Span ∷ [], kind.Moment) ∷
+    (kind.Span ∷ kind.Moment ∷ [], kind.Moment) ∷ [])
+arithmetic_kind arithmetic.Subtract ks = rows ks (
+    (kind.Long ∷ kind.Long ∷ [], kind.Long) ∷
+    (kind.Span ∷ kind.Span ∷ [], kind.Span) ∷
+    (kind.Moment ∷ kind.Span ∷ [], kind.Moment) ∷
+    (kind.Moment ∷ kind.Moment ∷ [], kind.Span) ∷ [])
+arithmetic_kind arithmetic.Multiply ks = rows ks (
+    (kind.Long ∷ kind.Long ∷ [], kind.Long) ∷
+    (kind.Span ∷ kind.Long ∷ [], kind.Span) ∷
+    (kind.Long ∷ kind.Span ∷ [], kind.Span) ∷ [])
+arithmetic_kind arithmetic.Divide ks = rows ks (
+    (kind.Long ∷ kind.Long ∷ [], kind.Long) ∷
+    (kind.Span ∷ kind.Long ∷ [], kind.Span) ∷
+    (kind.Span ∷ kind.Span ∷ [], kind.Long) ∷ [])
 arithmetic_kind arithmetic.Modulo ks = row ks (kind.Long ∷ kind.Long ∷ []) kind.Long
-arithmetic_kind arithmetic.Negate ks = either (row ks (kind.Long ∷ []) kind.Long) (row ks (kind.Span ∷ []) kind.Span)
-arithmetic_kind arithmetic.Abs ks = either (row ks (kind.Long ∷ []) kind.Long) (row ks (kind.Span ∷ []) kind.Span)
+arithmetic_kind arithmetic.Negate ks = rows ks (
+    (kind.Long ∷ [], kind.Long) ∷
+    (kind.Span ∷ [], kind.Span) ∷ [])
+arithmetic_kind arithmetic.Abs ks = rows ks (
+    (kind.Long ∷ [], kind.Long) ∷
+    (kind.Span ∷ [], kind.Span) ∷ [])
 arithmetic_kind arithmetic.Sign ks = row ks (kind.Long ∷ []) kind.Long
-arithmetic_kind arithmetic.Bin ks = either (row ks (kind.Long ∷ kind.Long ∷ []) kind.Long) (either (row ks (kind.Moment ∷ kind.Span ∷ []) kind.Moment) (row ks (kind.Span ∷ kind.Span ∷ []) kind.Span))
-arithmetic_kind arithmetic.Floor ks = either (row ks (kind.Long ∷ kind.Long ∷ []) kind.Long) (either (row ks (kind.Moment ∷ kind.Span ∷ []) kind.Moment) (row ks (kind.Span ∷ kind.Span ∷ []) kind.Span))
-arithmetic_kind arithmetic.BinAt ks = either (row ks (kind.Long ∷ kind.Long ∷ kind.Long ∷ []) kind.Long) (either (row ks (kind.Moment ∷ kind.Span ∷ kind.Moment ∷ []) kind.Moment) (row ks (kind.Span ∷ kind.Span ∷ kind.Span ∷ []) kind.Span))
+arithmetic_kind arithmetic.Bin ks = rows ks (
+    (kind.Long ∷ kind.Long ∷ [], kind.Long) ∷
+    (kind.Moment ∷ kind.Span ∷ [], kind.Moment) ∷
+    (kind.Span ∷ kind.Span ∷ [], kind.Span) ∷ [])
+arithmetic_kind arithmetic.Floor ks = rows ks (
+    (kind.Long ∷ kind.Long ∷ [], kind.Long) ∷
+    (kind.Moment ∷ kind.Span ∷ [], kind.Moment) ∷
+    (kind.Span ∷ kind.Span ∷ [], kind.Span) ∷ [])
+arithmetic_kind arithmetic.BinAt ks = rows ks (
+    (kind.Long ∷ kind.Long ∷ kind.Long ∷ [], kind.Long) ∷
+    (kind.Moment ∷ kind.Span ∷ kind.Moment ∷ [], kind.Moment) ∷
+    (kind.Span ∷ kind.Span ∷ kind.Span ∷ [], kind.Span) ∷ [])
 arithmetic_kind arithmetic.BinaryAnd ks = row ks (kind.Long ∷ kind.Long ∷ []) kind.Long
 arithmetic_kind arithmetic.BinaryOr ks = row ks (kind.Long ∷ kind.Long ∷ []) kind.Long
 arithmetic_kind arithmetic.BinaryXor ks = row ks (kind.Long ∷ kind.Long ∷ []) kind.Long
@@ -174,8 +212,16 @@ comparison_kind comparison.In ks = one_among ks
 comparison_kind comparison.NotIn ks = one_among ks
 comparison_kind comparison.InTexts ks = several_of 2 kind.Text kind.Bool ks
 comparison_kind comparison.NotInTexts ks = several_of 2 kind.Text kind.Bool ks
-comparison_kind comparison.Between ks = either (row ks (kind.Long ∷ kind.Long ∷ kind.Long ∷ []) kind.Bool) (either (row ks (kind.Moment ∷ kind.Moment ∷ kind.Moment ∷ []) kind.Bool) (either (row ks (kind.Span ∷ kind.Span ∷ kind.Span ∷ []) kind.Bool) (row ks (kind.Moment ∷ kind.Moment ∷ kind.Span ∷ []) kind.Bool)))
-comparison_kind comparison.NotBetween ks = either (row ks (kind.Long ∷ kind.Long ∷ kind.Long ∷ []) kind.Bool) (either (row ks (kind.Moment ∷ kind.Moment ∷ kind.Moment ∷ []) kind.Bool) (either (row ks (kind.Span ∷ kind.Span ∷ kind.Span ∷ []) kind.Bool) (row ks (kind.Moment ∷ kind.Moment ∷ kind.Span ∷ []) kind.Bool)))
+comparison_kind comparison.Between ks = rows ks (
+    (kind.Long ∷ kind.Long ∷ kind.Long ∷ [], kind.Bool) ∷
+    (kind.Moment ∷ kind.Moment ∷ kind.Moment ∷ [], kind.Bool) ∷
+    (kind.Span ∷ kind.Span ∷ kind.Span ∷ [], kind.Bool) ∷
+    (kind.Moment ∷ kind.Moment ∷ kind.Span ∷ [], kind.Bool) ∷ [])
+comparison_kind comparison.NotBetween ks = rows ks (
+    (kind.Long ∷ kind.Long ∷ kind.Long ∷ [], kind.Bool) ∷
+    (kind.Moment ∷ kind.Moment ∷ kind.Moment ∷ [], kind.Bool) ∷
+    (kind.Span ∷ kind.Span ∷ kind.Span ∷ [], kind.Bool) ∷
+    (kind.Moment ∷ kind.Moment ∷ kind.Span ∷ [], kind.Bool) ∷ [])
 
 -- the rows of logic
 unfoldable pub logic_kind : LogicFunc → List Kind → Option Kind
@@ -199,14 +245,26 @@ choice_kind choice.MaxOf ks = two_or_more_ordered ks
 unfoldable pub conversion_kind : ConversionFunc → List Kind → Option Kind
 conversion_kind conversion.ToLong ks = one_of_any kind.Long ks
 conversion_kind conversion.ToText ks = one_of_any kind.Text ks
-conversion_kind conversion.ToBool ks = either (row ks (kind.Bool ∷ []) kind.Bool) (either (row ks (kind.Long ∷ []) kind.Bool) (either (row ks (kind.Text ∷ []) kind.Bool) (row ks (kind.Dynamic ∷ []) kind.Bool)))
-conversion_kind conversion.ToMoment ks = either (row ks (kind.Moment ∷ []) kind.Moment) (either (row ks (kind.Text ∷ []) kind.Moment) (row ks (kind.Dynamic ∷ []) kind.Moment))
-conversion_kind conversion.ToSpan ks = either (row ks (kind.Span ∷ []) kind.Span) (either (row ks (kind.Text ∷ []) kind.Span) (row ks (kind.Dynamic ∷ []) kind.Span))
+conversion_kind conversion.ToBool ks = rows ks (
+    (kind.Bool ∷ [], kind.Bool) ∷
+    (kind.Long ∷ [], kind.Bool) ∷
+    (kind.Text ∷ [], kind.Bool) ∷
+    (kind.Dynamic ∷ [], kind.Bool) ∷ [])
+conversion_kind conversion.ToMoment ks = rows ks (
+    (kind.Moment ∷ [], kind.Moment) ∷
+    (kind.Text ∷ [], kind.Moment) ∷
+    (kind.Dynamic ∷ [], kind.Moment) ∷ [])
+conversion_kind conversion.ToSpan ks = rows ks (
+    (kind.Span ∷ [], kind.Span) ∷
+    (kind.Text ∷ [], kind.Span) ∷
+    (kind.Dynamic ∷ [], kind.Span) ∷ [])
 
 -- the rows of texts
 unfoldable pub text_kind : TextFunc → List Kind → Option Kind
 text_kind text.Length ks = row ks (kind.Text ∷ []) kind.Long
-text_kind text.Substring ks = either (row ks (kind.Text ∷ kind.Long ∷ []) kind.Text) (row ks (kind.Text ∷ kind.Long ∷ kind.Long ∷ []) kind.Text)
+text_kind text.Substring ks = rows ks (
+    (kind.Text ∷ kind.Long ∷ [], kind.Text) ∷
+    (kind.Text ∷ kind.Long ∷ kind.Long ∷ [], kind.Text) ∷ [])
 text_kind text.IndexOf ks = row ks (kind.Text ∷ kind.Text ∷ []) kind.Long
 text_kind text.ToUpper ks = row ks (kind.Text ∷ []) kind.Text
 text_kind text.ToLower ks = row ks (kind.Text ∷ []) kind.Text
@@ -219,7 +277,9 @@ text_kind text.Compare ks = row ks (kind.Text ∷ kind.Text ∷ []) kind.Long
 
 -- the rows of datetimes and timespans
 unfoldable pub time_kind : TimeFunc → List Kind → Option Kind
-time_kind time.Now ks = either (row ks ([]) kind.Moment) (row ks (kind.Span ∷ []) kind.Moment)
+time_kind time.Now ks = rows ks (
+    ([], kind.Moment) ∷
+    (kind.Span ∷ [], kind.Moment) ∷ [])
 time_kind time.Ago ks = row ks (kind.Span ∷ []) kind.Moment
 time_kind time.StartOfDay ks = row ks (kind.Moment ∷ []) kind.Moment
 time_kind time.StartOfWeek ks = row ks (kind.Moment ∷ []) kind.Moment
@@ -239,15 +299,23 @@ time_kind time.HourOfDay ks = row ks (kind.Moment ∷ []) kind.Long
 time_kind time.DatetimeAdd ks = row ks (kind.Text ∷ kind.Long ∷ kind.Moment ∷ []) kind.Moment
 time_kind time.DatetimeDiff ks = row ks (kind.Text ∷ kind.Moment ∷ kind.Moment ∷ []) kind.Long
 time_kind time.DatetimePart ks = row ks (kind.Text ∷ kind.Moment ∷ []) kind.Long
-time_kind time.MakeDatetime ks = either (row ks (kind.Long ∷ kind.Long ∷ kind.Long ∷ []) kind.Moment) (row ks (kind.Long ∷ kind.Long ∷ kind.Long ∷ kind.Long ∷ kind.Long ∷ []) kind.Moment)
+time_kind time.MakeDatetime ks = rows ks (
+    (kind.Long ∷ kind.Long ∷ kind.Long ∷ [], kind.Moment) ∷
+    (kind.Long ∷ kind.Long ∷ kind.Long ∷ kind.Long ∷ kind.Long ∷ [], kind.Moment) ∷ [])
 time_kind time.UnixSeconds ks = row ks (kind.Long ∷ []) kind.Moment
 time_kind time.UnixMilliseconds ks = row ks (kind.Long ∷ []) kind.Moment
 
 -- the rows of dynamic values
 unfoldable pub dynamic_kind : DynamicFunc → List Kind → Option Kind
-dynamic_kind dynamic.At ks = either (row ks (kind.Dynamic ∷ kind.Text ∷ []) kind.Dynamic) (row ks (kind.Dynamic ∷ kind.Long ∷ []) kind.Dynamic)
-dynamic_kind dynamic.ParseJson ks = either (row ks (kind.Text ∷ []) kind.Dynamic) (row ks (kind.Dynamic ∷ []) kind.Dynamic)
-dynamic_kind dynamic.ToDynamic ks = either (row ks (kind.Text ∷ []) kind.Dynamic) (row ks (kind.Dynamic ∷ []) kind.Dynamic)
+dynamic_kind dynamic.At ks = rows ks (
+    (kind.Dynamic ∷ kind.Text ∷ [], kind.Dynamic) ∷
+    (kind.Dynamic ∷ kind.Long ∷ [], kind.Dynamic) ∷ [])
+dynamic_kind dynamic.ParseJson ks = rows ks (
+    (kind.Text ∷ [], kind.Dynamic) ∷
+    (kind.Dynamic ∷ [], kind.Dynamic) ∷ [])
+dynamic_kind dynamic.ToDynamic ks = rows ks (
+    (kind.Text ∷ [], kind.Dynamic) ∷
+    (kind.Dynamic ∷ [], kind.Dynamic) ∷ [])
 dynamic_kind dynamic.ArrayLength ks = row ks (kind.Dynamic ∷ []) kind.Long
 dynamic_kind dynamic.ArrayConcat ks = several_of 1 kind.Dynamic kind.Dynamic ks
 dynamic_kind dynamic.ArraySlice ks = row ks (kind.Dynamic ∷ kind.Long ∷ kind.Long ∷ []) kind.Dynamic

@@ -6,8 +6,8 @@ use crate::func::{
     TextFunc, TimeFunc,
 };
 use crate::shapes::{
-    behind_text, beside_dynamic, either, one_among, one_of_any, one_of_cases, one_of_pairs,
-    one_of_two, row, several, several_of, two_equal, two_or_more, two_or_more_ordered, two_ordered,
+    behind_text, beside_dynamic, one_among, one_of_any, one_of_cases, one_of_pairs, one_of_two,
+    row, rows, several, several_of, two_equal, two_or_more, two_or_more_ordered, two_ordered,
 };
 use kql_cells::Kind;
 
@@ -36,74 +36,73 @@ fn arithmetic_kind(f: ArithmeticFunc, kinds: &[Kind]) -> Option<Kind>
     ensures { result ≡ arithmetic_kind f kinds.now }
 {
     match f {
-        ArithmeticFunc::Add => either(
-            row(kinds, &[Kind::Long, Kind::Long], Kind::Long),
-            either(
-                row(kinds, &[Kind::Span, Kind::Span], Kind::Span),
-                either(
-                    row(kinds, &[Kind::Moment, Kind::Span], Kind::Moment),
-                    row(kinds, &[Kind::Span, Kind::Moment], Kind::Moment),
-                ),
-            ),
+        ArithmeticFunc::Add => rows(
+            kinds,
+            &[
+                (&[Kind::Long, Kind::Long], Kind::Long),
+                (&[Kind::Span, Kind::Span], Kind::Span),
+                (&[Kind::Moment, Kind::Span], Kind::Moment),
+                (&[Kind::Span, Kind::Moment], Kind::Moment),
+            ],
         ),
-        ArithmeticFunc::Subtract => either(
-            row(kinds, &[Kind::Long, Kind::Long], Kind::Long),
-            either(
-                row(kinds, &[Kind::Span, Kind::Span], Kind::Span),
-                either(
-                    row(kinds, &[Kind::Moment, Kind::Span], Kind::Moment),
-                    row(kinds, &[Kind::Moment, Kind::Moment], Kind::Span),
-                ),
-            ),
+        ArithmeticFunc::Subtract => rows(
+            kinds,
+            &[
+                (&[Kind::Long, Kind::Long], Kind::Long),
+                (&[Kind::Span, Kind::Span], Kind::Span),
+                (&[Kind::Moment, Kind::Span], Kind::Moment),
+                (&[Kind::Moment, Kind::Moment], Kind::Span),
+            ],
         ),
-        ArithmeticFunc::Multiply => either(
-            row(kinds, &[Kind::Long, Kind::Long], Kind::Long),
-            either(
-                row(kinds, &[Kind::Span, Kind::Long], Kind::Span),
-                row(kinds, &[Kind::Long, Kind::Span], Kind::Span),
-            ),
+        ArithmeticFunc::Multiply => rows(
+            kinds,
+            &[
+                (&[Kind::Long, Kind::Long], Kind::Long),
+                (&[Kind::Span, Kind::Long], Kind::Span),
+                (&[Kind::Long, Kind::Span], Kind::Span),
+            ],
         ),
-        ArithmeticFunc::Divide => either(
-            row(kinds, &[Kind::Long, Kind::Long], Kind::Long),
-            either(
-                row(kinds, &[Kind::Span, Kind::Long], Kind::Span),
-                row(kinds, &[Kind::Span, Kind::Span], Kind::Long),
-            ),
+        ArithmeticFunc::Divide => rows(
+            kinds,
+            &[
+                (&[Kind::Long, Kind::Long], Kind::Long),
+                (&[Kind::Span, Kind::Long], Kind::Span),
+                (&[Kind::Span, Kind::Span], Kind::Long),
+            ],
         ),
         ArithmeticFunc::Modulo => row(kinds, &[Kind::Long, Kind::Long], Kind::Long),
-        ArithmeticFunc::Negate => either(
-            row(kinds, &[Kind::Long], Kind::Long),
-            row(kinds, &[Kind::Span], Kind::Span),
+        ArithmeticFunc::Negate => rows(
+            kinds,
+            &[(&[Kind::Long], Kind::Long), (&[Kind::Span], Kind::Span)],
         ),
-        ArithmeticFunc::Abs => either(
-            row(kinds, &[Kind::Long], Kind::Long),
-            row(kinds, &[Kind::Span], Kind::Span),
+        ArithmeticFunc::Abs => rows(
+            kinds,
+            &[(&[Kind::Long], Kind::Long), (&[Kind::Span], Kind::Span)],
         ),
         ArithmeticFunc::Sign => row(kinds, &[Kind::Long], Kind::Long),
-        ArithmeticFunc::Bin => either(
-            row(kinds, &[Kind::Long, Kind::Long], Kind::Long),
-            either(
-                row(kinds, &[Kind::Moment, Kind::Span], Kind::Moment),
-                row(kinds, &[Kind::Span, Kind::Span], Kind::Span),
-            ),
+        ArithmeticFunc::Bin => rows(
+            kinds,
+            &[
+                (&[Kind::Long, Kind::Long], Kind::Long),
+                (&[Kind::Moment, Kind::Span], Kind::Moment),
+                (&[Kind::Span, Kind::Span], Kind::Span),
+            ],
         ),
-        ArithmeticFunc::Floor => either(
-            row(kinds, &[Kind::Long, Kind::Long], Kind::Long),
-            either(
-                row(kinds, &[Kind::Moment, Kind::Span], Kind::Moment),
-                row(kinds, &[Kind::Span, Kind::Span], Kind::Span),
-            ),
+        ArithmeticFunc::Floor => rows(
+            kinds,
+            &[
+                (&[Kind::Long, Kind::Long], Kind::Long),
+                (&[Kind::Moment, Kind::Span], Kind::Moment),
+                (&[Kind::Span, Kind::Span], Kind::Span),
+            ],
         ),
-        ArithmeticFunc::BinAt => either(
-            row(kinds, &[Kind::Long, Kind::Long, Kind::Long], Kind::Long),
-            either(
-                row(
-                    kinds,
-                    &[Kind::Moment, Kind::Span, Kind::Moment],
-                    Kind::Moment,
-                ),
-                row(kinds, &[Kind::Span, Kind::Span, Kind::Span], Kind::Span),
-            ),
+        ArithmeticFunc::BinAt => rows(
+            kinds,
+            &[
+                (&[Kind::Long, Kind::Long, Kind::Long], Kind::Long),
+                (&[Kind::Moment, Kind::Span, Kind::Moment], Kind::Moment),
+                (&[Kind::Span, Kind::Span, Kind::Span], Kind::Span),
+            ],
         ),
         ArithmeticFunc::BinaryAnd => row(kinds, &[Kind::Long, Kind::Long], Kind::Long),
         ArithmeticFunc::BinaryOr => row(kinds, &[Kind::Long, Kind::Long], Kind::Long),
@@ -129,33 +128,23 @@ fn comparison_kind(f: ComparisonFunc, kinds: &[Kind]) -> Option<Kind>
         ComparisonFunc::NotIn => one_among(kinds),
         ComparisonFunc::InTexts => several_of(2, Kind::Text, Kind::Bool, kinds),
         ComparisonFunc::NotInTexts => several_of(2, Kind::Text, Kind::Bool, kinds),
-        ComparisonFunc::Between => either(
-            row(kinds, &[Kind::Long, Kind::Long, Kind::Long], Kind::Bool),
-            either(
-                row(
-                    kinds,
-                    &[Kind::Moment, Kind::Moment, Kind::Moment],
-                    Kind::Bool,
-                ),
-                either(
-                    row(kinds, &[Kind::Span, Kind::Span, Kind::Span], Kind::Bool),
-                    row(kinds, &[Kind::Moment, Kind::Moment, Kind::Span], Kind::Bool),
-                ),
-            ),
+        ComparisonFunc::Between => rows(
+            kinds,
+            &[
+                (&[Kind::Long, Kind::Long, Kind::Long], Kind::Bool),
+                (&[Kind::Moment, Kind::Moment, Kind::Moment], Kind::Bool),
+                (&[Kind::Span, Kind::Span, Kind::Span], Kind::Bool),
+                (&[Kind::Moment, Kind::Moment, Kind::Span], Kind::Bool),
+            ],
         ),
-        ComparisonFunc::NotBetween => either(
-            row(kinds, &[Kind::Long, Kind::Long, Kind::Long], Kind::Bool),
-            either(
-                row(
-                    kinds,
-                    &[Kind::Moment, Kind::Moment, Kind::Moment],
-                    Kind::Bool,
-                ),
-                either(
-                    row(kinds, &[Kind::Span, Kind::Span, Kind::Span], Kind::Bool),
-                    row(kinds, &[Kind::Moment, Kind::Moment, Kind::Span], Kind::Bool),
-                ),
-            ),
+        ComparisonFunc::NotBetween => rows(
+            kinds,
+            &[
+                (&[Kind::Long, Kind::Long, Kind::Long], Kind::Bool),
+                (&[Kind::Moment, Kind::Moment, Kind::Moment], Kind::Bool),
+                (&[Kind::Span, Kind::Span, Kind::Span], Kind::Bool),
+                (&[Kind::Moment, Kind::Moment, Kind::Span], Kind::Bool),
+            ],
         ),
     }
 }
@@ -195,29 +184,30 @@ fn conversion_kind(f: ConversionFunc, kinds: &[Kind]) -> Option<Kind>
     match f {
         ConversionFunc::ToLong => one_of_any(Kind::Long, kinds),
         ConversionFunc::ToText => one_of_any(Kind::Text, kinds),
-        ConversionFunc::ToBool => either(
-            row(kinds, &[Kind::Bool], Kind::Bool),
-            either(
-                row(kinds, &[Kind::Long], Kind::Bool),
-                either(
-                    row(kinds, &[Kind::Text], Kind::Bool),
-                    row(kinds, &[Kind::Dynamic], Kind::Bool),
-                ),
-            ),
+        ConversionFunc::ToBool => rows(
+            kinds,
+            &[
+                (&[Kind::Bool], Kind::Bool),
+                (&[Kind::Long], Kind::Bool),
+                (&[Kind::Text], Kind::Bool),
+                (&[Kind::Dynamic], Kind::Bool),
+            ],
         ),
-        ConversionFunc::ToMoment => either(
-            row(kinds, &[Kind::Moment], Kind::Moment),
-            either(
-                row(kinds, &[Kind::Text], Kind::Moment),
-                row(kinds, &[Kind::Dynamic], Kind::Moment),
-            ),
+        ConversionFunc::ToMoment => rows(
+            kinds,
+            &[
+                (&[Kind::Moment], Kind::Moment),
+                (&[Kind::Text], Kind::Moment),
+                (&[Kind::Dynamic], Kind::Moment),
+            ],
         ),
-        ConversionFunc::ToSpan => either(
-            row(kinds, &[Kind::Span], Kind::Span),
-            either(
-                row(kinds, &[Kind::Text], Kind::Span),
-                row(kinds, &[Kind::Dynamic], Kind::Span),
-            ),
+        ConversionFunc::ToSpan => rows(
+            kinds,
+            &[
+                (&[Kind::Span], Kind::Span),
+                (&[Kind::Text], Kind::Span),
+                (&[Kind::Dynamic], Kind::Span),
+            ],
         ),
     }
 }
@@ -228,9 +218,12 @@ fn text_kind(f: TextFunc, kinds: &[Kind]) -> Option<Kind>
 {
     match f {
         TextFunc::Length => row(kinds, &[Kind::Text], Kind::Long),
-        TextFunc::Substring => either(
-            row(kinds, &[Kind::Text, Kind::Long], Kind::Text),
-            row(kinds, &[Kind::Text, Kind::Long, Kind::Long], Kind::Text),
+        TextFunc::Substring => rows(
+            kinds,
+            &[
+                (&[Kind::Text, Kind::Long], Kind::Text),
+                (&[Kind::Text, Kind::Long, Kind::Long], Kind::Text),
+            ],
         ),
         TextFunc::IndexOf => row(kinds, &[Kind::Text, Kind::Text], Kind::Long),
         TextFunc::ToUpper => row(kinds, &[Kind::Text], Kind::Text),
@@ -249,10 +242,7 @@ fn time_kind(f: TimeFunc, kinds: &[Kind]) -> Option<Kind>
     ensures { result ≡ time_kind f kinds.now }
 {
     match f {
-        TimeFunc::Now => either(
-            row(kinds, &[], Kind::Moment),
-            row(kinds, &[Kind::Span], Kind::Moment),
-        ),
+        TimeFunc::Now => rows(kinds, &[(&[], Kind::Moment), (&[Kind::Span], Kind::Moment)]),
         TimeFunc::Ago => row(kinds, &[Kind::Span], Kind::Moment),
         TimeFunc::StartOfDay => row(kinds, &[Kind::Moment], Kind::Moment),
         TimeFunc::StartOfWeek => row(kinds, &[Kind::Moment], Kind::Moment),
@@ -272,13 +262,15 @@ fn time_kind(f: TimeFunc, kinds: &[Kind]) -> Option<Kind>
         TimeFunc::DatetimeAdd => row(kinds, &[Kind::Text, Kind::Long, Kind::Moment], Kind::Moment),
         TimeFunc::DatetimeDiff => row(kinds, &[Kind::Text, Kind::Moment, Kind::Moment], Kind::Long),
         TimeFunc::DatetimePart => row(kinds, &[Kind::Text, Kind::Moment], Kind::Long),
-        TimeFunc::MakeDatetime => either(
-            row(kinds, &[Kind::Long, Kind::Long, Kind::Long], Kind::Moment),
-            row(
-                kinds,
-                &[Kind::Long, Kind::Long, Kind::Long, Kind::Long, Kind::Long],
-                Kind::Moment,
-            ),
+        TimeFunc::MakeDatetime => rows(
+            kinds,
+            &[
+                (&[Kind::Long, Kind::Long, Kind::Long], Kind::Moment),
+                (
+                    &[Kind::Long, Kind::Long, Kind::Long, Kind::Long, Kind::Long],
+                    Kind::Moment,
+                ),
+            ],
         ),
         TimeFunc::UnixSeconds => row(kinds, &[Kind::Long], Kind::Moment),
         TimeFunc::UnixMilliseconds => row(kinds, &[Kind::Long], Kind::Moment),
@@ -290,17 +282,26 @@ fn dynamic_kind(f: DynamicFunc, kinds: &[Kind]) -> Option<Kind>
     ensures { result ≡ dynamic_kind f kinds.now }
 {
     match f {
-        DynamicFunc::At => either(
-            row(kinds, &[Kind::Dynamic, Kind::Text], Kind::Dynamic),
-            row(kinds, &[Kind::Dynamic, Kind::Long], Kind::Dynamic),
+        DynamicFunc::At => rows(
+            kinds,
+            &[
+                (&[Kind::Dynamic, Kind::Text], Kind::Dynamic),
+                (&[Kind::Dynamic, Kind::Long], Kind::Dynamic),
+            ],
         ),
-        DynamicFunc::ParseJson => either(
-            row(kinds, &[Kind::Text], Kind::Dynamic),
-            row(kinds, &[Kind::Dynamic], Kind::Dynamic),
+        DynamicFunc::ParseJson => rows(
+            kinds,
+            &[
+                (&[Kind::Text], Kind::Dynamic),
+                (&[Kind::Dynamic], Kind::Dynamic),
+            ],
         ),
-        DynamicFunc::ToDynamic => either(
-            row(kinds, &[Kind::Text], Kind::Dynamic),
-            row(kinds, &[Kind::Dynamic], Kind::Dynamic),
+        DynamicFunc::ToDynamic => rows(
+            kinds,
+            &[
+                (&[Kind::Text], Kind::Dynamic),
+                (&[Kind::Dynamic], Kind::Dynamic),
+            ],
         ),
         DynamicFunc::ArrayLength => row(kinds, &[Kind::Dynamic], Kind::Long),
         DynamicFunc::ArrayConcat => several_of(1, Kind::Dynamic, Kind::Dynamic, kinds),

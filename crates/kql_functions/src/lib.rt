@@ -17,6 +17,7 @@ pub use func::{
 };
 pub use kinds::result_kind;
 pub use names::{Found, find};
+pub use shapes::{has_order, same_kind};
 pub use tables::{functions, operators};
 pub use window::{Window, windows};
 

@@ -1,11 +1,12 @@
 //! The forms that the types of arguments take: rows of a table, one type throughout, and what belongs in turn.
-ghost use Rattle.std.specs.Prelude.{◌≡◌};
-ghost use Rattle.kql_functions.specs.Kinds.{all_same, are_pairs, behind_text, beside_dynamic, cases_of, either, has_order, is_dynamic, one_among, one_of_any, one_of_cases, one_of_pairs, one_of_two, row, same_kind, same_kinds, several, several_of, two_equal, two_or_more, two_or_more_ordered, two_ordered};
+ghost use Rattle.std.specs.Prelude.{◌≡◌, map};
+ghost use Rattle.kql_functions.specs.Kinds.{all_same, are_pairs, behind_text, beside_dynamic, cases_of, has_order, is_dynamic, one_among, one_of_any, one_of_cases, one_of_pairs, one_of_two, read_row, row, rows, same_kind, same_kinds, several, several_of, two_equal, two_or_more, two_or_more_ordered, two_ordered};
 
 use kql_cells::Kind;
 
-fn same_kind(a: Kind, b: Kind) -> bool
-    ensures { result ≡ same_kind a b }
+/// Whether two types are the same.
+pub fn same_kind(a: Kind, b: Kind) -> bool
+    ensures same { result ≡ same_kind a b }
 {
     match (a, b) {
         (Kind::Bool, Kind::Bool) => true,
@@ -49,13 +50,19 @@ pub(crate) fn row(kinds: &[Kind], taken: &[Kind], given: Kind) -> Option<Kind>
     }
 }
 
-pub(crate) fn either(a: Option<Kind>, b: Option<Kind>) -> Option<Kind>
-    ensures { result ≡ either a b }
+// The first row of a table that fits.
+#[tactic(auto, using(crate::proofs::RowFacts::row_facts))]
+pub(crate) fn rows(kinds: &[Kind], table: &[(&[Kind], Kind)]) -> Option<Kind>
+    ensures { result ≡ rows kinds.now (map read_row table.now) }
 {
-    match a {
-        Some(kind) => Some(kind),
-        None => b,
+    let mut left = table;
+    'rows: while let [first, more @ ..] = left {
+        if let Some(given) = row(kinds, first.0, first.1) {
+            return Some(given);
+        }
+        left = more;
     }
+    None
 }
 
 // One type throughout.
@@ -82,8 +89,9 @@ fn is_dynamic(kind: Kind) -> bool
     }
 }
 
-fn has_order(kind: Kind) -> bool
-    ensures { result ≡ has_order kind }
+/// Whether a type has an order: longs, datetimes and timespans have one.
+pub fn has_order(kind: Kind) -> bool
+    ensures order { result ≡ has_order kind }
 {
     match kind {
         Kind::Long => true,

@@ -6,8 +6,8 @@ use super::{
 use kql_bound::{BExpr, ChainSign, Exprs, Links, StepColumn};
 use kql_cells::KText;
 use kql_functions::{
-    Aggregate, ArithmeticFunc, ChoiceFunc, ComparisonFunc, ConversionFunc, DynamicFunc, Func,
-    LogicFunc, SearchFunc, SearchPlace, Window,
+    ArithmeticFunc, ChoiceFunc, ComparisonFunc, ConversionFunc, DynamicFunc, Func, LogicFunc,
+    SearchFunc, SearchPlace, Window, aggregates,
 };
 use kql_items::Items;
 use kql_texts::Fold;
@@ -260,46 +260,14 @@ fn looks(rt: HostRuntime) -> Result<(), Fail> {
     Ok(())
 }
 
-const AGGREGATES: [Aggregate; 20] = [
-    Aggregate::Count,
-    Aggregate::CountIf,
-    Aggregate::CountDistinct,
-    Aggregate::CountDistinctIf,
-    Aggregate::Sum,
-    Aggregate::SumIf,
-    Aggregate::Min,
-    Aggregate::Max,
-    Aggregate::MinIf,
-    Aggregate::MaxIf,
-    Aggregate::MakeList,
-    Aggregate::MakeListIf,
-    Aggregate::MakeSet,
-    Aggregate::MakeSetIf,
-    Aggregate::ArgMax,
-    Aggregate::ArgMin,
-    Aggregate::TakeAny,
-    Aggregate::BinaryAllAnd,
-    Aggregate::BinaryAllOr,
-    Aggregate::BinaryAllXor,
-];
-
-// The aggregates' names, in that order.
-const AGGREGATE_NAMES: &str =
-    "count countif count_distinct count_distinctif sum sumif min max minif maxif make_list make_list_if make_set make_set_if arg_max arg_min take_any binary_all_and binary_all_or binary_all_xor";
-
 #[test]
-fn aggregates(rt: HostRuntime) -> Result<(), Fail> {
+fn each_aggregate_by_its_name(rt: HostRuntime) -> Result<(), Fail> {
     let alloc = rt.alloc();
-    let mut i = 0;
-    for name in AGGREGATE_NAMES.split(' ') {
-        if i < AGGREGATES.len() {
-            let call = BExpr::Aggregate(AGGREGATES[i], Items::new(alloc));
-            let got = shown_expr(alloc, Ok(call))?;
-            assert_eq!(rt; got.as_str().strip_suffix("()"), Some(name));
-            i += 1;
-        }
+    for f in aggregates() {
+        let call = BExpr::Aggregate(*f, Items::new(alloc));
+        let got = shown_expr(alloc, Ok(call))?;
+        assert_eq!(rt; got.as_str().strip_suffix("()"), Some(f.name()));
     }
-    assert_eq!(rt; i, 20);
     Ok(())
 }
 

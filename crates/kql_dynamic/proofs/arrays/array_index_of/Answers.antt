@@ -2,7 +2,7 @@ use Rattle.std.proofs.Common.{ap, sym, Ok, rules}
 use mir.Val.{SFits}
 use mir.Syntax.{w64}
 use Rattle.std.proofs.lemmas.Int.{to_z-of_z}
-use Rattle.kql_dynamic.proofs.ArrayLemmas.{index-value}
+use Rattle.kql_dynamic.proofs.ArrayFormLaws.{index-value}
 use Rattle.kql_dynamic.proofs.arrays.array_index_of.Goals as goal
 
 pub returns-in-Some-clause-value : goal.returns-in-Some-clause-value

@@ -1,9 +1,11 @@
-use Rattle.std.proofs.Common.{◌≡◌, rules}
+use Rattle.std.proofs.Common.{◌≡◌, Bor, map, rules}
+use Rattle.kql_cells.specs.declared.dynamic.Dyn.{Dyn}
 use Rattle.kql_dynamic.specs.Arrays.{array, array_reverse}
-use Rattle.kql_dynamic.proofs.ArrayLemmas.{formed, reverse-form}
+use Rattle.kql_dynamic.proofs.ArrayFormLaws.{formed, reverse-form}
 use Rattle.kql_dynamic.proofs.arrays.array_reverse.Goals as goal
 
 pub returns-clause-form : goal.returns-clause-form
 returns-clause-form c =
-    let e : array c.reverse.new.self ≡ array_reverse c.args.args.now = search rules in
-    formed _ _ e (reverse-form c.args.args.now c.requires.form)
+    let args = map (λ (d : Bor Dyn). d.now) c.args.args.now in
+    let e : array c.reverse.new.self ≡ array_reverse args = search rules in
+    formed _ _ e (reverse-form args c.requires.form)

@@ -2,7 +2,7 @@ use Rattle.std.proofs.Common.{rules}
 use mir.Val.{SFits}
 use mir.Syntax.{w64}
 use Rattle.std.proofs.lemmas.Int.{to_z-of_z}
-use Rattle.kql_dynamic.proofs.ArrayLemmas.{slice-cut}
+use Rattle.kql_dynamic.proofs.ArrayFormLaws.{slice-cut}
 use Rattle.kql_dynamic.proofs.arrays.sliced.Goals as goal
 
 pub returns : goal.returns

@@ -1,4 +1,4 @@
-use Rattle.kql_dynamic.proofs.BagForms.{keys-form}
+use Rattle.kql_dynamic.proofs.BagFormLaws.{keys-form}
 use Rattle.kql_dynamic.proofs.bags.bag_keys.Goals as goal
 
 pub returns-in_ok-keys_of-in-Some-clause-form :

@@ -1,6 +1,6 @@
 use Rattle.std.specs.Bool.{one_answer}
 use Rattle.kql_cells.specs.Same.{same, same-decides}
-use Rattle.kql_dynamic.proofs.arrays.same.Goals as goal
+use Rattle.kql_dynamic.proofs.hashed.same.Goals as goal
 
 pub returns : goal.returns
 returns c =

@@ -1,4 +1,4 @@
-use Rattle.kql_dynamic.proofs.FormLemmas.{text-form}
+use Rattle.kql_dynamic.proofs.FormLaws.{text-form}
 use Rattle.kql_dynamic.proofs.ReadBack.{read-form}
 use Rattle.kql_dynamic.proofs.json.parse_json.Goals as goal
 

@@ -1,6 +1,6 @@
 use Rattle.std.proofs.Common.{◌≡◌, rules}
 use Rattle.kql_dynamic.specs.Parts.{at_index}
-use Rattle.kql_dynamic.proofs.PartLemmas.{at_index-form}
+use Rattle.kql_dynamic.proofs.PartLaws.{at_index-form}
 use Rattle.kql_dynamic.proofs.parts.at_index.Goals as goal
 
 pub returns-in_ok-clone_dyn-in-Some-element_at-clause-form :

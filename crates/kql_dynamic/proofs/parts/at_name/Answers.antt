@@ -1,6 +1,6 @@
 use Rattle.std.proofs.Common.{◌≡◌, rules}
 use Rattle.kql_dynamic.specs.Parts.{at_name}
-use Rattle.kql_dynamic.proofs.PartLemmas.{at_name-form}
+use Rattle.kql_dynamic.proofs.PartLaws.{at_name-form}
 use Rattle.kql_dynamic.proofs.parts.at_name.Goals as goal
 
 pub returns-in_ok-clone_dyn-in-Some-entry_at-clause-form :

@@ -1,7 +1,7 @@
 use Rattle.std.proofs.Common.{◌<◌, ◌≡◌, ◌∙◌, true, false, length, sym, arith}
 use Rattle.std.proofs.lemmas.Grind.{common_steps}
 use Rattle.std.specs.Str.{bytes_eq}
-use Rattle.kql_dynamic.proofs.PartLemmas.{entry_found, entry_passed}
+use Rattle.kql_dynamic.proofs.PartLaws.{entry_found, entry_passed}
 use Rattle.kql_dynamic.proofs.parts.entry_at.Goals as goal
 
 pub returns-then-eq : goal.returns-then-eq

@@ -3,7 +3,7 @@ use Rattle.std.proofs.lemmas.Grind.{common_steps}
 use Rattle.std.proofs.lemmas.List.{map-append}
 use Rattle.kql_cells.specs.declared.dynamic.Dyn.{Dyn}
 use Rattle.kql_dynamic.specs.Sets.{is_among}
-use Rattle.kql_dynamic.proofs.SetLemmas.{chosen-left, chosen-taken}
+use Rattle.kql_dynamic.proofs.SetFormLaws.{chosen-left, chosen-taken}
 use Rattle.kql_dynamic.proofs.sets.chosen.Goals as goal
 use Rattle.kql_dynamic.proofs.sets.chosen.Goals.{then-contains-wanted+in_ok-push, else-contains-wanted}
 

@@ -3,7 +3,7 @@ use Rattle.std.proofs.lemmas.Grind.{common_steps}
 use Rattle.std.proofs.lemmas.List.{map-append, take_more}
 use Rattle.kql_cells.specs.declared.dynamic.Dyn.{Dyn}
 use Rattle.kql_dynamic.specs.Sets.{is_among}
-use Rattle.kql_dynamic.proofs.SetLemmas.{among-push, distinct-step}
+use Rattle.kql_dynamic.proofs.SetFormLaws.{among-push, distinct-step}
 use Rattle.kql_dynamic.proofs.sets.distinct.Goals as goal
 
 pub loop-part-preserved : goal.loop-part-preserved

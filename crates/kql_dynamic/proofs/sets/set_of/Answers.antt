@@ -2,7 +2,7 @@ use Rattle.std.proofs.Common.{◌≡◌, ◌<◌, ◌+◌, ◌++◌, ◌∷◌, 
 use Rattle.std.proofs.lemmas.Grind.{common_steps}
 use Rattle.std.proofs.lemmas.List.{take_more}
 use Rattle.kql_cells.specs.declared.dynamic.Dyn.{Dyn}
-use Rattle.kql_dynamic.proofs.SetLemmas.{among-push}
+use Rattle.kql_dynamic.proofs.SetFormLaws.{among-push}
 use Rattle.kql_dynamic.proofs.sets.set_of.Goals as goal
 
 pub loop-part-preserved : goal.loop-part-preserved

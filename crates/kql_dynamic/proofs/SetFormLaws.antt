@@ -1,5 +1,5 @@
 -- Each value once, by its first occurrence.
-use Rattle.std.proofs.Common.{◌≡◌, ◌⊎◌, ◌<◌, ◌+◌, ◌||◌, ◌++◌, ◌∷◌, ◌∙◌, ℕ, Bool, true, false, not, cond, if◌then◌else◌, List, [], filter, take, length, get_or, Some, refl, sym, ap, inl, inr}
+use Rattle.std.proofs.Common.{◌≡◌, ◌⊎◌, ◌<◌, ◌+◌, ◌||◌, ◌++◌, ◌∷◌, ◌∙◌, ℕ, Bool, true, false, not, cond, if◌then◌else◌, List, [], filter, take, length, get_or, Option, None, Some, option_and_then, option_map, refl, sym, ap, inl, inr}
 use mathlib.Core.Bool.{beq}
 use Rattle.std.specs.List.{list_all, list_any}
 use Rattle.std.proofs.lemmas.Bool.{cases_Bool, and_parts, and_from}
@@ -10,12 +10,14 @@ use Rattle.std.proofs.lemmas.Map.Views.{any-filter_same}
 use Rattle.kql_cells.specs.Dynamic.{is_well_formed_dynamic}
 use Rattle.kql_cells.specs.Values.{IsWellFormed}
 use Rattle.kql_cells.specs.declared.dynamic.Dyn.{Dyn}
+use Rattle.kql_cells.specs.declared.value.Value.{Value}
 use Rattle.kql_dynamic.specs.Parts.{argument, elements}
 use Rattle.kql_cells.specs.Same.{same, same-decides, same-equiv}
-use Rattle.kql_dynamic.specs.Sets.{chosen, distinct, is_among, set_difference, set_intersect, set_union}
-use Rattle.kql_dynamic.proofs.FormLemmas.{array-form, fits}
-use Rattle.kql_dynamic.proofs.PartLemmas.{elements-fit, or-null-form}
-use Rattle.kql_dynamic.proofs.ArrayLemmas.{argument-fits, list_all-join}
+use Rattle.kql_dynamic.specs.Arrays.{array}
+use Rattle.kql_dynamic.specs.Sets.{chosen, distinct, is_among, of_two_arrays, set_difference, set_intersect, set_union, two_arrays}
+use Rattle.kql_dynamic.proofs.FormLaws.{array-form, fits}
+use Rattle.kql_dynamic.proofs.PartLaws.{elements-fit, or-null-form}
+use Rattle.kql_dynamic.proofs.ArrayFormLaws.{argument-fits, list_all-join}
 
 pub reflexive : (k : Dyn) → same k k ≡ true
 reflexive k = (same-decides k k).1 refl
@@ -126,20 +128,27 @@ list_all-distinct p (x ∷ xs) h =
     let r = and_parts (p x) (list_all p xs) h in
     and_from (p x) (list_all p (filter (λ y. not (same x y)) (distinct xs))) r.0 (list_all-filter p (λ y. not (same x y)) (distinct xs) (list_all-distinct p xs r.1))
 
-part-fit : (args : List Dyn) (i : ℕ) (xs : List Dyn) → list_all is_well_formed_dynamic args ≡ true → elements (argument args i) ≡ Some xs → list_all (fits 126) xs ≡ true
-part-fit args i xs h e = elements-fit (argument args i) xs (argument-fits args i h) e
+-- ---- the form of what is made of two arrays
+
+pair-parts : (o p : Option (List Dyn)) (xs ys : List Dyn) → option_and_then {U = List Dyn × List Dyn} (λ us. option_map {U = List Dyn × List Dyn} (λ vs. (us, vs)) p) o ≡ Some (xs, ys) → (o ≡ Some xs) × (p ≡ Some ys)
+pair-parts None p xs ys e = absurd cc
+pair-parts (Some us) None xs ys e = absurd cc
+pair-parts (Some us) (Some vs) xs ys e = (ap (option_map {T = List Dyn × List Dyn} {U = List Dyn} (λ p. p.0)) e, ap (option_map {T = List Dyn × List Dyn} {U = List Dyn} (λ p. p.1)) e)
+
+two-form : (args : List Dyn) (make : List Dyn → List Dyn → Value) → list_all is_well_formed_dynamic args ≡ true
+    → ((xs ys : List Dyn) → list_all (fits 126) xs ≡ true → list_all (fits 126) ys ≡ true → IsWellFormed (make xs ys)) → IsWellFormed (of_two_arrays args make)
+two-form args make h f = or-null-form (two_arrays args) (λ p. make p.0 p.1) (λ p e.
+    let q = pair-parts (elements (argument args 0)) (elements (argument args 1)) p.0 p.1 e in
+    f p.0 p.1 (elements-fit (argument args 0) p.0 (argument-fits args 0 h) q.0) (elements-fit (argument args 1) p.1 (argument-fits args 1 h) q.1))
 
 pub union-form : (args : List Dyn) → list_all is_well_formed_dynamic args ≡ true → IsWellFormed (set_union args)
-union-form args h =
-    or-null-form (elements (argument args 0)) _ (λ xs e. or-null-form (elements (argument args 1)) _ (λ ys f. array-form (distinct (xs ++ ys)) (list_all-distinct (fits 126) (xs ++ ys)
-    (list_all-join (fits 126) xs ys (part-fit args 0 xs h e) (part-fit args 1 ys h f)))))
+union-form args h = two-form args _ h (λ xs ys f g. array-form (distinct (xs ++ ys)) (list_all-distinct (fits 126) (xs ++ ys) (list_all-join (fits 126) xs ys f g)))
+
+kept-form : (q : Dyn → Bool) (xs : List Dyn) → list_all (fits 126) xs ≡ true → IsWellFormed (array (distinct (filter q xs)))
+kept-form q xs f = array-form (distinct (filter q xs)) (list_all-distinct (fits 126) (filter q xs) (list_all-filter (fits 126) q xs f))
 
 pub intersect-form : (args : List Dyn) → list_all is_well_formed_dynamic args ≡ true → IsWellFormed (set_intersect args)
-intersect-form args h =
-    or-null-form (elements (argument args 0)) _ (λ xs e. or-null-form (elements (argument args 1)) _ (λ ys f. array-form (distinct (filter (is_among ys) xs)) (list_all-distinct (fits 126) (filter (is_among ys) xs)
-    (list_all-filter (fits 126) (is_among ys) xs (part-fit args 0 xs h e)))))
+intersect-form args h = two-form args _ h (λ xs ys f g. kept-form (is_among ys) xs f)
 
 pub difference-form : (args : List Dyn) → list_all is_well_formed_dynamic args ≡ true → IsWellFormed (set_difference args)
-difference-form args h =
-    or-null-form (elements (argument args 0)) _ (λ xs e. or-null-form (elements (argument args 1)) _ (λ ys f. array-form (distinct (filter (λ x. not (is_among ys x)) xs)) (list_all-distinct (fits 126) (filter (λ x. not (is_among ys x)) xs)
-    (list_all-filter (fits 126) (λ x. not (is_among ys x)) xs (part-fit args 0 xs h e)))))
+difference-form args h = two-form args _ h (λ xs ys f g. kept-form (λ x. not (is_among ys x)) xs f)

@@ -13,9 +13,9 @@ use Rattle.kql_cells.specs.declared.value.Value.{Value}
 use Rattle.kql_cells.specs.declared.value.Value.TheVariants as value
 use Rattle.kql_dynamic.specs.Bags.{bag, bag_merge, bag_of, bag_pack, entries_backwards, pairs, put}
 use Rattle.kql_dynamic.specs.Parts.{entries, text, value_or_null, value_within_levels}
-use Rattle.kql_dynamic.proofs.FormLemmas.{array-form, bag-form, fits, fits-Text, null-Bag}
-use Rattle.kql_dynamic.proofs.PartLemmas.{entries-fit, or-null-form}
-use Rattle.kql_dynamic.proofs.BagLemmas.{ascends-bag_of, each-bag_of}
+use Rattle.kql_dynamic.proofs.FormLaws.{array-form, bag-form, fits, fits-Text, null-Bag}
+use Rattle.kql_dynamic.proofs.PartLaws.{entries-fit, or-null-form}
+use Rattle.kql_dynamic.proofs.BagPutLaws.{ascends-bag_of, each-bag_of}
 
 abbrev pub Entries : Type 0
 Entries = List (List ℕ × Dyn)

@@ -11,7 +11,7 @@ use Rattle.kql_cells.specs.declared.dynamic.Dyn.TheOpen.{Dyn-F}
 use Rattle.kql_cells.specs.declared.dynamic.Dyn.TheVariants as V
 use Rattle.kql_cells.specs.declared.value.Value.{Value}
 use Rattle.kql_dynamic.specs.Parts.{at_index, at_name, elements, elements_step, element_at, entries, entries_step, entry_at, from_start, long, value_of, value_or_null}
-use Rattle.kql_dynamic.proofs.FormLemmas.{fits, fits-Array, fits-Bag, fits-weaker, value-form}
+use Rattle.kql_dynamic.proofs.FormLaws.{fits, fits-Array, fits-Bag, fits-weaker, value-form}
 
 -- the place of a key goes on
 pub entry_found : (n : List ℕ) (es : List (List ℕ × Dyn)) (i : ℕ) (e : List ℕ × Dyn) → i < length es → e ≡ get_or es i e → entry_at n (take i es) ≡ None → bytes_eq e.0 n ≡ true → entry_at n es ≡ Some e.1

@@ -1,9 +1,9 @@
 -- Joins, slices and the form of what is made of elements.
-use Rattle.std.proofs.Common.{◌≡◌, ◌<◌, ◌+◌, ◌-◌, ℕ, zero, suc, min, Bool, true, List, [], ◌∷◌, ◌++◌, take, drop, length, get_or, append_assoc, Option, Some, None, option_map, option_and_then, refl, sym, ap, ◌∙◌, inl, inr, arith}
+use Rattle.std.proofs.Common.{Bor, ◌≡◌, ◌<◌, ◌≤◌, ◌+◌, ◌-◌, ℕ, zero, suc, min, Bool, true, List, [], ◌∷◌, ◌++◌, map, take, drop, length, get_or, append_assoc, Option, Some, None, option_map, option_and_then, refl, sym, ap, ◌∙◌, inl, inr, arith}
 use Rattle.std.specs.Prelude.{ℤ, nat_le, position, reverse, slice_range}
 use Rattle.std.specs.List.{list_all}
 use Rattle.std.proofs.lemmas.Bool.{cases_lt, and_parts, and_from}
-use Rattle.std.proofs.lemmas.List.{append-nil, reverse-append, take_all, drop_all, length-drop, take_more}
+use Rattle.std.proofs.lemmas.List.{append-nil, map-append, reverse-append, take_all, drop_all, length-drop, take_more}
 use Rattle.std.proofs.lemmas.List.Folds.{list_all-append}
 use Rattle.kql_cells.specs.Dynamic.{has_form, is_well_formed_dynamic, levels}
 use Rattle.kql_cells.proofs.FormLaws.{has_form-Array}
@@ -15,8 +15,8 @@ use Rattle.kql_cells.specs.declared.value.Value.TheVariants as value
 use Rattle.kql_dynamic.specs.Arrays.{array, array_concat, array_reverse, array_slice, joined, place_or_less, sliced}
 use Rattle.kql_cells.specs.Same.{same}
 use Rattle.kql_dynamic.specs.Parts.{argument, elements, long, value_or_null}
-use Rattle.kql_dynamic.proofs.FormLemmas.{array-form, fits, fits-Null, null-Array}
-use Rattle.kql_dynamic.proofs.PartLemmas.{elements-fit, or-null-form}
+use Rattle.kql_dynamic.proofs.FormLaws.{array-form, fits, fits-Null, null-Array}
+use Rattle.kql_dynamic.proofs.PartLaws.{elements-fit, or-null-form}
 
 -- ---- lists
 
@@ -88,14 +88,24 @@ joined-push (x ∷ ds) d xs ys e f =
     let p = joined-parts (elements x) (joined ds) xs e in
     joined-by (elements x) (joined (ds ++ d ∷ [])) p.0 (p.1 ++ ys) p.2 (joined-push ds d p.1 ys p.3 f) ∙ ap Some (sym (append_assoc p.0 p.1 ys) ∙ ap (λ l. l ++ ys) p.4)
 
-pub joined-more : (ds : List Dyn) (i : ℕ) (d : Dyn) (xs ys : List Dyn) → i < length ds → d ≡ get_or ds i d → joined (take i ds) ≡ Some xs → elements d ≡ Some ys → joined (take (i + 1) ds) ≡ Some (xs ++ ys)
-joined-more ds i d xs ys lt is e f = rw (take_more ds i d lt, ← is) (joined-push (take i ds) d xs ys e f)
+-- the same of arrays that are lent
+abbrev pub lent : List (Bor Dyn) → List Dyn
+lent ds = map (λ d. d.now) ds
+
+pub lent-more : (ds : List (Bor Dyn)) (i : ℕ) (d : Bor Dyn) → i < length ds → d ≡ get_or ds i d → lent (take (i + 1) ds) ≡ lent (take i ds) ++ d.now ∷ []
+lent-more ds i d lt is = ap lent (take_more ds i d lt ∙ ap (λ (y : Bor Dyn). take i ds ++ y ∷ []) (sym is)) ∙ map-append (λ (x : Bor Dyn). x.now) (take i ds) (d ∷ [])
+
+pub lent-last : (ds : List (Bor Dyn)) (n : ℕ) (d : Bor Dyn) → 0 < n → n ≤ length ds → d ≡ get_or ds (n - 1) d → lent (take n ds) ≡ lent (take (n - 1) ds) ++ d.now ∷ []
+lent-last ds n d p l is = let e : n ≡ n - 1 + 1 = omega arith in ap (λ k. lent (take k ds)) e ∙ lent-more ds (n - 1) d (omega arith) is
+
+pub joined-more : (ds : List (Bor Dyn)) (i : ℕ) (d : Bor Dyn) (xs ys : List Dyn) → i < length ds → d ≡ get_or ds i d → joined (lent (take i ds)) ≡ Some xs → elements d.now ≡ Some ys → joined (lent (take (i + 1) ds)) ≡ Some (xs ++ ys)
+joined-more ds i d xs ys lt is e f = rw (lent-more ds i d lt is) (joined-push (lent (take i ds)) d.now xs ys e f)
 
 -- where one is no array
-pub joined-none : (ds : List Dyn) (i : ℕ) (d : Dyn) → i < length ds → d ≡ get_or ds i d → elements d ≡ None → joined ds ≡ None
+pub joined-none : (ds : List (Bor Dyn)) (i : ℕ) (d : Bor Dyn) → i < length ds → d ≡ get_or ds i d → elements d.now ≡ None → joined (lent ds) ≡ None
 joined-none [] i d lt is f = absurd (omega arith)
 joined-none (x ∷ ds) zero d lt is f = rw (← is, f) refl
-joined-none (x ∷ ds) (suc i) d lt is f = rw (joined-none ds i d (omega arith) is f) (none-joined (elements x))
+joined-none (x ∷ ds) (suc i) d lt is f = rw (joined-none ds i d (omega arith) is f) (none-joined (elements x.now))
 
 -- ---- the form
 
