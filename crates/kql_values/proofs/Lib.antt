@@ -1,8 +1,8 @@
 pub mod CatalogueLaws
 pub mod GridLaws
 pub mod NullableFacts
-pub mod PieceFacts
+pub mod PieceLaws
 pub mod WidthLaws
 pub mod StoreFacts
-pub mod TableFacts
+pub mod TableLaws
 pub mod TextFacts
