@@ -2,8 +2,8 @@ pub mod BuilderFacts
 pub mod CatalogueLaws
 pub mod GridLaws
 pub mod NullableFacts
-pub mod PieceFacts
+pub mod PieceLaws
 pub mod WidthLaws
 pub mod StoreFacts
-pub mod TableFacts
+pub mod TableLaws
 pub mod TextFacts

@@ -33,3 +33,6 @@ pub use vectors::absent_cell;
 
 /// Tables, one after another.
 pub type Tables = Items<Table>;
+
+#[cfg(test)]
+mod tests;

@@ -165,7 +165,7 @@ pub(crate) fn copy_columns(alloc: Global, columns: &Vec<Vector>) -> Result<Vec<V
 }
 
 // An empty vector for each column.
-#[tactic(auto, using(crate::proofs::TableFacts::column_facts))]
+#[tactic(auto, using(crate::proofs::TableLaws::column_facts))]
 pub(crate) fn empty_columns(alloc: Global, schema: &[Column]) -> Result<Vec<Vector>, AllocError>
     ensures { IfOk result (λ v. ColumnsFit schema.now 0 v.items) }
 {

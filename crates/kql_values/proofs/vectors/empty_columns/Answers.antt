@@ -1,4 +1,4 @@
-use Rattle.kql_values.proofs.TableFacts.{fits-empty-step}
+use Rattle.kql_values.proofs.TableLaws.{fits-empty-step}
 use Rattle.kql_values.proofs.vectors.empty_columns.Goals as goal
 
 pub loop-column-preserved : goal.loop-column-preserved

@@ -3,7 +3,7 @@ use Rattle.std.specs.Prelude.{All}
 use Rattle.kql_cells.specs.Seen.{seen}
 use Rattle.kql_values.specs.Moves.{IsWithin, absent}
 use Rattle.kql_cells.specs.declared.schema.Column.{Column}
-use Rattle.kql_values.proofs.TableFacts.{or_absent-nil, or_absent-step}
+use Rattle.kql_values.proofs.TableLaws.{or_absent-nil, or_absent-step}
 use Rattle.kql_values.proofs.vectors.gather_or_absent_columns.Goals as goal
 
 pub loop-j-init : goal.loop-j-init

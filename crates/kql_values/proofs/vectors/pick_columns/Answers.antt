@@ -1,7 +1,7 @@
 use Rattle.std.proofs.Common.{◌≡◌, [], get_or, subst, sym, ap, ◌∙◌}
 use Rattle.std.proofs.Math.ListN.{set}
 use Rattle.std.proofs.lemmas.List.{get_or_default}
-use Rattle.kql_values.proofs.TableFacts.{agree-first, pick-step}
+use Rattle.kql_values.proofs.TableLaws.{agree-first, pick-step}
 use Rattle.kql_values.proofs.vectors.pick_columns.Goals as goal
 
 pub loop-k-init : goal.loop-k-init

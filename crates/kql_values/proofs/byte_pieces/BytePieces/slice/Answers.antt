@@ -1,6 +1,6 @@
 use Rattle.std.proofs.Common.{◌<◌, ◌≤◌, ◌-◌, length, take, drop, arith}
 use Rattle.kql_values.specs.Pieces.{pieces}
-use Rattle.kql_values.proofs.PieceFacts.{end-of, part, pieces-length, rises-above, rises-low, rises-part}
+use Rattle.kql_values.proofs.PieceLaws.{end-of, part, pieces-length, rises-above, rises-low, rises-part}
 use Rattle.kql_values.proofs.byte_pieces.BytePieces.slice.Goals as goal
 
 pub lowered-requires : goal.lowered-requires

@@ -1,6 +1,6 @@
 use Rattle.std.proofs.Common.{◌≡◌, refl}
 use Rattle.kql_values.specs.Moves.{kinds_of}
-use Rattle.kql_values.proofs.TableFacts.{kinds-width, same-grid, table-appended}
+use Rattle.kql_values.proofs.TableLaws.{kinds-width, same-grid, table-appended}
 use Rattle.kql_values.proofs.table.Table.append.Goals as goal
 
 pub append_to_each-requires-clause-width : goal.append_to_each-requires-clause-width

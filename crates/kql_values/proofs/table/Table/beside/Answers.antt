@@ -1,5 +1,5 @@
 use Rattle.std.proofs.Common.{◌≡◌, ◌++◌, refl, ◌∙◌}
-use Rattle.kql_values.proofs.TableFacts.{same-grid, table-beside}
+use Rattle.kql_values.proofs.TableLaws.{same-grid, table-beside}
 use Rattle.kql_values.proofs.table.Table.beside.Goals as goal
 
 pub invariant_of-result : goal.invariant_of-result

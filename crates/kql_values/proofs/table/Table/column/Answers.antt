@@ -1,7 +1,7 @@
 use Rattle.std.proofs.Common.{subst, sym}
 use Rattle.std.specs.Prelude.{All}
 use Rattle.kql_cells.specs.Table.{CellFits}
-use Rattle.kql_values.proofs.TableFacts.{fits-column, table-column}
+use Rattle.kql_values.proofs.TableLaws.{fits-column, table-column}
 use Rattle.kql_values.proofs.table.Table.column.Goals as goal
 
 pub returns-clause-cells : goal.returns-clause-cells

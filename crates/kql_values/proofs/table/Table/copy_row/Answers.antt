@@ -1,4 +1,4 @@
-use Rattle.kql_values.proofs.TableFacts.{table-row}
+use Rattle.kql_values.proofs.TableLaws.{table-row}
 use Rattle.kql_values.proofs.table.Table.copy_row.Goals as goal
 
 pub returns : goal.returns

@@ -1,5 +1,5 @@
 use Rattle.std.proofs.Common.{rules}
-use Rattle.kql_values.proofs.TableFacts.{same-grid, table-or_absent}
+use Rattle.kql_values.proofs.TableLaws.{same-grid, table-or_absent}
 use Rattle.kql_values.proofs.table.Table.gather_or_absent.Goals as goal
 
 pub invariant_of-result : goal.invariant_of-result

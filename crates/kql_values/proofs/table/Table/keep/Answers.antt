@@ -1,5 +1,5 @@
 use Rattle.std.proofs.Common.{refl, rules}
-use Rattle.kql_values.proofs.TableFacts.{same-grid, table-gathered}
+use Rattle.kql_values.proofs.TableLaws.{same-grid, table-gathered}
 use Rattle.kql_values.proofs.table.Table.keep.Goals as goal
 
 pub invariant_of-self : goal.invariant_of-self

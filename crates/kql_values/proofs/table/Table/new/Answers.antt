@@ -1,5 +1,5 @@
 use Rattle.std.proofs.Common.{◌<◌, arith}
-use Rattle.kql_values.proofs.TableFacts.{grid-fits}
+use Rattle.kql_values.proofs.TableLaws.{grid-fits}
 use Rattle.kql_values.proofs.table.Table.new.Goals as goal
 
 pub invariant_of-result : goal.invariant_of-result

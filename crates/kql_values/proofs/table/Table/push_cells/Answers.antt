@@ -2,7 +2,7 @@ use Rattle.std.proofs.Common.{map, refl, ◌∙◌}
 use Rattle.std.proofs.lemmas.List.{length-map}
 use Rattle.kql_cells.specs.Seen.{seen}
 use Rattle.kql_cells.specs.Table.{RowFits}
-use Rattle.kql_values.proofs.TableFacts.{row-width, same-grid, table-pushed}
+use Rattle.kql_values.proofs.TableLaws.{row-width, same-grid, table-pushed}
 use Rattle.kql_values.proofs.table.Table.push_cells.Goals as goal
 
 pub push_to_each-requires-clause-width : goal.push_to_each-requires-clause-width

@@ -1,5 +1,5 @@
 use Rattle.std.proofs.Common.{◌≡◌, ◌++◌, ◌∷◌, [], ap, ◌∙◌}
-use Rattle.kql_values.proofs.TableFacts.{same-grid, table-widened}
+use Rattle.kql_values.proofs.TableLaws.{same-grid, table-widened}
 use Rattle.kql_values.proofs.table.Table.push_column.Goals as goal
 
 pub invariant_of-self-2 : goal.invariant_of-self-2

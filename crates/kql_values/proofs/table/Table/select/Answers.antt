@@ -1,7 +1,7 @@
 use Rattle.std.proofs.Common.{◌≡◌, ◌<◌, ℕ, length, map, ◌∙◌}
 use Rattle.std.specs.Prelude.{All}
 use Rattle.kql_values.specs.Moves.{column_of}
-use Rattle.kql_values.proofs.TableFacts.{distinct-picked, same-grid, table-selected}
+use Rattle.kql_values.proofs.TableLaws.{distinct-picked, same-grid, table-selected}
 use Rattle.kql_values.proofs.table.Table.select.Goals as goal
 
 pub from_items-requires : goal.from_items-requires

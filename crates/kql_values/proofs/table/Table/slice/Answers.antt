@@ -1,7 +1,7 @@
 use Rattle.std.proofs.Common.{◌≤◌, length, arith}
 use Rattle.kql_values.specs.Grids.{rows_of}
 use Rattle.kql_values.proofs.GridLaws.{rows_of-length}
-use Rattle.kql_values.proofs.TableFacts.{same-grid, table-part}
+use Rattle.kql_values.proofs.TableLaws.{same-grid, table-part}
 use Rattle.kql_values.proofs.table.Table.slice.Goals as goal
 
 pub invariant_of-result : goal.invariant_of-result

@@ -2,7 +2,7 @@ use Rattle.std.proofs.Common.{◌≤◌, ◌<◌, length, refl, sym, arith}
 use Rattle.std.proofs.lemmas.List.{take_all}
 use Rattle.kql_values.specs.Grids.{rows_of}
 use Rattle.kql_values.proofs.GridLaws.{rows_of-length}
-use Rattle.kql_values.proofs.TableFacts.{same-grid, table-first}
+use Rattle.kql_values.proofs.TableLaws.{same-grid, table-first}
 use Rattle.kql_values.proofs.table.Table.truncate.Goals as goal
 
 pub invariant_of-self : goal.invariant_of-self

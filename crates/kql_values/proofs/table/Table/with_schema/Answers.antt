@@ -1,4 +1,4 @@
-use Rattle.kql_values.proofs.TableFacts.{fits-kinds}
+use Rattle.kql_values.proofs.TableLaws.{fits-kinds}
 use Rattle.kql_values.proofs.table.Table.with_schema.Goals as goal
 
 pub invariant_of-result : goal.invariant_of-result

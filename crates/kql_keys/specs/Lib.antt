@@ -1,0 +1,4 @@
+pub mod Keys
+pub mod Matches
+pub mod Numbers
+pub mod Places

@@ -1,0 +1,77 @@
+ghost use Rattle.std.specs.Prelude.{◌≡◌, ◌<◌, ◌≤◌, ◌++◌, ◌∷◌, [], All, IfOk, OnOk, length, map, if◌then◌else◌};
+ghost use Rattle.kql_keys.specs.Keys.{keys_of};
+ghost use Rattle.kql_keys.specs.Numbers.{distinct, first_places, numbers_of};
+ghost use Rattle.kql_cells.specs.Same.{same_cells};
+
+use crate::key::KeyRef;
+use indexmap::IndexSet;
+use kql_items::Items;
+use kql_values::Vector;
+use std::alloc::{AllocError, Global};
+
+/// The number of each row's key, and the place of the first row of each key, by numbers.
+#[derive(Drop)]
+pub struct Numbered {
+    pub numbers: Items<usize>,
+    pub firsts: Items<usize>,
+}
+
+/// The distinct keys of rows in order of first occurrence, and what `Numbered` has.
+#[derive(Drop)]
+pub struct KeyIndex<'a> {
+    pub seen: IndexSet<KeyRef<'a>>,
+    pub numbers: Items<usize>,
+    pub firsts: Items<usize>,
+}
+
+/// The keys of the first rows of these columns by number.
+pub fn index_keys<'a>(
+    alloc: Global,
+    columns: &'a [&'a Vector],
+    count: usize,
+) -> Result<KeyIndex<'a>, AllocError>
+    requires { All (λ c. count ≤ length c.now) columns.now }
+    ensures keys { IfOk result (λ x. x.seen.keys ≡ distinct same_cells (keys_of (map (λ c. c.now) columns.now) count)) }
+    ensures numbers { IfOk result (λ x. x.numbers ≡ numbers_of same_cells (keys_of (map (λ c. c.now) columns.now) count)) }
+    ensures firsts { IfOk result (λ x. x.firsts ≡ first_places same_cells (keys_of (map (λ c. c.now) columns.now) count)) }
+{
+    let mut seen: IndexSet<KeyRef<'a>> = IndexSet::new(alloc);
+    let mut numbers = Items::with_capacity(alloc, count)?;
+    let mut firsts = Items::new(alloc);
+    for i in 0..count {
+        let key = KeyRef::new(columns, i);
+        let (place, added) = seen.insert_full(key)?;
+        numbers.push(place)?;
+        push_if(added, &mut firsts, i)?;
+    }
+    Ok(KeyIndex {
+        seen,
+        numbers,
+        firsts,
+    })
+}
+
+/// The number of each row's key, where the distinct keys are numbered in order of first occurrence, and the first row of each.
+pub fn number_keys(alloc: Global, columns: &[&Vector], count: usize) -> Result<Numbered, AllocError>
+    requires { All (λ c. count ≤ length c.now) columns.now }
+    ensures numbers { IfOk result (λ x. x.numbers ≡ numbers_of same_cells (keys_of (map (λ c. c.now) columns.now) count)) }
+    ensures firsts { IfOk result (λ x. x.firsts ≡ first_places same_cells (keys_of (map (λ c. c.now) columns.now) count)) }
+    ensures within { IfOk result (λ x. All (λ n. n < length x.firsts) x.numbers) }
+{
+    let KeyIndex {
+        seen: _,
+        numbers,
+        firsts,
+    } = index_keys(alloc, columns, count)?;
+    Ok(Numbered { numbers, firsts })
+}
+
+// Adds a place where that is wanted.
+fn push_if(wanted: bool, places: &mut Items<usize>, place: usize) -> Result<(), AllocError>
+    ensures { OnOk result (places.new ≡ (if wanted then places.old ++ place ∷ [] else places.old)) }
+{
+    if wanted {
+        places.push(place)?;
+    }
+    Ok(())
+}
