@@ -1,9 +1,10 @@
 -- The rows of a request, and where there are none.
-use Rattle.std.proofs.Common.{◌≡◌, ◌<◌, ◌∙◌, ℕ, true, Bool, ◌&&◌, List, [], ◌∷◌, ◌++◌, ap, length, refl, sym, inl, inr}
+use Rattle.std.proofs.Common.{◌≡◌, ◌<◌, ◌+◌, ◌∙◌, ℕ, true, false, Bool, ◌&&◌, List, [], ◌∷◌, ◌++◌, ap, length, map, refl, sym, take, inl, inr}
 use Rattle.std.specs.Prelude.{All, Ok, Err, filter}
 use Rattle.std.proofs.lemmas.Bool.{cases_Bool}
-use Rattle.std.proofs.lemmas.List.{append-nil}
-use Rattle.std.proofs.lemmas.List.Elements.{All-push}
+use Rattle.std.proofs.lemmas.List.{append-nil, map-append}
+use Rattle.std.proofs.lemmas.List.Elements.{All-push, filter_more}
+use Rattle.kql_cells.specs.Seen.{row_at}
 use Rattle.kql_cells.specs.Table.{Grid}
 use Rattle.kql_cells.specs.Catalogues.{Named}
 use Rattle.kql_cells.specs.declared.schema.Column.{Column}
@@ -73,3 +74,13 @@ unfolding kept_by kept meets_all
 kept-together [] g = ap (λ rows. record { columns = g.columns; lines = rows }) (sym (filter-all g.lines))
 kept-together (c ∷ cs) g =
     kept-together cs (kept c g) ∙ ap (λ rows. record { columns = g.columns; lines = rows }) (filter-both (meets c) (meets_all cs) g.lines)
+
+-- the places of the rows that pass a test, with one row more that passes it
+pub places-more : (rows : List (List Value)) (p : List Value → Bool) (places new : List ℕ) (i : ℕ) → i < length rows → p (row_at rows i) ≡ true → new ≡ places ++ i ∷ []
+    → map (row_at rows) places ≡ filter p (take i rows) → map (row_at rows) new ≡ filter p (take (i + 1) rows)
+places-more rows p places new i lt y e h = rw (e, map-append (row_at rows) places (i ∷ []), h, filter_more p rows i [] lt, y) refl
+
+-- and with one that does not
+pub places-same : (rows : List (List Value)) (p : List Value → Bool) (places : List ℕ) (i : ℕ) → i < length rows → p (row_at rows i) ≡ false
+    → map (row_at rows) places ≡ filter p (take i rows) → map (row_at rows) places ≡ filter p (take (i + 1) rows)
+places-same rows p places i lt n h = rw (h, filter_more p rows i [] lt, n) (sym (append-nil (filter p (take i rows))))

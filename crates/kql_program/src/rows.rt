@@ -129,7 +129,7 @@ fn keep_rows(alloc: Global, table: &Table, conditions: &[Condition]) -> Result<T
     ensures rows { IfOk result (λ t. t ≡ kept_by conditions.now table.now) }
 {
     let places = kept_places(alloc, table, conditions)?;
-    table.gather(alloc, places.as_slice())
+    Ok(table.gather(alloc, places.as_slice())?)
 }
 
 // The places of the rows that meet all conditions, in order.

@@ -18,7 +18,7 @@ loop-j-preserved c =
     let lt : j < length columns = c.loop-j-test.true in
     let within : j < length names = omega (arith, length-map columns (λ column. column.name)) in
     let here = get_or-map (λ column. column.name) columns j c.index-columns-j.result [] lt in
-    let name : c.as_str.result.now ≡ get_or names j [] = c.as_str.ensures.same ∙ (ap (λ column. column.name) c.index-columns-j.is ∙ sym here) in
+    let name : c.as_str.result.now ≡ get_or names j [] = c.as_str.ensures.same ∙ sym here in
     record {
       text = line-step c.args.out.now.items _ _ _ c.as_str.result.now names j within c.loop-j.invariant.text c.in_ok-push_separator.ensures name c.in_ok-push_field.ensures.added;
       utf8 = rw (take_more names j [] within, ← name) (text-push (take j names) c.as_str.result.now c.loop-j.invariant.utf8 c.as_str.utf8);
