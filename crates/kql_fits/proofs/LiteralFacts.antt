@@ -7,7 +7,7 @@ use Rattle.kql_cells.specs.declared.value.Kind.{Kind}
 use Rattle.kql_cells.specs.declared.value.Value.{Value}
 use Rattle.kql_meaning.specs.Literals.{is_of_kind, is_well_formed}
 use Rattle.kql_meaning.specs.Values.{same_key}
-use Rattle.kql_meaning.proofs.KeyLaws.{same_key-decides}
+use Rattle.kql_cells.specs.Keys.{same_key-decides}
 use Rattle.kql_meaning.proofs.LiteralLaws.{is_of_kind-decides, is_well_formed-decides}
 
 pub kind-told : (r : Bool) (k : Kind) (v : Value) → IsTrue r ↔ IsOfKind k v → r ≡ is_of_kind k v

@@ -4,7 +4,7 @@ use Rattle.std.specs.Prelude.{IsTrue, ◌↔◌}
 use Rattle.std.proofs.lemmas.List.{get_or-map, length-map}
 use Rattle.std.specs.Bool.{one_answer}
 use Rattle.kql_keys.specs.Keys.{key_at}
-use Rattle.kql_cells.specs.Same.{same_cells, same_cells-decides}
+use Rattle.kql_cells.specs.Keys.{same_keys, same_keys-decides}
 use Rattle.kql_cells.specs.Seen.{value_at}
 use Rattle.kql_cells.specs.declared.value.Value.{Value}
 use Rattle.kql_cells.specs.declared.value.Value.TheVariants as val
@@ -20,5 +20,5 @@ key-cell columns i j d lt =
 
 pub ruleset key_facts = (key-length, key-cell)
 
-pub same-answer : (a b : List Value) (r : Bool) → (IsTrue r ↔ (a ≡ b)) → r ≡ same_cells a b
-same-answer a b r h = one_answer r (same_cells a b) (h.0, h.1) (same_cells-decides a b)
+pub same-answer : (a b : List Value) (r : Bool) → (IsTrue r ↔ (a ≡ b)) → r ≡ same_keys a b
+same-answer a b r h = one_answer r (same_keys a b) (h.0, h.1) (same_keys-decides a b)

@@ -12,7 +12,7 @@ use Rattle.kql_keys.specs.Keys.{key_at, keys_of}
 use Rattle.kql_keys.specs.Matches.{keys_match, matches_in}
 use Rattle.kql_keys.specs.Numbers.{distinct, first_places, numbers_of, places_from}
 use Rattle.kql_keys.specs.Places.{places_of}
-use Rattle.kql_cells.specs.Same.{same_cells, same_cells-decides}
+use Rattle.kql_cells.specs.Keys.{same_keys, same_keys-decides}
 use Rattle.kql_keys.proofs.NumberLaws.{distinct-are, places-agree, places-filter, places-map}
 use Rattle.kql_keys.proofs.ProbeFacts.{number-at, numbers-low}
 
@@ -22,12 +22,12 @@ unfolding matches_in
 matches-are key k n = places-filter key (keys_match k) 0 n
 
 -- each number is less than the count of first places
-pub numbers-within : (columns : List (List Value)) (count : ℕ) (numbers firsts : List ℕ) → numbers ≡ numbers_of same_cells (keys_of columns count)
-    → firsts ≡ first_places same_cells (keys_of columns count) → (k d : ℕ) → k < length numbers → get_or numbers k d < length firsts
+pub numbers-within : (columns : List (List Value)) (count : ℕ) (numbers firsts : List ℕ) → numbers ≡ numbers_of same_keys (keys_of columns count)
+    → firsts ≡ first_places same_keys (keys_of columns count) → (k d : ℕ) → k < length numbers → get_or numbers k d < length firsts
 numbers-within columns count numbers firsts en ef k d =
     let ks = keys_of columns count in
-    let size : length (distinct same_cells ks) ≡ length (first_places same_cells ks) = ap length (distinct-are same_cells same_cells-decides (key_at columns) count) ∙ length-map (first_places same_cells ks) (key_at columns) in
-    rw (en, ef, ← size) (numbers-low same_cells same_cells-decides ks k d)
+    let size : length (distinct same_keys ks) ≡ length (first_places same_keys ks) = ap length (distinct-are same_keys same_keys-decides (key_at columns) count) ∙ length-map (first_places same_keys ks) (key_at columns) in
+    rw (en, ef, ← size) (numbers-low same_keys same_keys-decides ks k d)
 
 or-none : (a b : Bool) → (a || b) ≡ false → (a ≡ false) × (b ≡ false)
 or-none true b e = cc

@@ -13,10 +13,10 @@ use Rattle.std.proofs.lemmas.List.Sums.{passes_at_first, position_or_len_is}
 use Rattle.kql_cells.specs.declared.value.Value.{Value}
 use Rattle.kql_cells.specs.declared.value.Value.TheVariants as val
 use Rattle.kql_keys.specs.Keys.{key_at}
-use Rattle.kql_keys.specs.Matches.{has_null, is_null, keys_match, matches_in, pairs_of}
+use Rattle.kql_keys.specs.Matches.{has_null, keys_match, matches_in, pairs_of}
 use Rattle.kql_keys.specs.Numbers.{distinct, numbers_of, places_from}
 use Rattle.kql_keys.specs.Places.{places_by, places_of}
-use Rattle.kql_cells.specs.Same.{same_cells, same_cells-decides}
+use Rattle.kql_cells.specs.Keys.{is_null, same_keys, same_keys-decides}
 use Rattle.kql_keys.proofs.NumberFacts.{any-distinct}
 use Rattle.kql_keys.proofs.NumberLaws.{places-agree, places-map, places-none, range-suc}
 
@@ -85,36 +85,36 @@ module _ {K : Type 0} (same : K → K → Bool) (says : (a b : K) → Decides (s
   unfolding numbers_of
   numbers-low ks = low (distinct same ks) ks (λ x e. any-distinct same says x ks ∙ e)
 
-pub found-some : (ks keys : List (List Value)) (k : List Value) (lists : List (List ℕ)) (g : ℕ) → keys ≡ distinct same_cells ks
-    → lists ≡ places_by (numbers_of same_cells ks) (length (distinct same_cells ks)) → has_null k ≡ false → position (same_cells k) keys ≡ Some g
+pub found-some : (ks keys : List (List Value)) (k : List Value) (lists : List (List ℕ)) (g : ℕ) → keys ≡ distinct same_keys ks
+    → lists ≡ places_by (numbers_of same_keys ks) (length (distinct same_keys ks)) → has_null k ≡ false → position (same_keys k) keys ≡ Some g
     → (g < length lists) × (get_or lists g [] ≡ matches_in ks k)
 unfolding places_by matches_in
 found-some ks keys k lists g ek el clean e =
-    let p : position (same_cells k) (distinct same_cells ks) ≡ Some g = rw ek at e in
-    let c = length (distinct same_cells ks) in
-    let gc = (position-Some (same_cells k) (distinct same_cells ks) g k p).0 in
-    let size = length-map-range_with_len (places_of (numbers_of same_cells ks)) 0 c in
-    let read = get_or-map-range_with_len (places_of (numbers_of same_cells ks)) 0 c g g [] gc (omega arith) in
-    let agree = places-agree 0 (same_cells k) (keys_match k) (λ j. elim (cases_Bool (same_cells k j)) [ inl t ↦ rw (t, clean) refl | inr f ↦ rw f refl ]) ks in
-    rw el (rw size gc, read ∙ group-is same_cells same_cells-decides ks k g p ∙ agree)
+    let p : position (same_keys k) (distinct same_keys ks) ≡ Some g = rw ek at e in
+    let c = length (distinct same_keys ks) in
+    let gc = (position-Some (same_keys k) (distinct same_keys ks) g k p).0 in
+    let size = length-map-range_with_len (places_of (numbers_of same_keys ks)) 0 c in
+    let read = get_or-map-range_with_len (places_of (numbers_of same_keys ks)) 0 c g g [] gc (omega arith) in
+    let agree = places-agree 0 (same_keys k) (keys_match k) (λ j. elim (cases_Bool (same_keys k j)) [ inl t ↦ rw (t, clean) refl | inr f ↦ rw f refl ]) ks in
+    rw el (rw size gc, read ∙ group-is same_keys same_keys-decides ks k g p ∙ agree)
 
 places-never : {X : Type 0} (n : ℕ) (xs : List X) → places_from n (λ x. false) xs ≡ []
 places-never n [] = refl
 places-never n (x ∷ xs) = places-never (suc n) xs
 
-pub found-none : (ks keys : List (List Value)) (k : List Value) → keys ≡ distinct same_cells ks → list_any (same_cells k) keys ≡ false → matches_in ks k ≡ []
+pub found-none : (ks keys : List (List Value)) (k : List Value) → keys ≡ distinct same_keys ks → list_any (same_keys k) keys ≡ false → matches_in ks k ≡ []
 unfolding matches_in
 found-none ks keys k ek e =
-    let gone : list_any (same_cells k) ks ≡ false = sym (any-distinct same_cells same_cells-decides k ks) ∙ (rw ek at e) in
+    let gone : list_any (same_keys k) ks ≡ false = sym (any-distinct same_keys same_keys-decides k ks) ∙ (rw ek at e) in
     elim (cases_Bool (has_null k)) [
-      | inl t ↦ places-agree 0 (keys_match k) (λ j. false) (λ j. elim (cases_Bool (same_cells k j)) [ inl u ↦ rw (u, t) refl | inr f ↦ rw f refl ]) ks ∙ places-never 0 ks
-      | inr c ↦ places-agree 0 (keys_match k) (same_cells k) (λ j. elim (cases_Bool (same_cells k j)) [ inl u ↦ rw (u, c) refl | inr f ↦ rw f refl ]) ks ∙ places-none 0 (same_cells k) ks gone
+      | inl t ↦ places-agree 0 (keys_match k) (λ j. false) (λ j. elim (cases_Bool (same_keys k j)) [ inl u ↦ rw (u, t) refl | inr f ↦ rw f refl ]) ks ∙ places-never 0 ks
+      | inr c ↦ places-agree 0 (keys_match k) (same_keys k) (λ j. elim (cases_Bool (same_keys k j)) [ inl u ↦ rw (u, c) refl | inr f ↦ rw f refl ]) ks ∙ places-none 0 (same_keys k) ks gone
     ]
 
 pub null-matches : (ks : List (List Value)) (k : List Value) → has_null k ≡ true → matches_in ks k ≡ []
 unfolding matches_in
 null-matches ks k t =
-    places-agree 0 (keys_match k) (λ j. false) (λ j. elim (cases_Bool (same_cells k j)) [ inl u ↦ rw (u, t) refl | inr f ↦ rw f refl ]) ks ∙ places-never 0 ks
+    places-agree 0 (keys_match k) (λ j. false) (λ j. elim (cases_Bool (same_keys k j)) [ inl u ↦ rw (u, t) refl | inr f ↦ rw f refl ]) ks ∙ places-never 0 ks
 
 pub pairs-none : (columns keys : List (List Value)) → pairs_of columns 0 keys ≡ []
 unfolding pairs_of

@@ -2,14 +2,9 @@
 use Rattle.std.specs.Prelude.{ℕ, Bool, true, false, not, ◌&&◌, List, map, flat_map}
 use Rattle.std.specs.List.{list_any, range_with_len}
 use Rattle.kql_cells.specs.declared.value.Value.{Value}
-use Rattle.kql_cells.specs.declared.value.Value.TheVariants as val
 use Rattle.kql_keys.specs.Keys.{key_at}
 use Rattle.kql_keys.specs.Numbers.{places_from}
-use Rattle.kql_cells.specs.Same.{same_cells}
-
-abbrev pub is_null : Value → Bool
-is_null val.Null = true
-is_null _ = false
+use Rattle.kql_cells.specs.Keys.{is_null, same_keys}
 
 -- whether a key has a null
 unfoldable pub has_null : List Value → Bool
@@ -17,7 +12,7 @@ has_null key = list_any is_null key
 
 -- whether two keys match: they are the same and have no null
 abbrev pub keys_match : List Value → List Value → Bool
-keys_match a b = same_cells a b && not (has_null a)
+keys_match a b = same_keys a b && not (has_null a)
 
 -- the places of the keys that match, rising
 unfoldable pub matches_in : List (List Value) → List Value → List ℕ

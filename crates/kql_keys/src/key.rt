@@ -3,7 +3,7 @@ ghost use Rattle.kql_cells.specs.Seen.{seen, value_at};
 ghost use Rattle.kql_cells.specs.declared.value.Value.TheVariants.{Null};
 ghost use Rattle.kql_cells.specs.Hashed.{cell_writes};
 ghost use Rattle.kql_keys.specs.Keys.{key_at};
-ghost use Rattle.kql_keys.specs.Matches.{has_null, is_null};
+ghost use Rattle.kql_keys.specs.Matches.{has_null};
 
 use kql_cells::{CellRef, hash_cell};
 use kql_values::Vector;
@@ -61,20 +61,11 @@ impl<'a> KeyRef<'a> {
         ensures { result ≡ has_null self.now }
     {
         for j in 0..self.len() {
-            if is_null_cell(self.cell(j)) {
+            if self.cell(j).is_null() {
                 return true;
             }
         }
         false
-    }
-}
-
-fn is_null_cell(cell: CellRef<'_>) -> bool
-    ensures { result ≡ is_null (seen cell.entry) }
-{
-    match cell {
-        CellRef::Null => true,
-        _ => false,
     }
 }
 
@@ -104,11 +95,11 @@ fn same_key(a: &KeyRef<'_>, b: &KeyRef<'_>) -> bool
 
 impl<'a> PartialEq for KeyRef<'a> {
     ghost use Rattle.std.specs.Cmp.{partial_equiv_from_equiv};
-    ghost use Rattle.kql_cells.specs.Same.{same_cells, same_cells-equiv};
+    ghost use Rattle.kql_cells.specs.Keys.{same_keys, same_keys-equiv};
 
-    ghost eq = { same_cells };
+    ghost eq = { same_keys };
 
-    ghost laws = { partial_equiv_from_equiv same_cells-equiv };
+    ghost laws = { partial_equiv_from_equiv same_keys-equiv };
 
     fn eq(&self, other: &KeyRef<'a>) -> bool {
         same_key(self, other)
@@ -116,18 +107,18 @@ impl<'a> PartialEq for KeyRef<'a> {
 }
 
 impl<'a> Eq for KeyRef<'a> {
-    ghost use Rattle.kql_cells.specs.Same.{same_cells-equiv};
+    ghost use Rattle.kql_cells.specs.Keys.{same_keys-equiv};
 
-    ghost laws = { same_cells-equiv };
+    ghost laws = { same_keys-equiv };
 }
 
 impl<'a> Hash for KeyRef<'a> {
     ghost use Rattle.std.specs.Prelude.{flat_map};
-    ghost use Rattle.kql_cells.specs.Same.{same_cells_alike};
+    ghost use Rattle.kql_cells.specs.Keys.{same_keys_alike};
 
     ghost hash_input = { flat_map cell_writes };
 
-    ghost respects_eq = { same_cells_alike (flat_map cell_writes) };
+    ghost respects_eq = { same_keys_alike (flat_map cell_writes) };
 
     fn hash<H: Hasher>(&self, state: &mut H) {
         for j in 0..self.len() {

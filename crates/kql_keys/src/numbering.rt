@@ -1,7 +1,7 @@
 ghost use Rattle.std.specs.Prelude.{◌≡◌, ◌<◌, ◌≤◌, ◌++◌, ◌∷◌, [], All, IfOk, OnOk, length, map, if◌then◌else◌};
 ghost use Rattle.kql_keys.specs.Keys.{keys_of};
 ghost use Rattle.kql_keys.specs.Numbers.{distinct, first_places, numbers_of};
-ghost use Rattle.kql_cells.specs.Same.{same_cells};
+ghost use Rattle.kql_cells.specs.Keys.{same_keys};
 
 use crate::key::KeyRef;
 use indexmap::IndexSet;
@@ -31,9 +31,9 @@ pub fn index_keys<'a>(
     count: usize,
 ) -> Result<KeyIndex<'a>, AllocError>
     requires { All (λ c. count ≤ length c.now) columns.now }
-    ensures keys { IfOk result (λ x. x.seen.keys ≡ distinct same_cells (keys_of (map (λ c. c.now) columns.now) count)) }
-    ensures numbers { IfOk result (λ x. x.numbers ≡ numbers_of same_cells (keys_of (map (λ c. c.now) columns.now) count)) }
-    ensures firsts { IfOk result (λ x. x.firsts ≡ first_places same_cells (keys_of (map (λ c. c.now) columns.now) count)) }
+    ensures keys { IfOk result (λ x. x.seen.keys ≡ distinct same_keys (keys_of (map (λ c. c.now) columns.now) count)) }
+    ensures numbers { IfOk result (λ x. x.numbers ≡ numbers_of same_keys (keys_of (map (λ c. c.now) columns.now) count)) }
+    ensures firsts { IfOk result (λ x. x.firsts ≡ first_places same_keys (keys_of (map (λ c. c.now) columns.now) count)) }
 {
     let mut seen: IndexSet<KeyRef<'a>> = IndexSet::new(alloc);
     let mut numbers = Items::with_capacity(alloc, count)?;
@@ -54,8 +54,8 @@ pub fn index_keys<'a>(
 /// The number of each row's key, where the distinct keys are numbered in order of first occurrence, and the first row of each.
 pub fn number_keys(alloc: Global, columns: &[&Vector], count: usize) -> Result<Numbered, AllocError>
     requires { All (λ c. count ≤ length c.now) columns.now }
-    ensures numbers { IfOk result (λ x. x.numbers ≡ numbers_of same_cells (keys_of (map (λ c. c.now) columns.now) count)) }
-    ensures firsts { IfOk result (λ x. x.firsts ≡ first_places same_cells (keys_of (map (λ c. c.now) columns.now) count)) }
+    ensures numbers { IfOk result (λ x. x.numbers ≡ numbers_of same_keys (keys_of (map (λ c. c.now) columns.now) count)) }
+    ensures firsts { IfOk result (λ x. x.firsts ≡ first_places same_keys (keys_of (map (λ c. c.now) columns.now) count)) }
     ensures within { IfOk result (λ x. All (λ n. n < length x.firsts) x.numbers) }
 {
     let KeyIndex {

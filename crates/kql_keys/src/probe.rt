@@ -28,7 +28,7 @@ impl<'a> Model for Probe<'a> {
     ghost use Rattle.kql_keys.specs.Keys.{keys_of};
     ghost use Rattle.kql_keys.specs.Numbers.{distinct, numbers_of};
     ghost use Rattle.kql_keys.specs.Places.{places_by};
-    ghost use Rattle.kql_cells.specs.Same.{same_cells};
+    ghost use Rattle.kql_cells.specs.Keys.{same_keys};
 
     ghost Value = { List (List Cell) };
 
@@ -36,7 +36,7 @@ impl<'a> Model for Probe<'a> {
 
     ghost view = { λ p. keys_of (map (λ c. c.now) p.columns.now) p.count };
 
-    ghost invariant = { λ p. (p.seen.keys ≡ distinct same_cells (keys_of (map (λ c. c.now) p.columns.now) p.count)) × (p.places ≡ places_by (numbers_of same_cells (keys_of (map (λ c. c.now) p.columns.now) p.count)) (length (distinct same_cells (keys_of (map (λ c. c.now) p.columns.now) p.count)))) };
+    ghost invariant = { λ p. (p.seen.keys ≡ distinct same_keys (keys_of (map (λ c. c.now) p.columns.now) p.count)) × (p.places ≡ places_by (numbers_of same_keys (keys_of (map (λ c. c.now) p.columns.now) p.count)) (length (distinct same_keys (keys_of (map (λ c. c.now) p.columns.now) p.count)))) };
 }
 
 impl<'a> Probe<'a> {

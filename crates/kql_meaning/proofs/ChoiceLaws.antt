@@ -15,7 +15,7 @@ use Rattle.kql_scalar_fns.specs.Comparison.{order}
 use Rattle.kql_meaning.specs.Results.{greatest_row, least_row, row_of}
 use Rattle.kql_meaning.specs.LawsOfChoices.{GreatestIsOfRow, GreatestRowIsFirst, IsFirstBest, LeastIsOfRow, LeastRowIsFirst, value_at}
 use Rattle.kql_meaning.specs.Values.{same_key}
-use Rattle.kql_meaning.proofs.KeyLaws.{same_key-decides}
+use Rattle.kql_cells.specs.Keys.{same_key-decides}
 use Rattle.kql_meaning.proofs.MemberLaws.{Member, member-contains}
 
 -- The first row of a value that stands among them.

@@ -9,7 +9,7 @@ use Rattle.kql_meaning.specs.Join.{join_rows}
 use Rattle.kql_meaning.specs.Laws.{EachHasItsFirst, FirstsDiffer, InnerUniqueIsInner, first_places}
 use Rattle.kql_meaning.specs.Tables.{places, places_below}
 use Rattle.kql_meaning.specs.Values.{same_keys}
-use Rattle.kql_meaning.proofs.KeyLaws.{same_keys-decides}
+use Rattle.kql_cells.specs.Keys.{same_keys-decides}
 use Rattle.kql_meaning.proofs.MemberLaws.{Member, contains-member, every-of-members, member-filter, member-of-filter, member-of-range, member-range, of-member, pairs-of, Pairwise, pairwise-filter, pairwise-range}
 
 pub pairwise-imply : {X : Type 0} (R S : X → X → Type 0) (xs : List X) → ((x y : X) → Member x xs → Member y xs → R x y → S x y) → Pairwise R xs → Pairwise S xs

@@ -11,7 +11,7 @@ use Rattle.kql_meaning.specs.LawsOfGroups.{GroupHasItsRows, GroupIsOfPlaces, Gro
 use Rattle.kql_meaning.specs.Tables.{distinct_by, places, places_below}
 use Rattle.kql_meaning.specs.Values.{same_keys}
 use Rattle.kql_meaning.specs.Windows.{last_where}
-use Rattle.kql_meaning.proofs.KeyLaws.{same_keys-decides}
+use Rattle.kql_cells.specs.Keys.{same_keys-decides}
 use Rattle.kql_meaning.proofs.ListLaws.{every-range}
 use Rattle.kql_meaning.proofs.MemberLaws.{Member, contains-member, every-of-members, member-contains, member-filter, member-map, member-of-filter, member-of-map, member-of-range, member-range, Pairwise, pairs-of, pairwise-filter, pairwise-range}
 

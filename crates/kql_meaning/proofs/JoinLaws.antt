@@ -16,7 +16,7 @@ use Rattle.kql_meaning.specs.Laws.{AllKeysMatch, InnerIsOfPairs, KeysMatch, Left
 use Rattle.kql_meaning.specs.Tables.{cell, places, places_below}
 use Rattle.kql_meaning.specs.Values.{same_key}
 use Rattle.kql_meaning.proofs.FirstLaws.{any-at, one-of-any}
-use Rattle.kql_meaning.proofs.KeyLaws.{same_key-decides}
+use Rattle.kql_cells.specs.Keys.{same_key-decides}
 use Rattle.kql_meaning.proofs.MemberLaws.{Member, contains-member, member-contains, member-filter, member-flat, member-map, member-of-filter, member-of-flat, member-of-map, member-of-range, member-range, pairs-of, pairwise-filter, pairwise-flat, pairwise-map, pairwise-range}
 
 pub map-map : {X Y Z : Type 0} (f : Y → Z) (g : X → Y) (xs : List X) → map f (map g xs) ≡ map (λ x. f (g x)) xs

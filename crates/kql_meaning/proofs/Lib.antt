@@ -4,7 +4,6 @@ pub mod ExpressionFitLaws
 pub mod FirstLaws
 pub mod GroupLaws
 pub mod JoinLaws
-pub mod KeyLaws
 pub mod KindLaws
 pub mod ListLaws
 pub mod LiteralLaws

@@ -15,7 +15,7 @@ use Rattle.kql_meaning.specs.Summarize.{group_row, group_rows, summarize_table}
 use Rattle.kql_meaning.specs.Tables.{cell, distinct_by, emptied, places, places_below}
 use Rattle.kql_meaning.specs.Values.{same_keys}
 use Rattle.kql_meaning.proofs.GroupLaws.{keys_by_first_row}
-use Rattle.kql_meaning.proofs.KeyLaws.{same_keys-refl}
+use Rattle.kql_cells.specs.Keys.{same_keys-refl}
 use Rattle.kql_meaning.proofs.ListLaws.{distinct-one, every-map-range, every-range, filter-all, flat_map-nothing, gathered-all}
 
 pub one_row_without_keys : OneRowWithoutKeys

@@ -1,6 +1,7 @@
 -- Tests for null, and choices among values.
 use Rattle.std.specs.Prelude.{Bool, true, false, not, List, [], ◌∷◌, fold, option_map, if◌then◌else◌}
 use Rattle.std.specs.Ordering.{is_lt}
+pub use Rattle.kql_cells.specs.Keys.{is_null}
 use Rattle.kql_cells.specs.declared.value.Value.{Value}
 use Rattle.kql_cells.specs.declared.value.Value.TheVariants as value
 use Rattle.kql_functions.specs.declared.func.ChoiceFunc.{ChoiceFunc}
@@ -8,10 +9,6 @@ use Rattle.kql_functions.specs.declared.func.ChoiceFunc.TheVariants as func
 use Rattle.kql_scalar_fns.specs.Arguments.{argument}
 use Rattle.kql_scalar_fns.specs.Comparison.{order}
 use Rattle.kql_scalar_fns.specs.Logic.{is_true, truth}
-
-unfoldable pub is_null : Value → Bool
-is_null value.Null = true
-is_null _ = false
 
 -- null or the empty text
 unfoldable pub is_empty : Value → Bool

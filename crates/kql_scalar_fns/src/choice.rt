@@ -1,6 +1,6 @@
 ghost use Rattle.std.specs.Prelude.{◌≡◌, IfOk, map};
 ghost use Rattle.kql_cells.specs.Seen.{seen};
-ghost use Rattle.kql_scalar_fns.specs.Choice.{choice, chosen, first_case, first_given, greater, greatest, is_below, is_empty, is_null, least, lesser};
+ghost use Rattle.kql_scalar_fns.specs.Choice.{choice, chosen, first_case, first_given, greater, greatest, is_below, is_empty, least, lesser};
 
 use crate::arguments::argument;
 use crate::comparison::{is_less, order};
@@ -18,8 +18,8 @@ pub(crate) fn apply_choice(
     ensures value { IfOk result (λ v. v ≡ choice f (map seen args.now)) }
 {
     match f {
-        ChoiceFunc::IsNull => Ok(Value::Bool(is_null(argument(args, 0)))),
-        ChoiceFunc::IsNotNull => Ok(Value::Bool(!is_null(argument(args, 0)))),
+        ChoiceFunc::IsNull => Ok(Value::Bool(argument(args, 0).is_null())),
+        ChoiceFunc::IsNotNull => Ok(Value::Bool(!argument(args, 0).is_null())),
         ChoiceFunc::IsEmpty => Ok(Value::Bool(is_empty(argument(args, 0)))),
         ChoiceFunc::IsNotEmpty => Ok(Value::Bool(!is_empty(argument(args, 0)))),
         ChoiceFunc::Iff => chosen(argument(args, 0), argument(args, 1), argument(args, 2)).to_value(
@@ -29,16 +29,6 @@ pub(crate) fn apply_choice(
         ChoiceFunc::Coalesce => first_given(args).to_value(alloc),
         ChoiceFunc::MinOf => least(args).to_value(alloc),
         ChoiceFunc::MaxOf => greatest(args).to_value(alloc),
-    }
-}
-
-#[tactic(auto, unfolding(crate::specs::Choice::is_null))]
-fn is_null(a: CellRef<'_>) -> bool
-    ensures { result ≡ is_null (seen a.entry) }
-{
-    match a {
-        CellRef::Null => true,
-        _ => false,
     }
 }
 
@@ -105,14 +95,14 @@ fn is_below(a: CellRef<'_>, b: CellRef<'_>) -> bool
 fn lesser<'a>(a: CellRef<'a>, b: CellRef<'a>) -> CellRef<'a>
     ensures { seen result ≡ lesser (seen a.entry) (seen b.entry) }
 {
-    if is_null(a) || is_below(b, a) { b } else { a }
+    if a.is_null() || is_below(b, a) { b } else { a }
 }
 
 #[tactic(auto, unfolding(crate::specs::Choice::greater))]
 fn greater<'a>(a: CellRef<'a>, b: CellRef<'a>) -> CellRef<'a>
     ensures { seen result ≡ greater (seen a.entry) (seen b.entry) }
 {
-    if is_null(a) || is_below(a, b) { b } else { a }
+    if a.is_null() || is_below(a, b) { b } else { a }
 }
 
 // The least of those that are not null.

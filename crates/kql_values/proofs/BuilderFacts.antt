@@ -12,7 +12,7 @@ use Rattle.kql_cells.specs.declared.schema.Column.{Column}
 use Rattle.kql_cells.specs.declared.value.Value.{Value}
 use Rattle.kql_cells.specs.declared.value.Value.TheVariants as val
 use Rattle.kql_values.proofs.GridLaws.{HaveLength-push, row_of-length, row_of-more, rows_of-are, rows_of-at, rows_of-length, rows_of-none}
-use Rattle.kql_values.proofs.TableFacts.{fits-HaveLength, fits-length, grid-fits}
+use Rattle.kql_values.proofs.TableLaws.{fits-HaveLength, fits-length, grid-fits}
 use Rattle.kql_values.specs.Grids.{ColumnsFit, HaveLength, row_of, rows_of}
 use Rattle.kql_values.specs.Growing.{IsStored}
 

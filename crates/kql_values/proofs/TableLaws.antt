@@ -18,7 +18,8 @@ use Rattle.kql_cells.specs.declared.value.Value.{Value}
 use Rattle.kql_cells.specs.declared.value.Value.TheVariants as val
 use Rattle.kql_cells.proofs.RowLaws.{length-RowFits}
 use Rattle.kql_values.specs.Grids.{AgreeOff, ColumnsFit, HaveLength, column_at, joined, or_absent, row_of, rows_of, singletons}
-use Rattle.kql_values.specs.Moves.{IsWithin, absent, absent_row, beside, column_of, kinds_of, no_column, picked, row_or_absent, value_or, widened}
+use Rattle.kql_cells.specs.Keys.{absent}
+use Rattle.kql_values.specs.Moves.{IsWithin, absent_row, beside, column_of, kinds_of, no_column, picked, row_or_absent, value_or, widened}
 use Rattle.kql_values.proofs.GridLaws.{appended, cell_of, column_of as column_is, pushed, row_of-length, rows_of-are, rows_of-at, rows_of-beside, rows_of-gathered, rows_of-length, rows_of-none, rows_of-part, rows_of-selected}
 
 -- ---- columns that fit
@@ -299,6 +300,7 @@ or_absent-step cs vs old new places j c v a lc lv ec ev ea eo en =
     rw (or_absent-more cs vs places j c v lc lv, ← ec, ← ev, ← ea, ← eo) en
 
 absent-fits : (k : Kind) → IsOfKind k (absent k) × IsWellFormed (absent k)
+unfolding absent
 absent-fits kind.Bool = (tt, tt)
 absent-fits kind.Long = (tt, tt)
 absent-fits kind.Text = (tt, tt)

@@ -3,7 +3,8 @@ use Rattle.std.specs.Prelude.{ℕ, ◌≡◌, ◌≢◌, List, [], ◌∷◌, �
 use Rattle.std.specs.List.{range_with_len}
 use Rattle.kql_cells.specs.Seen.{value_at}
 use Rattle.kql_cells.specs.Table.{CellFits}
-use Rattle.kql_values.specs.Moves.{absent, value_or}
+use Rattle.kql_cells.specs.Keys.{absent}
+use Rattle.kql_values.specs.Moves.{value_or}
 use Rattle.kql_cells.specs.declared.schema.Column.{Column}
 use Rattle.kql_cells.specs.declared.value.Value.{Value}
 

@@ -1,6 +1,7 @@
 pub use Rattle.kql_cells.specs.Catalogues
 pub use Rattle.kql_cells.specs.Dynamic
 pub use Rattle.kql_cells.specs.Hashed
+pub use Rattle.kql_cells.specs.Keys
 pub use Rattle.kql_cells.specs.Named
 pub use Rattle.kql_cells.specs.Ordered
 pub use Rattle.kql_cells.specs.Readings

@@ -1,22 +1,17 @@
 -- What the moves of a table give.
 use Rattle.std.specs.Prelude.{ℕ, ◌<◌, List, [], ◌∷◌, ◌++◌, map, slice_index_or, Option, Some, None}
+use Rattle.kql_cells.specs.Keys.{absent}
 use Rattle.kql_cells.specs.Seen.{row_at, value_at}
 use Rattle.kql_cells.specs.Table.{Grid}
 use Rattle.kql_cells.specs.declared.schema.Column.{Column}
 use Rattle.kql_cells.specs.declared.value.Kind.{Kind}
 use Rattle.kql_cells.specs.declared.value.Kind.TheVariants as kind
 use Rattle.kql_cells.specs.declared.value.Value.{Value}
-use Rattle.kql_cells.specs.declared.value.Value.TheVariants as val
 
 -- the place is below a count, or none
 abbrev pub IsWithin : ℕ → Option ℕ → Type 0
 IsWithin count None = Unit {0}
 IsWithin count (Some i) = i < count
-
--- what stands for a cell that is not there: the empty text, and null in columns of other types
-abbrev pub absent : Kind → Value
-absent kind.Text = val.Text []
-absent _ = val.Null
 
 -- the value at a place, or another where there is none
 abbrev pub value_or : Value → List Value → Option ℕ → Value

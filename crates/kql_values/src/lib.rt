@@ -29,7 +29,6 @@ pub use store::{NumberKind, Numbers};
 pub use table::Table;
 pub use text_column::TextColumn;
 pub use vector::Vector;
-pub use vectors::absent_cell;
 
 /// Tables, one after another.
 pub type Tables = Items<Table>;

@@ -2,7 +2,7 @@ ghost use Rattle.std.specs.Prelude.{◌≡◌, ◌<◌, ◌≤◌, ◌+◌, ◌^
 ghost use Rattle.std.specs.Prelude.{◌≢◌};
 ghost use Rattle.std.specs.List.{AllPairs};
 ghost use Rattle.kql_values.specs.Grids.{ColumnsFit, HaveLength, joined, or_absent, row_of, singletons};
-ghost use Rattle.kql_values.specs.Moves.{IsWithin, absent, column_of};
+ghost use Rattle.kql_values.specs.Moves.{IsWithin, column_of};
 ghost use Rattle.kql_cells.specs.Seen.{seen, value_at};
 
 use crate::vector::Vector;
@@ -176,16 +176,6 @@ pub(crate) fn empty_columns(alloc: Global, schema: &[Column]) -> Result<Vec<Vect
     Ok(columns)
 }
 
-/// A cell that is not there: the empty text in a column of texts, else null.
-pub fn absent_cell<'a>(kind: Kind) -> CellRef<'a>
-    ensures same { seen result ≡ absent kind }
-{
-    match kind {
-        Kind::Text => CellRef::Text(""),
-        _ => CellRef::Null,
-    }
-}
-
 // Each column at these places, with absent cells where a place is none.
 pub(crate) fn gather_or_absent_columns(
     alloc: Global,
@@ -199,7 +189,7 @@ pub(crate) fn gather_or_absent_columns(
 {
     let mut gathered = Vec::with_capacity(alloc, columns.len())?;
     for j in 0..columns.len() {
-        let absent = absent_cell(schema[j].kind);
+        let absent = schema[j].kind.absent();
         gathered.push(columns[j].gather_or_absent(alloc, places, absent)?)?;
     }
     Ok(gathered)

@@ -1,15 +1,15 @@
 use Rattle.std.proofs.Common.{◌≡◌, ◌<◌, ◌≤◌, ◌+◌, ◌++◌, ◌∷◌, ◌∙◌, [], map, length, sym, ap, arith, rules, refl}
 use Rattle.std.proofs.lemmas.List.FromFn.{length-map-range_with_len, map-range_with_len_more}
 use Rattle.kql_keys.specs.Keys.{key_at, keys_of}
-use Rattle.kql_cells.specs.Same.{same_cells, same_cells-decides}
+use Rattle.kql_cells.specs.Keys.{same_keys, same_keys-decides}
 use Rattle.kql_keys.proofs.NumberFacts.{firsts-nil, numbers-nil, numbered-step}
 use Rattle.kql_keys.proofs.numbering.index_keys.Goals as goal
 
 pub loop-i-init : goal.loop-i-init
 loop-i-init c = record {
   keys = search rules;
-  numbers = c.in_ok-numbers.ensures.empty ∙ sym (numbers-nil same_cells same_cells-decides);
-  firsts = c.new-firsts.ensures.empty ∙ sym (firsts-nil same_cells same_cells-decides);
+  numbers = c.in_ok-numbers.ensures.empty ∙ sym (numbers-nil same_keys same_keys-decides);
+  firsts = c.new-firsts.ensures.empty ∙ sym (firsts-nil same_keys same_keys-decides);
 }
 
 pub loop-i-preserved : goal.loop-i-preserved
@@ -22,6 +22,6 @@ loop-i-preserved c =
     let count : i ≡ length ks = sym (length-map-range_with_len (key_at columns) 0 i) in
     let key = c.new-key.ensures.cells in
     let e = c.in_ok-place.ensures in
-    let step = numbered-step same_cells same_cells-decides ks k c.loop-i.seen.keys c.insert_full.new.self.keys c.loop-i.numbers c.push.new.self c.loop-i.firsts c.push_if.new.places c.in_ok-place.place i c.in_ok-place.added
+    let step = numbered-step same_keys same_keys-decides ks k c.loop-i.seen.keys c.insert_full.new.self.keys c.loop-i.numbers c.push.new.self c.loop-i.firsts c.push_if.new.places c.in_ok-place.place i c.in_ok-place.added
     c.loop-i.invariant.keys c.loop-i.invariant.numbers c.loop-i.invariant.firsts (rw key at e.added) (rw key at e.keys) (rw key at e.index) count c.in_ok-push.ensures.added c.in_ok-push_if.ensures in
     record { keys = rw more step.0; numbers = rw more step.1; firsts = rw more step.2 }

@@ -1,7 +1,8 @@
 use Rattle.std.proofs.Common.{◌≡◌, ◌<◌, ◌++◌, ◌∷◌, [], length, subst, sym, ap, ◌∙◌, rules, arith, vec_len}
 use Rattle.std.specs.Prelude.{All}
 use Rattle.kql_cells.specs.Seen.{seen}
-use Rattle.kql_values.specs.Moves.{IsWithin, absent}
+use Rattle.kql_cells.specs.Keys.{absent}
+use Rattle.kql_values.specs.Moves.{IsWithin}
 use Rattle.kql_cells.specs.declared.schema.Column.{Column}
 use Rattle.kql_values.proofs.TableLaws.{or_absent-nil, or_absent-step}
 use Rattle.kql_values.proofs.vectors.gather_or_absent_columns.Goals as goal
@@ -21,5 +22,5 @@ loop-j-preserved c =
     let lt : c.loop-j.j < length c.args.columns.now.items = omega arith in
     let low : c.loop-j.j < length c.args.schema.now = omega (arith, c.requires.width) in
     or_absent-step c.args.schema.now c.args.columns.now.items c.loop-j.gathered.items c.push.new.self.items c.args.places.now c.loop-j.j c.index-schema-j.result c.index.result.now
-    (seen c.absent_cell-absent.result) low lt c.index-schema-j.is c.index.ensures (c.absent_cell-absent.ensures.same ∙ ap (λ (d : Column). absent d.kind) (sym c.index-schema-j.is)) c.loop-j.invariant
+    (seen c.absent-absent.result) low lt c.index-schema-j.is c.index.ensures (c.absent-absent.ensures.value ∙ ap (λ (d : Column). absent d.kind) (sym c.index-schema-j.is)) c.loop-j.invariant
     (c.in_ok-push.ensures.items ∙ ap (λ y. c.loop-j.gathered.items ++ y ∷ []) c.in_ok-gather_or_absent.ensures.cells)

@@ -2,7 +2,7 @@ use Rattle.std.proofs.Common.{◌≡◌, ◌∙◌, map, length, ap, sym, true, 
 use Rattle.std.specs.Prelude.{is_some}
 use Rattle.kql_keys.specs.Keys.{key_at, keys_of}
 use Rattle.kql_keys.specs.Matches.{has_null, matches_in}
-use Rattle.kql_cells.specs.Same.{same_cells}
+use Rattle.kql_cells.specs.Keys.{same_keys}
 use Rattle.kql_keys.proofs.ProbeFacts.{found-none, found-some, null-matches}
 use Rattle.kql_keys.proofs.probe.Probe.matches_of.Goals as goal
 
