@@ -13,6 +13,3 @@ mod print;
 pub use fault::DataFault;
 pub use loading::load;
 pub use print::table_text;
-
-#[cfg(test)]
-mod tests;

@@ -19,6 +19,3 @@ pub use laws::{elements_of_sets, keys_of_several_bags, order_of_sets, slices_and
 pub use parts::{are_well_formed, at_index, at_name, levels};
 pub use print::print_json;
 pub use sets::{set_difference, set_has_element, set_intersect, set_union};
-
-#[cfg(test)]
-mod tests;

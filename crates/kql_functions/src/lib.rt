@@ -20,6 +20,3 @@ pub use names::{Found, find};
 pub use shapes::{has_order, same_kind};
 pub use tables::{functions, operators};
 pub use window::{Window, windows};
-
-#[cfg(test)]
-mod tests;

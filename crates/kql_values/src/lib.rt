@@ -32,6 +32,3 @@ pub use vector::Vector;
 
 /// Tables, one after another.
 pub type Tables = Items<Table>;
-
-#[cfg(test)]
-mod tests;

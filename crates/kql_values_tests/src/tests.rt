@@ -1,4 +1,4 @@
-use crate::*;
+use kql_values::*;
 use std::alloc::{AllocError, Global};
 use std::test::Fail;
 

@@ -2,13 +2,13 @@ ghost use Rattle.std.specs.Prelude.{IsTrue, map};
 ghost use Rattle.std.specs.List.{list_all};
 ghost use Rattle.kql_cells.specs.Dynamic.{is_well_formed_dynamic};
 
-use crate::{
+use kql_cells::{Dyn, KText, LEVELS_TOP, Value, has_form, has_levels_within};
+use kql_dynamic::{
     are_well_formed, array_concat, array_index_of, array_length, array_reverse, array_slice,
     at_index, at_name, bag_has_key, bag_keys, bag_merge, bag_pack, elements_of_sets,
     keys_of_several_bags, levels, order_of_sets, pack_array, parse_json, print_json,
     set_difference, set_has_element, set_intersect, set_union, slices_and_joins,
 };
-use kql_cells::{Dyn, KText, LEVELS_TOP, Value, has_form, has_levels_within};
 use kql_items::Items;
 use std::alloc::{AllocError, Global};
 use std::process::Abort;

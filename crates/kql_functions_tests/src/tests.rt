@@ -1,5 +1,5 @@
-use super::*;
 use kql_cells::Kind;
+use kql_functions::*;
 use kql_texts::Fold;
 use std::alloc::{AllocError, Global};
 use std::test::Fail;

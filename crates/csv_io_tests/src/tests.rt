@@ -1,4 +1,4 @@
-use super::*;
+use csv_io::*;
 use kql_cells::CellRef;
 use kql_values::Table;
 use std::alloc::{AllocError, Global};
