@@ -4,7 +4,7 @@ use Rattle.kql_cells.specs.declared.value.Kind.{Kind}
 use Rattle.kql_cells.specs.declared.value.Kind.TheVariants as kind
 use Rattle.kql_cells.specs.declared.value.Value.{Value}
 use Rattle.kql_cells.specs.declared.value.Value.TheVariants as value
-pub use Rattle.kql_cells.specs.Keys.{absent, same_key, same_keys}
+unfoldable pub use Rattle.kql_cells.specs.Keys.{absent, same_key, same_keys}
 use Rattle.kql_scalar_fns.specs.Logic.{is_true, truth}
 
 -- The same of an expression's type, which one that fits has.

@@ -1,7 +1,7 @@
 -- Tests for null, and choices among values.
 use Rattle.std.specs.Prelude.{Bool, true, false, not, List, [], ◌∷◌, fold, option_map, if◌then◌else◌}
 use Rattle.std.specs.Ordering.{is_lt}
-pub use Rattle.kql_cells.specs.Keys.{is_null}
+unfoldable pub use Rattle.kql_cells.specs.Keys.{is_null}
 use Rattle.kql_cells.specs.declared.value.Value.{Value}
 use Rattle.kql_cells.specs.declared.value.Value.TheVariants as value
 use Rattle.kql_functions.specs.declared.func.ChoiceFunc.{ChoiceFunc}
