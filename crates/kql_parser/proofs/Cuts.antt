@@ -1,5 +1,5 @@
 -- What is read from tokens that are cut behind the first one that is too much.
-use Rattle.std.proofs.Common.{ℕ, ◌+◌, ◌≤◌, ◌<◌, ◌≡◌, ◌⊎◌, inl, inr, List, [], ◌∷◌, take, length, refl, sym, subst, arith, le_trans}
+use Rattle.std.proofs.Common.{ℕ, ◌+◌, ◌≤◌, ◌<◌, ◌≡◌, inl, inr, List, [], ◌∷◌, take, length, refl, subst, arith, le_trans}
 use native.Mathlib.Decide.{dec_le}
 use Rattle.std.specs.Prelude.{Option, Some}
 use Rattle.std.proofs.lemmas.Option.{slice_get_within}

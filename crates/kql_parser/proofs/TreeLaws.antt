@@ -15,15 +15,15 @@ use Rattle.kql_syntax.specs.declared.query.Let.{Let}
 use Rattle.kql_syntax.specs.declared.query.LetBody.{LetBody}
 use Rattle.kql_syntax.specs.declared.query.LetBody.TheVariants as letbody
 use Rattle.kql_syntax.specs.declared.query.Query.{Query}
-use Rattle.kql_syntax.specs.Alone.{name_alone}
 use Rattle.kql_syntax.specs.Levels.{Level, source_words, expr_starts, after_expr, followers}
 use Rattle.kql_syntax.specs.Forms.{Form, level, pair, either, many, makes, mark, before, after, extends}
 use Rattle.kql_syntax.specs.Grammar.{body, range, items, union}
-use Rattle.kql_syntax.specs.Derives.{Is, Row, Derives, Stands, IsForm}
+use Rattle.kql_syntax.specs.Derives.{Is, Derives, Stands, IsForm}
 use Rattle.kql_syntax.proofs.FormLaws.{opens}
 use Rattle.kql_syntax.proofs.NameLaws.{name_expr, name_is_expr}
 use Rattle.kql_syntax.proofs.StartLaws.{form_starts, form_order, form_consumes, row_order, stands_left, stands_right, stands_among, stands_apart}
 use Rattle.kql_syntax.proofs.TreeLaws.{One, Two, which, sound, wider, either_one, pair_one, many_one, makes_one, expressions_one, name_stops, beside_name, forms_one}
+use Rattle.kql_parser.proofs.NameFacts.{name_body}
 use Rattle.kql_parser.specs.Query.{body_of, let_body, let_statement, main_pipe, query}
 use Rattle.kql_parser.specs.Parsing.{Parsed}
 
@@ -42,11 +42,6 @@ other_source =
     either (makes (λ p. source.Range p.0 p.1) (pair (mark (class.Key word.Range ∷ [])) range))
     (either (makes (λ p. source.Print p.0 p.1) (pair (mark (class.Key word.Print ∷ [])) items))
     (makes (λ p. source.Union p.0 p.1) (pair (mark (class.Key word.Union ∷ [])) union)))
-
--- a name as the body of a let statement is its table
-name_body : (n : Name) → body_of (name_expr n) ≡ letbody.Pipe (table_of n)
-unfolding name_alone
-name_body n = refl
 
 -- a pipe that stands where an expression does: a name, alone or with a bar behind it
 record Table (s : List Token) (i j : ℕ) (p : Pipe) : Type 0 where
