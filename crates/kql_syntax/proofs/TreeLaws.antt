@@ -245,9 +245,9 @@ module _ (s : List Token) (D : Derivable) (ok : Sound s D) (L : Level → Bool) 
       let d = and_right _ _ r in
       let n = and_right _ _ d in
       either_one s D ok (extends a ++ extends b) a b
-        (beside_left (extends a) (extends b) (form_one a (and_left _ _ h)))
-        (beside_right (extends a) (extends b) (form_one b (and_left _ _ r)))
-        (starts_two s D ok (extends a ++ extends b) a b (and_left _ _ d) (of_not _ (and_left _ _ n)) (of_not _ (and_right _ _ n)))
+      (beside_left (extends a) (extends b) (form_one a (and_left _ _ h)))
+      (beside_right (extends a) (extends b) (form_one b (and_left _ _ r)))
+      (starts_two s D ok (extends a ++ extends b) a b (and_left _ _ d) (of_not _ (and_left _ _ n)) (of_not _ (and_right _ _ n)))
   form_one (option a) h = option_one s D ok a (form_one a (and_left _ _ h)) (of_not _ (and_right _ _ h))
   form_one (many a) h =
       let r = and_right _ _ h in

@@ -6,10 +6,10 @@ mod places;
 mod texts;
 mod words;
 
+use kql_cells::KText;
 use kql_items::Items;
 use kql_lexer::{Keyword, Place, Token, TokenForm, Tokens, keyword_of};
 use kql_syntax::{Cmp, Expr, Literal, Name, Sign, Sum, SyntaxFault, Term, parse_expr};
-use kql_cells::KText;
 use std::alloc::{AllocError, Global};
 use std::test::Fail;
 

@@ -1,13 +1,13 @@
 //! Words and signs, each once.
 
 use crate::tests::{form_of, outcome, push_form, push_pieces};
+use kql_cells::KText;
 use kql_items::Items;
 use kql_lexer::{KEYWORDS, Keyword, TokenForm, Tokens};
 use kql_syntax::{
     BetweenOp, Class, Cmp, CompareOp, Expr, InOp, ProdOp, SumOp, SyntaxFault, is_name, is_of,
     parse_expr,
 };
-use kql_cells::KText;
 use std::alloc::{AllocError, Global};
 use std::test::Fail;
 
