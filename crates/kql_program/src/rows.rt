@@ -128,16 +128,15 @@ fn keep_rows(alloc: Global, table: &Table, conditions: &[Condition]) -> Result<T
     requires { All (λ c. c.column < length table.now.columns) conditions.now }
     ensures rows { IfOk result (λ t. t ≡ kept_by conditions.now table.now) }
 {
+    if conditions.is_empty() {
+        return table.copy(alloc);
+    }
     let places = kept_places(alloc, table, conditions)?;
     Ok(table.gather(alloc, places.as_slice())?)
 }
 
 // The places of the rows that meet all conditions, in order.
-fn kept_places(
-    alloc: Global,
-    table: &Table,
-    conditions: &[Condition],
-) -> Result<Places, AllocError>
+fn kept_places(alloc: Global, table: &Table, conditions: &[Condition]) -> Result<Places, AllocError>
     requires { All (λ c. c.column < length table.now.columns) conditions.now }
     ensures within { IfOk result (λ places. All (λ i. i < length table.now.lines) places) }
     ensures kept { IfOk result (λ places. map (row_at table.now.lines) places ≡ filter (meets_all conditions.now) table.now.lines) }

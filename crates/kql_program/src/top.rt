@@ -70,11 +70,9 @@ pub fn kql<R: Threads + Sync, F: Shelf, O: Sink, E: Sink, G: Gate + Sync>(
     ensures files { F.files shelf.new ≡ F.files shelf.old }
 
     // What the ending says of the answer to these words and files, and of what was written.
-    ensures outcome {
-        let out_at : O → SinkNow = λ o. sink_now (O.written o) (O.room o) (O.faults o) in
+    ensures outcome { let out_at : O → SinkNow = λ o. sink_now (O.written o) (O.room o) (O.faults o) in
         let err_at : E → SinkNow = λ e. sink_now (E.written e) (E.room e) (E.faults e) in
-        HasOutcome (texts words.now) (F.files shelf.old) (outside (F.faults shelf.old) (out_at out.old) (err_at err.old)) (outside (F.faults shelf.new) (out_at out.new) (err_at err.new)) result
-    }
+        HasOutcome (texts words.now) (F.files shelf.old) (outside (F.faults shelf.old) (out_at out.old) (err_at err.old)) (outside (F.faults shelf.new) (out_at out.new) (err_at err.new)) result }
 
     // Where the files are told there is one answer.
     ensures one { IfSome (F.files shelf.old) (λ files. HasOneAnswer (texts words.now) files) }
