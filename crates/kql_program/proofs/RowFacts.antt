@@ -1,7 +1,7 @@
 -- The rows of a request, and where there are none.
-use Rattle.std.proofs.Common.{◌≡◌, ◌<◌, ◌+◌, ◌∙◌, ℕ, true, false, Bool, ◌&&◌, List, [], ◌∷◌, ◌++◌, ap, length, map, refl, sym, take, inl, inr}
+use Rattle.std.proofs.Common.{◌≡◌, ◌<◌, ◌+◌, ◌∙◌, ◌==◌, ℕ, true, false, Bool, ◌&&◌, List, [], ◌∷◌, ◌++◌, ap, length, map, refl, sym, take, inl, inr}
 use Rattle.std.specs.Prelude.{All, Ok, Err, filter}
-use Rattle.std.proofs.lemmas.Bool.{cases_Bool}
+use Rattle.std.proofs.lemmas.Bool.{cases_Bool, eqb-true}
 use Rattle.std.proofs.lemmas.List.{append-nil, map-append}
 use Rattle.std.proofs.lemmas.List.Elements.{All-push, filter_more}
 use Rattle.kql_cells.specs.Seen.{row_at}
@@ -75,12 +75,28 @@ kept-together [] g = ap (λ rows. record { columns = g.columns; lines = rows }) 
 kept-together (c ∷ cs) g =
     kept-together cs (kept c g) ∙ ap (λ rows. record { columns = g.columns; lines = rows }) (filter-both (meets c) (meets_all cs) g.lines)
 
+-- no condition keeps all rows
+no-conditions : (cs : List Condition) → length cs ≡ 0 → cs ≡ []
+no-conditions [] e = refl
+no-conditions (c ∷ cs) e = cc
+
+pub kept-all : (cs : List Condition) (g : Grid) (b : Bool) → b ≡ (length cs == 0) → b ≡ true → kept_by cs g ≡ g
+unfolding kept_by
+kept-all cs g b e y = ap (λ none. kept_by none g) (no-conditions cs (eqb-true (length cs) 0 (sym e ∙ y)))
+
+-- one more place within so many rows
+pub within-more : (n : ℕ) (before now : List ℕ) (i : ℕ) → now ≡ before ++ i ∷ [] → All (λ k. k < n) before → i < n → All (λ k. k < n) now
+within-more n before now i e h w = rw e (All-push (λ k. k < n) before i h w)
+
+pub within-same : (n : ℕ) (before now : List ℕ) → now ≡ before → All (λ k. k < n) before → All (λ k. k < n) now
+within-same n before now e h = rw e h
+
 -- the places of the rows that pass a test, with one row more that passes it
-pub places-more : (rows : List (List Value)) (p : List Value → Bool) (places new : List ℕ) (i : ℕ) → i < length rows → p (row_at rows i) ≡ true → new ≡ places ++ i ∷ []
-    → map (row_at rows) places ≡ filter p (take i rows) → map (row_at rows) new ≡ filter p (take (i + 1) rows)
-places-more rows p places new i lt y e h = rw (e, map-append (row_at rows) places (i ∷ []), h, filter_more p rows i [] lt, y) refl
+pub places-more : (rows : List (List Value)) (p : List Value → Bool) (places now : List ℕ) (i : ℕ) → i < length rows → p (row_at rows i) ≡ true → now ≡ places ++ i ∷ []
+    → map (row_at rows) places ≡ filter p (take i rows) → map (row_at rows) now ≡ filter p (take (i + 1) rows)
+places-more rows p places now i lt y e h = rw (e, map-append (row_at rows) places (i ∷ []), h, filter_more p rows i [] lt, y) refl
 
 -- and with one that does not
-pub places-same : (rows : List (List Value)) (p : List Value → Bool) (places : List ℕ) (i : ℕ) → i < length rows → p (row_at rows i) ≡ false
-    → map (row_at rows) places ≡ filter p (take i rows) → map (row_at rows) places ≡ filter p (take (i + 1) rows)
-places-same rows p places i lt n h = rw (h, filter_more p rows i [] lt, n) (sym (append-nil (filter p (take i rows))))
+pub places-same : (rows : List (List Value)) (p : List Value → Bool) (places now : List ℕ) (i : ℕ) → i < length rows → p (row_at rows i) ≡ false → now ≡ places
+    → map (row_at rows) places ≡ filter p (take i rows) → map (row_at rows) now ≡ filter p (take (i + 1) rows)
+places-same rows p places now i lt n e h = rw (e, h, filter_more p rows i [] lt, n) (sym (append-nil (filter p (take i rows))))

@@ -1,7 +1,12 @@
 use Rattle.std.proofs.Common.{◌∙◌, ap, sym}
 use Rattle.kql_cells.specs.Table.{gathered}
-use Rattle.kql_program.proofs.RowFacts.{kept-together}
+use Rattle.kql_program.proofs.RowFacts.{kept-all, kept-together}
 use Rattle.kql_program.proofs.rows.keep_rows.Goals as goal
+
+pub returns-then-is_empty : goal.returns-then-is_empty
+returns-then-is_empty c =
+    let all = kept-all c.args.conditions.now c.args.table.now c.is_empty.result c.is_empty.ensures c.if-is_empty.true in
+    record { rows = rw all c.copy.ensures.same }
 
 pub gather-requires : goal.gather-requires
 gather-requires c = rw c.as_slice.ensures.items c.in_ok-places.ensures.within
