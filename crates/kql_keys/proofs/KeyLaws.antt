@@ -29,6 +29,11 @@ numbers-within columns count numbers firsts en ef k d =
     let size : length (distinct same_keys ks) ≡ length (first_places same_keys ks) = ap length (distinct-are same_keys same_keys-decides (key_at columns) count) ∙ length-map (first_places same_keys ks) (key_at columns) in
     rw (en, ef, ← size) (numbers-low same_keys same_keys-decides ks k d)
 
+-- the keys at the first places are the distinct ones
+pub first-keys : (columns : List (List Value)) (count : ℕ) (firsts : List ℕ) → firsts ≡ first_places same_keys (keys_of columns count)
+    → map (key_at columns) firsts ≡ distinct same_keys (keys_of columns count)
+first-keys columns count firsts ef = rw ef (sym (distinct-are same_keys same_keys-decides (key_at columns) count))
+
 or-none : (a b : Bool) → (a || b) ≡ false → (a ≡ false) × (b ≡ false)
 or-none true b e = cc
 or-none false b e = (refl, e)

@@ -58,7 +58,7 @@ impl<'a> KeyRef<'a> {
 
     /// Whether a cell of the key is null.
     pub fn has_null(&self) -> bool
-        ensures { result ≡ has_null self.now }
+        ensures null { result ≡ has_null self.now }
     {
         for j in 0..self.len() {
             if self.cell(j).is_null() {

@@ -1,10 +1,11 @@
 ghost use Rattle.std.specs.Prelude.{◌≡◌, ◌<◌, ◌≤◌, ◌++◌, ◌∷◌, [], All, IfOk, OnOk, length, map, if◌then◌else◌};
-ghost use Rattle.kql_keys.specs.Keys.{keys_of};
+ghost use Rattle.kql_keys.specs.Keys.{key_at, keys_of};
 ghost use Rattle.kql_keys.specs.Numbers.{distinct, first_places, numbers_of};
 ghost use Rattle.kql_cells.specs.Keys.{same_keys};
 
 use crate::key::KeyRef;
 use indexmap::IndexSet;
+use kql_cells::Places;
 use kql_items::Items;
 use kql_values::Vector;
 use std::alloc::{AllocError, Global};
@@ -13,15 +14,15 @@ use std::alloc::{AllocError, Global};
 #[derive(Drop)]
 pub struct Numbered {
     pub numbers: Items<usize>,
-    pub firsts: Items<usize>,
+    pub firsts: Places,
 }
 
 /// The distinct keys of rows in order of first occurrence, and what `Numbered` has.
 #[derive(Drop)]
 pub struct KeyIndex<'a> {
-    pub seen: IndexSet<KeyRef<'a>>,
+    pub(crate) seen: IndexSet<KeyRef<'a>>,
     pub numbers: Items<usize>,
-    pub firsts: Items<usize>,
+    pub firsts: Places,
 }
 
 /// The keys of the first rows of these columns by number.
@@ -34,6 +35,8 @@ pub fn index_keys<'a>(
     ensures keys { IfOk result (λ x. x.seen.keys ≡ distinct same_keys (keys_of (map (λ c. c.now) columns.now) count)) }
     ensures numbers { IfOk result (λ x. x.numbers ≡ numbers_of same_keys (keys_of (map (λ c. c.now) columns.now) count)) }
     ensures firsts { IfOk result (λ x. x.firsts ≡ first_places same_keys (keys_of (map (λ c. c.now) columns.now) count)) }
+    ensures first_keys { IfOk result (λ x. map (key_at (map (λ c. c.now) columns.now)) x.firsts ≡ distinct same_keys (keys_of (map (λ c. c.now) columns.now) count)) }
+    ensures within { IfOk result (λ x. All (λ n. n < length x.firsts) x.numbers) }
 {
     let mut seen: IndexSet<KeyRef<'a>> = IndexSet::new(alloc);
     let mut numbers = Items::with_capacity(alloc, count)?;
@@ -56,6 +59,7 @@ pub fn number_keys(alloc: Global, columns: &[&Vector], count: usize) -> Result<N
     requires { All (λ c. count ≤ length c.now) columns.now }
     ensures numbers { IfOk result (λ x. x.numbers ≡ numbers_of same_keys (keys_of (map (λ c. c.now) columns.now) count)) }
     ensures firsts { IfOk result (λ x. x.firsts ≡ first_places same_keys (keys_of (map (λ c. c.now) columns.now) count)) }
+    ensures first_keys { IfOk result (λ x. map (key_at (map (λ c. c.now) columns.now)) x.firsts ≡ distinct same_keys (keys_of (map (λ c. c.now) columns.now) count)) }
     ensures within { IfOk result (λ x. All (λ n. n < length x.firsts) x.numbers) }
 {
     let KeyIndex {
@@ -67,7 +71,7 @@ pub fn number_keys(alloc: Global, columns: &[&Vector], count: usize) -> Result<N
 }
 
 // Adds a place where that is wanted.
-fn push_if(wanted: bool, places: &mut Items<usize>, place: usize) -> Result<(), AllocError>
+fn push_if(wanted: bool, places: &mut Places, place: usize) -> Result<(), AllocError>
     ensures { OnOk result (places.new ≡ (if wanted then places.old ++ place ∷ [] else places.old)) }
 {
     if wanted {

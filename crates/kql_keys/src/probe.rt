@@ -6,6 +6,7 @@ use crate::key::KeyRef;
 use crate::numbering::{KeyIndex, index_keys};
 use crate::places::{PlaceLists, places_by_number};
 use indexmap::IndexSet;
+use kql_cells::Places;
 use kql_items::Items;
 use kql_values::Vector;
 use std::alloc::{AllocError, Global};
@@ -47,7 +48,7 @@ impl<'a> Probe<'a> {
         count: usize,
     ) -> Result<Probe<'a>, AllocError>
         requires { All (λ c. count ≤ length c.now) columns.now }
-        ensures { IfOk result (λ p. p ≡ keys_of (map (λ c. c.now) columns.now) count) }
+        ensures keys { IfOk result (λ p. p ≡ keys_of (map (λ c. c.now) columns.now) count) }
     {
         let KeyIndex {
             seen,
@@ -66,7 +67,7 @@ impl<'a> Probe<'a> {
     /// The places of the rows that match a row of other columns, rising. A key with a null matches nothing.
     pub fn matches_of(&self, columns: &[&Vector], at: usize) -> &[usize]
         requires { All (λ c. at < length c.now) columns.now }
-        ensures { result.now ≡ matches_in self.now (key_at (map (λ c. c.now) columns.now) at) }
+        ensures places { result.now ≡ matches_in self.now (key_at (map (λ c. c.now) columns.now) at) }
     {
         let key = KeyRef::new(columns, at);
         if key.has_null() {
@@ -82,8 +83,8 @@ impl<'a> Probe<'a> {
 /// Pairs of places, as two lists of one length.
 #[derive(Drop)]
 pub struct Pairs {
-    pub lefts: Items<usize>,
-    pub rights: Items<usize>,
+    pub lefts: Places,
+    pub rights: Places,
 }
 
 /// The pairs of rows whose keys match, in left order and for each left row in right order.
@@ -113,12 +114,7 @@ pub fn matching_pairs(
 }
 
 // Adds the pairs of a place with each of these.
-fn push_pairs(
-    ls: &mut Items<usize>,
-    rs: &mut Items<usize>,
-    i: usize,
-    found: &[usize],
-) -> Result<(), AllocError>
+fn push_pairs(ls: &mut Places, rs: &mut Places, i: usize, found: &[usize]) -> Result<(), AllocError>
     ensures lefts { OnOk result (ls.new ≡ ls.old ++ map (λ j. i) found.now) }
     ensures rights { OnOk result (rs.new ≡ rs.old ++ found.now) }
 {

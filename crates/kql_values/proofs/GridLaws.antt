@@ -291,7 +291,13 @@ pub cell_of : (n : ℕ) (cs : List (List Value)) (i j : ℕ) (d : List Value) �
     → get_or (get_or (rows_of n cs) i []) j val.Null ≡ get_or (get_or cs j d) i val.Null
 cell_of n cs i j d lt in' = ap (λ row. get_or row j val.Null) (rows_of-at n cs i [] lt) ∙ row_of-at cs i j d val.Null in'
 
-pub ruleset grid_reads = (rows_of-length, rows_of-none, width_of, cell_of, column_of, HaveLength-at, HaveLength-nil, HaveLength-push)
+-- each row has a cell for each column
+pub rows_of-width : (n : ℕ) (cs : List (List Value)) → HaveLength (length cs) (rows_of n cs)
+rows_of-width n cs = HaveLength-from (length cs) (rows_of n cs) (λ i lt.
+    let low : i < n = rw (rows_of-length n cs) at lt in
+    ap length (rows_of-at n cs i [] low) ∙ row_of-length cs i)
+
+pub ruleset grid_reads = (rows_of-length, rows_of-none, rows_of-width, width_of, cell_of, column_of, HaveLength-at, HaveLength-nil, HaveLength-push)
 
 -- where there is a row, it is as wide as there are columns
 pub width_known : (n w : ℕ) (cs : List (List Value)) → HaveLength w (rows_of n cs) → 0 < n → length cs ≡ w

@@ -1,7 +1,7 @@
 pub mod BuilderFacts
 pub mod CatalogueLaws
 pub mod GridLaws
-pub mod NullableFacts
+pub mod NullableLaws
 pub mod PieceLaws
 pub mod WidthLaws
 pub mod StoreFacts

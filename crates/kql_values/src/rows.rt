@@ -82,6 +82,7 @@ impl Rows {
     pub fn width(&self, i: usize) -> usize
         requires { i < length self.now }
         ensures cells { result ≡ length (row_at self.now i) }
+        ensures all { HaveLength result self.now }
     {
         self.columns.len()
     }
@@ -126,13 +127,13 @@ impl Rows {
     }
 
     /// Adds a row of what these cells show at the end, as wide as the rows before it.
-    pub fn push_cells(&mut self, alloc: Global, row: &[CellRef<'_>]) -> Result<(), AllocError>
+    pub fn push_cells(&mut self, row: &[CellRef<'_>]) -> Result<(), AllocError>
         requires { HaveLength (length row.now) self.old }
         ensures added { OnOk result (self.new ≡ self.old ++ map seen row.now ∷ []) }
         ensures kept { OnErr result (self.new ≡ self.old) }
     {
         let count = grown(self.count, 1)?;
-        fit_columns(alloc, &mut self.columns, self.count, row)?;
+        fit_columns(self.alloc, &mut self.columns, self.count, row)?;
         push_to_each(&mut self.columns, self.count, row)?;
         self.count = count;
         Ok(())
@@ -165,20 +166,19 @@ impl Rows {
         ensures added { OnOk result (self.new ≡ self.old ++ row.now ∷ []) }
         ensures kept { OnErr result (self.new ≡ self.old) }
     {
-        let alloc = self.alloc;
-        let cells = cells_of_values(alloc, row)?;
-        self.push_cells(alloc, cells.as_slice())
+        let cells = cells_of_values(self.alloc, row)?;
+        self.push_cells(cells.as_slice())
     }
 
     /// Adds a copy of a row of other rows at the end, as wide as the rows before it.
-    pub fn push_from(&mut self, alloc: Global, other: &Rows, i: usize) -> Result<(), AllocError>
+    pub fn push_from(&mut self, other: &Rows, i: usize) -> Result<(), AllocError>
         requires within { i < length other.now }
         requires width { HaveLength (length (row_at other.now i)) self.old }
         ensures added { OnOk result (self.new ≡ self.old ++ row_at other.now i ∷ []) }
         ensures kept { OnErr result (self.new ≡ self.old) }
     {
-        let cells = cells_of_columns(alloc, &other.columns, i)?;
-        self.push_cells(alloc, cells.as_slice())
+        let cells = cells_of_columns(self.alloc, &other.columns, i)?;
+        self.push_cells(cells.as_slice())
     }
 
     /// Moves other rows of the same width to the end. Without memory they are dropped.

@@ -50,6 +50,20 @@ impl Store {
         }
     }
 
+    /// No cells, in the store for values of a type, with room for so many.
+    pub fn with_capacity(alloc: Global, kind: Kind, count: usize) -> Result<Store, AllocError>
+        ensures empty { IfOk result (λ s. values_of s ≡ []) }
+    {
+        match kind {
+            Kind::Bool => Ok(Store::Bools(Items::with_capacity(alloc, count)?)),
+            Kind::Long => numbers_for(alloc, NumberKind::Long, count),
+            Kind::Moment => numbers_for(alloc, NumberKind::Moment, count),
+            Kind::Span => numbers_for(alloc, NumberKind::Span, count),
+            Kind::Text => Ok(Store::Texts(TextColumn::with_capacity(alloc, count)?)),
+            Kind::Dynamic => Ok(Store::Mixed(Items::with_capacity(alloc, count)?)),
+        }
+    }
+
     /// How many cells there are.
     pub fn len(&self) -> usize
         ensures count { result ≡ length (values_of self.now) }
@@ -79,6 +93,7 @@ impl Store {
     /// The numbers, where the cells are stored as numbers of one type.
     pub fn numbers(&self) -> Option<Numbers<'_>>
         ensures same { IfSome result (λ n. values_of_numbers n ≡ values_of self.now) }
+        ensures count { IfSome result (λ n. length n.numbers.now ≡ length (values_of self.now)) }
         ensures mask { IfSome result (λ n. length n.nulls.now ≡ length n.numbers.now) }
     {
         match self {
@@ -104,15 +119,15 @@ impl Store {
         }
     }
 
-    /// No cells, in a store of the same sort.
-    pub fn fresh(&self, alloc: Global) -> Store
-        ensures empty { values_of result ≡ [] }
+    /// No cells, in a store of the same sort, with room for so many.
+    pub fn fresh(&self, alloc: Global, count: usize) -> Result<Store, AllocError>
+        ensures empty { IfOk result (λ s. values_of s ≡ []) }
     {
         match self {
-            Store::Bools(_) => Store::Bools(Items::new(alloc)),
-            Store::Numbers(kind, _) => Store::Numbers(*kind, NumberColumn::new(alloc)),
-            Store::Texts(_) => Store::Texts(TextColumn::new(alloc)),
-            Store::Mixed(_) => Store::Mixed(Items::new(alloc)),
+            Store::Bools(_) => Ok(Store::Bools(Items::with_capacity(alloc, count)?)),
+            Store::Numbers(kind, _) => numbers_for(alloc, *kind, count),
+            Store::Texts(_) => Ok(Store::Texts(TextColumn::with_capacity(alloc, count)?)),
+            Store::Mixed(_) => Ok(Store::Mixed(Items::with_capacity(alloc, count)?)),
         }
     }
 
@@ -325,6 +340,13 @@ impl Store {
             Store::Mixed(values) => Ok(Store::Mixed(clone_values(alloc, values.as_slice())?)),
         }
     }
+}
+
+// No cells, in the store for numbers of a type, with room for so many.
+fn numbers_for(alloc: Global, kind: NumberKind, count: usize) -> Result<Store, AllocError>
+    ensures { IfOk result (λ s. values_of s ≡ []) }
+{
+    Ok(Store::Numbers(kind, NumberColumn::with_capacity(alloc, count)?))
 }
 
 // The cell of a truth value or null.

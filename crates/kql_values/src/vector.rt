@@ -119,7 +119,7 @@ impl Vector {
     {
         let mut gathered = Vector {
             alloc,
-            store: self.store.fresh(alloc),
+            store: self.store.fresh(alloc, places.len())?,
         };
         for place in places {
             gathered.push_cell(self.cell_or(*place, absent))?;
@@ -163,6 +163,7 @@ impl Vector {
     /// The numbers, where the cells are stored as numbers of one type.
     pub fn numbers(&self) -> Option<Numbers<'_>>
         ensures same { IfSome result (λ n. values_of_numbers n ≡ self.now) }
+        ensures count { IfSome result (λ n. length n.numbers.now ≡ length self.now) }
         ensures mask { IfSome result (λ n. length n.nulls.now ≡ length n.numbers.now) }
     {
         self.store.numbers()
@@ -175,11 +176,19 @@ impl Vector {
         self.store.texts()
     }
 
-    /// One value, so many times.
-    pub fn repeated(alloc: Global, cell: CellRef<'_>, count: usize) -> Result<Vector, AllocError>
+    /// What a cell shows, so many times, stored as values of a type: that of the cell, or any where the cell is null.
+    pub fn repeated(
+        alloc: Global,
+        kind: Kind,
+        cell: CellRef<'_>,
+        count: usize,
+    ) -> Result<Vector, AllocError>
         ensures cells { IfOk result (λ v. v ≡ replicate count (seen cell.entry)) }
     {
-        let mut vector = Vector::new(alloc, kind_of(cell));
+        let mut vector = Vector {
+            alloc,
+            store: Store::with_capacity(alloc, kind, count)?,
+        };
         for _i in 0..count {
             vector.push_cell(cell)?;
         }

@@ -1,7 +1,8 @@
-use Rattle.std.proofs.Common.{◌≡◌, ◌<◌, ◌≤◌, ◌+◌, ◌++◌, ◌∷◌, ◌∙◌, [], map, length, sym, ap, arith, rules, refl}
+use Rattle.std.proofs.Common.{◌≡◌, ◌+◌, ◌++◌, ◌∷◌, ◌∙◌, [], map, length, sym, arith, rules}
 use Rattle.std.proofs.lemmas.List.FromFn.{length-map-range_with_len, map-range_with_len_more}
 use Rattle.kql_keys.specs.Keys.{key_at, keys_of}
 use Rattle.kql_cells.specs.Keys.{same_keys, same_keys-decides}
+use Rattle.kql_keys.proofs.KeyLaws.{first-keys, numbers-within}
 use Rattle.kql_keys.proofs.NumberFacts.{firsts-nil, numbers-nil, numbered-step}
 use Rattle.kql_keys.proofs.numbering.index_keys.Goals as goal
 
@@ -25,3 +26,9 @@ loop-i-preserved c =
     let step = numbered-step same_keys same_keys-decides ks k c.loop-i.seen.keys c.insert_full.new.self.keys c.loop-i.numbers c.push.new.self c.loop-i.firsts c.push_if.new.places c.in_ok-place.place i c.in_ok-place.added
     c.loop-i.invariant.keys c.loop-i.invariant.numbers c.loop-i.invariant.firsts (rw key at e.added) (rw key at e.keys) (rw key at e.index) count c.in_ok-push.ensures.added c.in_ok-push_if.ensures in
     record { keys = rw more step.0; numbers = rw more step.1; firsts = rw more step.2 }
+
+pub returns-clause-first_keys : goal.returns-clause-first_keys
+returns-clause-first_keys c = first-keys (map (λ c. c.now) c.args.columns.now) c.args.count _ (search rules)
+
+pub returns-clause-within : goal.returns-clause-within
+returns-clause-within c = numbers-within (map (λ c. c.now) c.args.columns.now) c.args.count _ _ (search rules) (search rules)

@@ -1,5 +1,4 @@
-use Rattle.std.proofs.Common.{◌≡◌, ◌<◌, ◌∙◌, length, get_or, sym, ap, arith, true, false}
-use Rattle.kql_cells.specs.declared.value.Value.TheVariants as val
+use Rattle.std.proofs.Common.{◌<◌, ◌∙◌, length, sym, ap, arith}
 use Rattle.kql_cells.specs.Keys.{is_null}
 use Rattle.kql_keys.proofs.ProbeFacts.{null-found, null-more, null-none}
 use Rattle.kql_keys.proofs.key.KeyRef.has_null.Goals as goal
@@ -10,7 +9,7 @@ loop-j-init c = null-none
 pub returns-then-is_null : goal.returns-then-is_null
 returns-then-is_null c =
     let lt : c.loop-j.j < length c.args.self.now = omega (arith, c.loop-j-test.true, c.len-j-end.ensures) in
-    sym (null-found c.args.self.now c.loop-j.j lt (ap is_null (sym c.cell.ensures) ∙ (sym c.is_null.ensures.null ∙ c.if-is_null.true)))
+    record { null = sym (null-found c.args.self.now c.loop-j.j lt (ap is_null (sym c.cell.ensures) ∙ (sym c.is_null.ensures.null ∙ c.if-is_null.true))) }
 
 pub loop-j-preserved : goal.loop-j-preserved
 loop-j-preserved c =
