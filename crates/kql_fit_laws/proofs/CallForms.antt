@@ -13,7 +13,7 @@ use Rattle.kql_texts.specs.Texts.{split_by}
 use Rattle.kql_ticks.specs.Moves.{add_part}
 use Rattle.kql_ticks.specs.Ranges.{fit_moment}
 use Rattle.kql_ticks.specs.declared.part.Part.{Part}
-use Rattle.kql_ticks.proofs.RangeLemmas.{fit_moment_gives}
+use Rattle.kql_ticks.proofs.RangeLaws.{fit_moment_gives}
 use Rattle.kql_dynamic.specs.Arrays.{array_concat, array_index_of, array_length, array_reverse, array_slice, pack_array}
 use Rattle.kql_dynamic.specs.Bags.{bag_has_key, bag_keys, bag_merge, bag_of, bag_pack, pairs}
 use Rattle.kql_dynamic.specs.Parts.{argument as part_at, elements, entries, text, value_within_levels}

@@ -14,9 +14,9 @@ use Rattle.kql_ticks.specs.Moves.{add_part, day_within, in_month, to_month}
 use Rattle.kql_ticks.specs.Numbers.{number, share}
 use Rattle.kql_ticks.specs.Periods.{day_at}
 use Rattle.kql_ticks.specs.Ranges.{fit_moment}
-use Rattle.kql_ticks.proofs.DayLemmas.{day_count-first, day_count-low, month_first, month_next_bound}
-use Rattle.kql_ticks.proofs.NumberLemmas.{shared, shared-is, tenth}
-use Rattle.kql_ticks.proofs.RangeLemmas.{fit_moment_gives}
+use Rattle.kql_ticks.proofs.DayLaws.{day_count-first, day_count-low, month_first, month_next_bound}
+use Rattle.kql_ticks.proofs.NumberLaws.{shared, shared-is, tenth}
+use Rattle.kql_ticks.proofs.RangeLaws.{fit_moment_gives}
 
 -- What a step gives has a property where what it is made of has one.
 after : {A B : Type 0} (P : A → Type 0) (Q : B → Type 0) (o : Option A) (f : A → Option B) → IfSome o P → ((a : A) → P a → IfSome (f a) Q) → IfSome (option_and_then f o) Q

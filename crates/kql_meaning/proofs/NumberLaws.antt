@@ -13,7 +13,7 @@ use Rattle.std.proofs.lemmas.Bool.Decides.{Decides-int_eq}
 use Rattle.std.proofs.lemmas.Int.{ints}
 use Rattle.kql_ticks.specs.Bins.{bin_at}
 use Rattle.kql_ticks.specs.Ranges.{fit, is_span}
-use Rattle.kql_ticks.proofs.BinLemmas.{bin_at-positive, bin_is}
+use Rattle.kql_ticks.proofs.BinLaws.{bin_at-positive, bin_is}
 use Rattle.kql_meaning.specs.LawsOfNumbers.{FallsBetween, InsideInOneBin, TermsAreThose, TermsRise}
 use Rattle.kql_meaning.specs.MakeSeries.{bins, falls_in, is_inside}
 use Rattle.kql_meaning.specs.Numbers.{count_of_terms, terms}

@@ -6,7 +6,7 @@ use Rattle.std.specs.Str.{all_ascii_digits}
 use Rattle.std.proofs.lemmas.Bool.Decides.{nat_tests}
 use Rattle.kql_ticks.specs.Numbers.{number, share, value}
 use Rattle.kql_ticks.specs.Texts.{digits}
-use Rattle.kql_ticks.proofs.NumberLemmas.{in_bounds-small, exact-some}
+use Rattle.kql_ticks.proofs.NumberLaws.{in_bounds-small, exact-some}
 
 -- each byte is a digit
 abbrev pub AreDigits : List ℕ → Type 0

@@ -1,10 +1,11 @@
 pub mod BackLemmas
-pub mod BinLemmas
+pub mod BinLaws
 pub mod BoundLemmas
-pub mod DayLemmas
+pub mod ByteLemmas
+pub mod DayLaws
 pub mod DigitLemmas
-pub mod NumberLemmas
+pub mod NumberLaws
 pub mod PeriodLemmas
-pub mod RangeLemmas
+pub mod RangeLaws
 pub mod SpanLemmas
 pub mod TextLemmas

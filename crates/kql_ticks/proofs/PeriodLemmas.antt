@@ -6,7 +6,7 @@ use Rattle.jiff_core.proofs.CalendarLemmas.{day_count-day, day_count-end, day_co
 use Rattle.jiff_core.proofs.SignedLemmas.{signed_arith}
 use Rattle.kql_ticks.specs.Days.{date_number, year_on, month_on, IsDateOn, HasDate}
 use Rattle.kql_ticks.specs.Periods.{first_of_month, month_number}
-use Rattle.kql_ticks.proofs.DayLemmas.{day_count-first, day_count-low, day_count-year_low, year_on_is, month_on_is, year_next, month_next, first_of_month-is}
+use Rattle.kql_ticks.proofs.DayLaws.{day_count-first, day_count-low, day_count-year_low, year_on_is, month_on_is, year_next, month_next, first_of_month-is}
 
 -- a date is on its day
 on_date : (y m d : ℕ) → 1 ≤ y → IsCivilDate (pos y) m d → IsDateOn (date_number y m d) y m d

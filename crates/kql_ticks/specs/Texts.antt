@@ -1,5 +1,6 @@
 -- The texts that datetimes and timespans print as.
-use Rattle.std.specs.Prelude.{ℕ, zero, suc, ◌+◌, ◌/◌, ◌%◌, nat_lt, ◌==◌, if◌then◌else◌, List, [], ◌∷◌, ◌++◌, ℤ, pos, negsuc, unsigned_abs}
+use Rattle.std.specs.Prelude.{ℕ, zero, suc, ◌+◌, ◌/◌, ◌%◌, nat_lt, ◌==◌, ◌||◌, Bool, if◌then◌else◌, List, [], ◌∷◌, ◌++◌, ℤ, pos, negsuc, unsigned_abs}
+use Rattle.std.specs.Char.{is_ascii_digit}
 use Rattle.kql_ticks.specs.Days.{year_on, month_on, day_on}
 use Rattle.kql_ticks.specs.Periods.{day_at}
 
@@ -26,6 +27,10 @@ letter_z = 90
 
 abbrev pub space : ℕ
 space = 32
+
+-- whether a printed datetime or timespan can have this byte
+abbrev pub is_of_time : ℕ → Bool
+is_of_time b = is_ascii_digit b || (b == dash) || (b == dot) || (b == colon) || (b == letter_t) || (b == letter_z)
 
 -- yyyy-mm-dd
 unfoldable pub date_text : ℕ → List ℕ

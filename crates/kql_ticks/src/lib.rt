@@ -20,5 +20,5 @@ pub use moments::{make_moment, read_moment};
 pub use moves::add_part;
 pub use part::Part;
 pub use periods::{borders, day_of_week, end_of, part_of, start_of};
-pub use printing::{print_moment, print_span};
+pub use printing::{print_moment, print_span, push_moment, push_span};
 pub use spans::read_span;

@@ -3,7 +3,7 @@ ghost use Rattle.kql_cells.specs.Values.{IsMoment};
 use kql_cells::MOMENT_TOP;
 use kql_ticks::{
     Part, add_part, bin_at, borders, day_of_week, end_of, make_moment, part_of, print_moment,
-    print_span, read_moment, read_span, start_of,
+    print_span, push_moment, push_span, read_moment, read_span, start_of,
 };
 use std::process::Abort;
 use std::test::Fail;
@@ -184,6 +184,19 @@ fn timespans_are_printed(rt: HostRuntime) -> Result<(), Fail> {
         let printed = print_span(rt.alloc(), x)?;
         assert_eq!(rt; printed.as_str(), want, "at {x}");
     }
+    Ok(())
+}
+
+#[test]
+fn datetimes_and_timespans_are_added_to_what_is_there(rt: HostRuntime) -> Result<(), Fail> {
+    let mut out = Vec::new(rt.alloc());
+    push_span(&mut out, -54_000_000_000)?;
+    push_moment(&mut out, at(&rt, "2024-02-29 01:02:03.04"))?;
+    push_span(&mut out, 864_000_000_001)?;
+    assert_eq!(rt;
+        out.as_slice(),
+        b"-01:30:002024-02-29T01:02:03.0400000Z1.00:00:00.0000001".as_slice()
+    );
     Ok(())
 }
 

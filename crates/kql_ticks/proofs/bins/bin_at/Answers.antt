@@ -5,7 +5,7 @@ use Rattle.std.proofs.lemmas.Int.{to_z-of_z}
 use Rattle.jiff_core.proofs.SignedLemmas.{signed_arith}
 use Rattle.kql_ticks.specs.Bins.{IsBin}
 use Rattle.kql_ticks.specs.Ranges.{fit}
-use Rattle.kql_ticks.proofs.BinLemmas.{bin_at-positive, bin_is, fit_is, fits_less}
+use Rattle.kql_ticks.proofs.BinLaws.{bin_at-positive, bin_is, fit_is, fits_less}
 use Rattle.kql_ticks.proofs.bins.bin_at.Goals as goal
 
 -- what the code computes, with its casts taken away

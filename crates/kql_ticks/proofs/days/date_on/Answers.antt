@@ -3,7 +3,7 @@ use Rattle.jiff_core.proofs.CalendarLemmas.{days_from_civil-day_count}
 use Rattle.jiff_core.proofs.DateLemmas.{civil}
 use Rattle.jiff_core.proofs.SignedLemmas.{signed_arith}
 use Rattle.kql_ticks.specs.Days.{IsDateOn}
-use Rattle.kql_ticks.proofs.DayLemmas.{date_on_day, year_on_is, month_on_is, day_on_is}
+use Rattle.kql_ticks.proofs.DayLaws.{date_on_day, year_on_is, month_on_is, day_on_is}
 use Rattle.kql_ticks.proofs.days.date_on.Goals as goal
 
 found : (c : goal.After-from_days_since_min) → (k : ℕ) × (c.from_days_since_min.result.year ≡ pos k) × IsDateOn c.args.day k c.from_days_since_min.result.month c.from_days_since_min.result.day

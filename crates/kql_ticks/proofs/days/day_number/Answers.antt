@@ -3,7 +3,7 @@ use Rattle.jiff_core.proofs.CalendarLemmas.{days_from_civil-day_count}
 use Rattle.jiff_core.proofs.DateLemmas.{civil}
 use Rattle.jiff_core.proofs.SignedLemmas.{signed_arith}
 use Rattle.kql_ticks.specs.Days.{date_number}
-use Rattle.kql_ticks.proofs.DayLemmas.{day_number_is}
+use Rattle.kql_ticks.proofs.DayLaws.{day_number_is}
 use Rattle.kql_ticks.proofs.days.day_number.Goals as goal
 
 counted : (c : goal.After-days_since_min) → (3652425 ≤ c.days_since_min.result) × (c.days_since_min.result - 3652425 ≡ date_number (unsigned_abs c.args.date.year) c.args.date.month c.args.date.day)

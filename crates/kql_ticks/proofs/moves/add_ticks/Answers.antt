@@ -1,4 +1,4 @@
-use Rattle.kql_ticks.proofs.RangeLemmas.{fit_moment_gives}
+use Rattle.kql_ticks.proofs.RangeLaws.{fit_moment_gives}
 use Rattle.kql_ticks.proofs.moves.add_ticks.Goals as goal
 
 pub returns-clause-range : goal.returns-clause-range

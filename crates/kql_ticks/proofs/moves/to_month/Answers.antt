@@ -2,7 +2,7 @@ use Rattle.std.proofs.Common.{◌≡◌, sym, ◌∙◌, ap, arith, pos, ◌<ℤ
 use Rattle.std.specs.Int.{w128}
 use Rattle.std.proofs.lemmas.Int.{ints, to_z-of_z}
 use Rattle.kql_ticks.specs.Moves.{in_month}
-use Rattle.kql_ticks.proofs.DayLemmas.{to_month-low, to_month-high, to_month-is}
+use Rattle.kql_ticks.proofs.DayLaws.{to_month-low, to_month-high, to_month-is}
 use Rattle.kql_ticks.proofs.moves.to_month.Goals as goal
 
 pub returns-then-month-lt12 : goal.returns-then-month-lt12

@@ -1,6 +1,6 @@
 use Rattle.std.proofs.Common.{sym, ap, ◌∙◌, arith}
 use Rattle.kql_ticks.specs.Numbers.{◌>>=◌, in_bounds}
-use Rattle.kql_ticks.proofs.NumberLemmas.{number-some, number_from_more, number_from_other, number_from_all, number_from_much, in_bounds-small}
+use Rattle.kql_ticks.proofs.NumberLaws.{number-some, number_from_more, number_from_other, number_from_all, number_from_much, in_bounds-small}
 use Rattle.kql_ticks.proofs.numbers.number.Goals as goal
 
 pub returns-then-not-is_ascii_digit-clause-value :

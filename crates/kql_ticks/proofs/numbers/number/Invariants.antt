@@ -1,5 +1,5 @@
 use Rattle.std.proofs.Common.{◌≡◌, ◌<◌, drop}
-use Rattle.kql_ticks.proofs.NumberLemmas.{number_from}
+use Rattle.kql_ticks.proofs.NumberLaws.{number_from}
 use Rattle.kql_ticks.proofs.numbers.number.Given as goal
 
 abbrev pub invariant-loop-b : goal.invariant-loop-b

@@ -1,5 +1,5 @@
 use Rattle.std.proofs.Common.{◌≡◌, sym, ◌∙◌, arith}
-use Rattle.kql_ticks.proofs.NumberLemmas.{shared-is, share_all, share_more, share_broken, share_other}
+use Rattle.kql_ticks.proofs.NumberLaws.{shared-is, share_all, share_more, share_broken, share_other}
 use Rattle.kql_ticks.proofs.numbers.share.Goals as goal
 
 pub digits-init : goal.digits-init

@@ -1,5 +1,5 @@
 use Rattle.std.proofs.Common.{◌≡◌, ◌<◌, ◌≤◌, drop, length, Some}
-use Rattle.kql_ticks.proofs.NumberLemmas.{shared}
+use Rattle.kql_ticks.proofs.NumberLaws.{shared}
 use Rattle.kql_ticks.proofs.numbers.share.Given as goal
 
 abbrev pub invariant-digits : goal.invariant-digits

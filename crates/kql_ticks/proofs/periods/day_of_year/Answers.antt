@@ -1,5 +1,5 @@
 use Rattle.std.proofs.Common.{arith}
-use Rattle.kql_ticks.proofs.DayLemmas.{year_first}
+use Rattle.kql_ticks.proofs.DayLaws.{year_first}
 use Rattle.kql_ticks.proofs.periods.day_of_year.Goals as goal
 
 pub returns-clause-value : goal.returns-clause-value

@@ -1,7 +1,7 @@
 use Rattle.std.proofs.Common.{◌≡◌, ℕ, ◌+◌, ◌-◌, ap, arith, pos}
 use Rattle.kql_ticks.specs.Days.{HasDate, year_on, month_on, day_on}
 use Rattle.kql_ticks.specs.Periods.{first_of_month, month_number}
-use Rattle.kql_ticks.proofs.DayLemmas.{month_first, first_of_month-is}
+use Rattle.kql_ticks.proofs.DayLaws.{month_first, first_of_month-is}
 use Rattle.kql_ticks.proofs.PeriodLemmas.{month_same, month_before}
 use Rattle.kql_ticks.proofs.periods.first_of_month.Goals as goal
 

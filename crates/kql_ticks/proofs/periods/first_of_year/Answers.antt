@@ -1,6 +1,6 @@
 use Rattle.std.proofs.Common.{◌≡◌, ◌+◌, ◌-◌, ap, arith, pos}
 use Rattle.kql_ticks.specs.Days.{date_number, year_on}
-use Rattle.kql_ticks.proofs.DayLemmas.{year_first}
+use Rattle.kql_ticks.proofs.DayLaws.{year_first}
 use Rattle.kql_ticks.proofs.PeriodLemmas.{year_same, year_before}
 use Rattle.kql_ticks.proofs.periods.first_of_year.Goals as goal
 

@@ -2,7 +2,7 @@ use Rattle.std.proofs.Common.{◌≡◌, ◌+◌, ◌-◌, ap, arith, rules, pos
 use Rattle.std.proofs.lemmas.Int.{to_z-of_z}
 use Rattle.kql_ticks.specs.Days.{year_on, month_on}
 use Rattle.kql_ticks.specs.Periods.{first_of_month, month_number}
-use Rattle.kql_ticks.proofs.DayLemmas.{month_first, month_next, month_next_bound}
+use Rattle.kql_ticks.proofs.DayLaws.{month_first, month_next, month_next_bound}
 use Rattle.kql_ticks.proofs.PeriodLemmas.{month_last, month_after}
 use Rattle.kql_ticks.proofs.periods.next_month.Goals as goal
 

@@ -1,7 +1,7 @@
 use Rattle.std.proofs.Common.{◌≡◌, ◌+◌, ◌-◌, ap, arith, rules, pos, FitsSigned, w16}
 use Rattle.std.proofs.lemmas.Int.{to_z-of_z}
 use Rattle.kql_ticks.specs.Days.{date_number, year_on}
-use Rattle.kql_ticks.proofs.DayLemmas.{year_first, year_next, year_next_bound}
+use Rattle.kql_ticks.proofs.DayLaws.{year_first, year_next, year_next_bound}
 use Rattle.kql_ticks.proofs.PeriodLemmas.{year_last, year_after}
 use Rattle.kql_ticks.proofs.periods.next_year.Goals as goal
 

@@ -4,7 +4,7 @@ use Rattle.kql_ticks.specs.Periods.{day_at}
 use Rattle.kql_ticks.specs.Ranges.{fit_moment}
 use Rattle.kql_ticks.proofs.BackLemmas.{size_is}
 use Rattle.kql_ticks.proofs.BoundLemmas.{start_below, start_same, start_before}
-use Rattle.kql_ticks.proofs.RangeLemmas.{fit_moment_gives}
+use Rattle.kql_ticks.proofs.RangeLaws.{fit_moment_gives}
 use Rattle.kql_ticks.proofs.periods.start_of.Goals as goal
 
 -- what the code computes, with its casts taken away
