@@ -32,6 +32,11 @@ pub always : {T E : Type 0} (r : Result T E) (P : Type 0) → P → OnOk r P
 always (Ok x) P p = p
 always (Err e) P p = tt
 
+-- what follows from what holds of an Ok
+pub along : {T E : Type 0} (r : Result T E) (P Q : Type 0) → (P → Q) → OnOk r P → OnOk r Q
+along (Ok x) P Q f p = f p
+along (Err e) P Q f p = tt
+
 -- a field that is not empty
 filled : (k : Kind) (t : List ℕ) (v : Value) → t ≢ [] → read_filled k t ≡ Some v → read_cell k t ≡ Some v
 filled k [] v n e = absurd (n refl)

@@ -1,6 +1,6 @@
 -- A field at a place, and where its last colon stands.
 use Rattle.std.proofs.Common.{◌≡◌, ◌≤◌, ◌<◌, ◌+◌, ◌-◌, ◌==◌, ◌∙◌, ℕ, zero, suc, Bool, true, false, List, [], ◌∷◌, length, drop, get_or, refl, sym, ap, arith}
-use Rattle.std.specs.Prelude.{◌≢◌, Option, Some, None, IsSome, IsSomeAnd, IfSome, not, option_map, slice_get, slice_range}
+use Rattle.std.specs.Prelude.{◌≢◌, Option, Some, None, IsSome, IsSomeAnd, not, option_map, slice_get, slice_range}
 use Rattle.std.specs.Borrow.{Bor}
 use Rattle.std.specs.List.{after_last, before_last, list_any, suffix_len}
 use Rattle.std.proofs.lemmas.Bool.{eqb-true}

@@ -3,6 +3,7 @@ pub mod FieldFacts
 pub mod HeaderFacts
 pub mod LoadFacts
 pub mod OutputFacts
+pub mod PlainFacts
 pub mod RecordsLeftFacts
 pub mod Reloaded
 pub mod TextFacts

@@ -16,21 +16,16 @@ pub(crate) fn push_field(out: &mut Vec<u8>, field: &str) -> Result<(), AllocErro
     }
 }
 
-// Looks at each byte, with no branch on what it finds.
 fn calls_for_quotes(field: &[u8]) -> bool
     ensures { result ≡ needs_quotes default_writer field.now }
 {
-    let mut found = false;
-    for i in 0..field.len() {
-        found |= is_special(field[i]);
-    }
-    found
+    field.iter().any(|b| is_special(*b))
 }
 
 fn is_special(b: u8) -> bool
     ensures { result ≡ needs_byte default_writer b }
 {
-    b == b',' || b == b'"' || b == b'\r' || b == b'\n'
+    matches!(b, b',' | b'"' | b'\r' | b'\n')
 }
 
 // Adds a field between quotes, each quote in it twice.

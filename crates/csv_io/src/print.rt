@@ -13,7 +13,7 @@ use itoa::Buffer;
 use kql_cells::{Bytes, CellRef, Column, Dyn};
 use kql_dynamic::print_json;
 use kql_items::Items;
-use kql_ticks::{print_moment, print_span};
+use kql_ticks::{push_moment, push_span};
 use kql_values::Table;
 use std::alloc::{AllocError, Global};
 
@@ -78,8 +78,8 @@ fn push_cell(alloc: Global, out: &mut Vec<u8>, cell: CellRef<'_>) -> Result<(), 
         CellRef::Bool(false) => push_field(out, "false"),
         CellRef::Long(n) => push_long(out, n),
         CellRef::Text(t) => push_field(out, t),
-        CellRef::Moment(x) => push_moment(alloc, out, x),
-        CellRef::Span(x) => push_span(alloc, out, x),
+        CellRef::Moment(x) => push_datetime(out, x),
+        CellRef::Span(x) => push_timespan(out, x),
         CellRef::Dynamic(d) => push_dynamic(alloc, out, d),
     }
 }
@@ -89,24 +89,22 @@ fn push_long(out: &mut Vec<u8>, n: i64) -> Result<(), AllocError>
     ensures back { OnOk result (ReadsBack (value.Long n)) }
 {
     let mut buffer = Buffer::new();
-    push_field(out, buffer.format(n))
+    out.extend_from_slice(buffer.format(n).as_bytes())
 }
 
-fn push_moment(alloc: Global, out: &mut Vec<u8>, x: i64) -> Result<(), AllocError>
+fn push_datetime(out: &mut Vec<u8>, x: i64) -> Result<(), AllocError>
     requires { IsMoment x }
     ensures added { OnOk result (out.new.items ≡ out.old.items ++ field_text default_writer (cell_text (value.Moment x))) }
     ensures back { OnOk result (ReadsBack (value.Moment x)) }
 {
-    let text = print_moment(alloc, x)?;
-    push_field(out, text.as_str())
+    push_moment(out, x)
 }
 
-fn push_span(alloc: Global, out: &mut Vec<u8>, x: i64) -> Result<(), AllocError>
+fn push_timespan(out: &mut Vec<u8>, x: i64) -> Result<(), AllocError>
     ensures added { OnOk result (out.new.items ≡ out.old.items ++ field_text default_writer (cell_text (value.Span x))) }
     ensures back { OnOk result (ReadsBack (value.Span x)) }
 {
-    let text = print_span(alloc, x)?;
-    push_field(out, text.as_str())
+    push_span(out, x)
 }
 
 fn push_dynamic(alloc: Global, out: &mut Vec<u8>, d: &Dyn) -> Result<(), AllocError>

@@ -1,4 +1,4 @@
-use Rattle.std.proofs.Common.{◌≡◌, ◌++◌, ◌∷◌, ◌∙◌, [], append_assoc, sym}
+use Rattle.std.proofs.Common.{◌++◌, ◌∷◌, ◌∙◌, [], append_assoc, sym}
 use Rattle.std.proofs.lemmas.List.{append-nil, take_all}
 use Rattle.csv.specs.Writing.{default_writer, escaped}
 use Rattle.csv_io.proofs.OutputFacts.{escaped-more, escaped-none}

@@ -1,7 +1,5 @@
-use Rattle.std.proofs.Common.{◌≡◌, ◌≤◌, ◌<◌, ◌++◌, ◌∙◌, [], ap, arith, get_or, length, refl, rules, sym, take, vec_len}
+use Rattle.std.proofs.Common.{◌≡◌, ◌≤◌, ◌<◌, ◌∙◌, [], arith, get_or, length, refl, rules, sym, take}
 use Rattle.std.proofs.lemmas.List.{append-nil, get_or-map, length-map, take_all, take_more}
-use Rattle.csv.specs.Records.{AllText}
-use Rattle.csv.specs.Writing.{default_writer, row_body}
 use Rattle.csv_io.specs.Text.{names_of}
 use Rattle.csv_io.proofs.OutputFacts.{line-end, line-step}
 use Rattle.csv_io.proofs.TextFacts.{no-fields, text-push}
