@@ -1,0 +1,15 @@
+pub mod ChainSteps
+pub mod ColumnSteps
+pub mod FormFacts
+pub mod LocatedSteps
+pub mod MeansSteps
+pub mod NodeSteps
+pub mod PartSteps
+pub mod PlaceLaws
+pub mod RangeFacts
+pub mod RowSteps
+pub mod ScalarFitLaws
+pub mod ScalarSteps
+pub mod StoreSteps
+pub mod SumFacts
+pub mod WindowSteps

@@ -1,0 +1,9 @@
+pub mod Chains
+pub mod Evaluated
+pub mod Means
+pub mod Placed
+pub mod Rows
+pub mod Scalar
+pub mod Shown
+pub mod Stores
+pub mod Sums
