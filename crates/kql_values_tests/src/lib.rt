@@ -2,4 +2,10 @@
 #![tactic(auto)]
 
 #[cfg(test)]
-mod tests;
+mod columns;
+#[cfg(test)]
+mod shown;
+#[cfg(test)]
+mod tables;
+#[cfg(test)]
+mod vectors;
