@@ -16,7 +16,7 @@ use Rattle.kql_dynamic.specs.Parts.{value_of}
 use Rattle.kql_dynamic.specs.Printed.{printed}
 use Rattle.kql_ticks.specs.Forms.{date_in, moment_in, span_in}
 use Rattle.kql_ticks.specs.Texts.{moment_text, span_text}
-use Rattle.kql_cells.proofs.NumberFacts.{own, to-whole}
+use Rattle.kql_cells.proofs.NumberLaws.{own, to-whole}
 use Rattle.kql_cells.specs.Dynamic.{is_null}
 use Rattle.kql_cells.specs.Keys.{absent}
 use Rattle.kql_cells.specs.Readings.{bool_written, is_whole, long_written}

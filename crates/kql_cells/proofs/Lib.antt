@@ -1,6 +1,6 @@
 pub mod FormLaws
 pub mod HashLaws
 pub mod LevelLaws
-pub mod NumberFacts
+pub mod NumberLaws
 pub mod OrderLaws
 pub mod RowLaws

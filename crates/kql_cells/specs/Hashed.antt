@@ -20,9 +20,9 @@ writes_step (Dyn-F.Bag entries) = fed.u8 5 ++ fed.usize (length entries) ++ flat
 unfoldable pub writes_of : Dyn → HashWrites
 writes_of = fold-Dyn HashWrites writes_step
 
--- what a cell feeds
+-- what a cell feeds: a null a byte that no truth value feeds
 abbrev pub cell_writes : Value → HashWrites
-cell_writes value.Null = fed.u8 0
+cell_writes value.Null = fed.u8 2
 cell_writes (value.Bool b) = fed.bool b
 cell_writes (value.Long n) = fed.i64 n
 cell_writes (value.Text t) = fed.str t

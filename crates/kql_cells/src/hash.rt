@@ -13,7 +13,7 @@ pub fn hash_cell<H: Hasher>(cell: CellRef<'_>, state: &mut H)
     ensures fed { state.new ≡ fold H.write state.old (cell_writes (seen cell.entry)) }
 {
     match cell {
-        CellRef::Null => state.write_u8(0),
+        CellRef::Null => state.write_u8(2),
         CellRef::Bool(b) => b.hash(state),
         CellRef::Long(n) => n.hash(state),
         CellRef::Text(t) => t.hash(state),

@@ -48,6 +48,3 @@ pub type Places = Items<usize>;
 
 /// Bytes, as a file holds them.
 pub type Bytes = Items<u8>;
-
-#[cfg(test)]
-mod tests;

@@ -2,7 +2,7 @@ ghost use Rattle.std.specs.Prelude.{◌≡◌, ◌==◌, slice_index};
 ghost use Rattle.kql_cells.specs.Readings.{bool_written, long_written};
 
 /// The long that a text writes: digits with a minus before them or none, in the range of a long.
-#[tactic(auto, using(crate::proofs::NumberFacts::number_facts))]
+#[tactic(auto, using(crate::proofs::NumberLaws::number_facts))]
 pub fn read_long(text: &str) -> Option<i64>
     ensures value { result ≡ long_written text.now }
 {

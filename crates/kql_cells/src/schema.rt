@@ -1,4 +1,4 @@
-ghost use Rattle.std.specs.Prelude.{◌≡◌, ◌++◌, ◌∷◌, ◌↔◌, [], length, map, All, IfOk, IsTrue, OnOk, OnErr};
+ghost use Rattle.std.specs.Prelude.{◌≡◌, ◌++◌, ◌∷◌, ◌↔◌, [], length, map, All, None, IfOk, IsTrue, OnOk, OnErr};
 ghost use Rattle.kql_cells.specs.Named.{HasDistinctNames, IsAbsent, place_of};
 
 use crate::text::KText;
@@ -92,6 +92,7 @@ impl Schema {
     /// The place of the column of a name, from 0, or none.
     pub fn find(&self, name: &str) -> Option<usize>
         ensures place { result ≡ place_of column_name name.now self.now }
+        ensures absent { (result ≡ None) ↔ IsAbsent column_name name.now self.now }
     {
         self.columns
             .as_slice()

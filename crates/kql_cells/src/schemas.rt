@@ -1,4 +1,4 @@
-ghost use Rattle.std.specs.Prelude.{◌≡◌, ◌++◌, ◌∷◌, [], length, OnErr, OnOk};
+ghost use Rattle.std.specs.Prelude.{◌≡◌, ◌↔◌, ◌++◌, ◌∷◌, [], length, None, OnErr, OnOk};
 ghost use Rattle.kql_cells.specs.Named.{HasDistinctNames, IsAbsent, place_of};
 
 use crate::schema::Schema;
@@ -65,6 +65,7 @@ impl Schemas {
     /// The place of the schema of a name, from 0, or none.
     pub fn find(&self, name: &str) -> Option<usize>
         ensures place { result ≡ place_of schema_name name.now self.now }
+        ensures absent { (result ≡ None) ↔ IsAbsent schema_name name.now self.now }
     {
         self.schemas
             .as_slice()

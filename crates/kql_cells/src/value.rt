@@ -3,7 +3,7 @@ ghost use Rattle.kql_cells.specs.Seen.{seen};
 ghost use Rattle.kql_cells.specs.Values.{IsOfKind, IsWellFormed};
 
 use crate::cell::CellRef;
-use crate::dynamic::{Dyn, LEVELS_TOP, has_form, has_levels_within, is_null, same_dyn};
+use crate::dynamic::Dyn;
 use crate::text::KText;
 use kql_items::Items;
 use std::alloc::{AllocError, Global};
@@ -76,17 +76,7 @@ impl Value {
     pub fn is_of_kind(&self, kind: Kind) -> bool
         ensures fits { IsTrue result ↔ IsOfKind kind self.now }
     {
-        match (kind, self) {
-            (Kind::Text, Value::Text(_)) => true,
-            (Kind::Text, _) => false,
-            (_, Value::Null) => true,
-            (Kind::Bool, Value::Bool(_)) => true,
-            (Kind::Long, Value::Long(_)) => true,
-            (Kind::Moment, Value::Moment(_)) => true,
-            (Kind::Span, Value::Span(_)) => true,
-            (Kind::Dynamic, Value::Dynamic(_)) => true,
-            _ => false,
-        }
+        self.as_cell().is_of_kind(kind)
     }
 }
 
@@ -101,16 +91,7 @@ pub fn clone_value(alloc: Global, v: &Value) -> Result<Value, AllocError>
 pub fn same_key(a: &Value, b: &Value) -> bool
     ensures same { IsTrue result ↔ (a.now ≡ b.now) }
 {
-    match (a, b) {
-        (Value::Null, Value::Null) => true,
-        (Value::Bool(x), Value::Bool(y)) => *x == *y,
-        (Value::Long(x), Value::Long(y)) => *x == *y,
-        (Value::Text(x), Value::Text(y)) => x.equals(y),
-        (Value::Moment(x), Value::Moment(y)) => *x == *y,
-        (Value::Span(x), Value::Span(y)) => *x == *y,
-        (Value::Dynamic(x), Value::Dynamic(y)) => same_dyn(x, y),
-        _ => false,
-    }
+    a.as_cell().is_same(b.as_cell())
 }
 
 /// Whether a value is well formed: a moment is in the range of datetimes, and a dynamic value is not null
@@ -118,9 +99,5 @@ pub fn same_key(a: &Value, b: &Value) -> bool
 pub fn is_well_formed(v: &Value) -> bool
     ensures form { IsTrue result ↔ IsWellFormed v.now }
 {
-    match v {
-        Value::Moment(n) => 0 <= *n && *n <= MOMENT_TOP,
-        Value::Dynamic(d) => !is_null(d) && has_form(d) && has_levels_within(d, LEVELS_TOP),
-        _ => true,
-    }
+    v.as_cell().is_well_formed()
 }

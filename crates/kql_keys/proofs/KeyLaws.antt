@@ -1,16 +1,17 @@
 -- Groups and matches in the words of the definitions: filters of the rows.
-use Rattle.std.proofs.Common.{◌≡◌, ◌<◌, ◌+◌, ◌==◌, ◌||◌, ◌∷◌, ◌∙◌, ℕ, zero, suc, Bool, true, false, not, List, [], map, filter, length, get_or, refl, sym, ap, inl, inr, arith}
+use Rattle.std.proofs.Common.{◌≡◌, ◌<◌, ◌+◌, ◌==◌, ◌||◌, ◌∷◌, ◌++◌, ◌∙◌, ℕ, zero, suc, Bool, true, false, not, List, [], map, filter, length, get_or, refl, sym, ap, inl, inr, arith}
 use Rattle.std.specs.Prelude.{⊤}
 use Rattle.std.specs.Bool.{Decides}
 use Rattle.std.specs.List.{list_any, position_or_len, range_with_len}
 use Rattle.std.proofs.lemmas.Bool.{cases_Bool}
 use Rattle.std.proofs.lemmas.List.{length-map, get_or_default}
+use Rattle.std.proofs.lemmas.List.FromFn.{map-range_with_len_more}
 use Rattle.std.proofs.lemmas.List.Folds.{list_any_at}
 use Rattle.std.proofs.lemmas.Map.Views.{any-filter_same}
 use Rattle.kql_cells.specs.declared.value.Value.{Value}
-use Rattle.kql_keys.specs.Keys.{key_at, keys_of}
+use Rattle.kql_values.specs.Grids.{row_of, rows_of}
 use Rattle.kql_keys.specs.Matches.{keys_match, matches_in}
-use Rattle.kql_keys.specs.Numbers.{distinct, first_places, numbers_of, places_from}
+use Rattle.kql_keys.specs.Numbers.{distinct, first_places, numbers_of}
 use Rattle.kql_keys.specs.Places.{places_of}
 use Rattle.kql_cells.specs.Keys.{same_keys, same_keys-decides}
 use Rattle.kql_keys.proofs.NumberLaws.{distinct-are, places-agree, places-filter, places-map}
@@ -21,18 +22,25 @@ pub matches-are : (key : ℕ → List Value) (k : List Value) (n : ℕ) → matc
 unfolding matches_in
 matches-are key k n = places-filter key (keys_match k) 0 n
 
+-- one row more
+pub rows-more : (columns : List (List Value)) (i : ℕ) → rows_of (i + 1) columns ≡ rows_of i columns ++ row_of columns i ∷ []
+unfolding rows_of
+rows-more columns i = map-range_with_len_more (row_of columns) 0 i i (omega arith)
+
 -- each number is less than the count of first places
-pub numbers-within : (columns : List (List Value)) (count : ℕ) (numbers firsts : List ℕ) → numbers ≡ numbers_of same_keys (keys_of columns count)
-    → firsts ≡ first_places same_keys (keys_of columns count) → (k d : ℕ) → k < length numbers → get_or numbers k d < length firsts
+pub numbers-within : (columns : List (List Value)) (count : ℕ) (numbers firsts : List ℕ) → numbers ≡ numbers_of same_keys (rows_of count columns)
+    → firsts ≡ first_places same_keys (rows_of count columns) → (k d : ℕ) → k < length numbers → get_or numbers k d < length firsts
+unfolding rows_of
 numbers-within columns count numbers firsts en ef k d =
-    let ks = keys_of columns count in
-    let size : length (distinct same_keys ks) ≡ length (first_places same_keys ks) = ap length (distinct-are same_keys same_keys-decides (key_at columns) count) ∙ length-map (first_places same_keys ks) (key_at columns) in
+    let ks = rows_of count columns in
+    let size : length (distinct same_keys ks) ≡ length (first_places same_keys ks) = ap length (distinct-are same_keys same_keys-decides (row_of columns) count) ∙ length-map (first_places same_keys ks) (row_of columns) in
     rw (en, ef, ← size) (numbers-low same_keys same_keys-decides ks k d)
 
 -- the keys at the first places are the distinct ones
-pub first-keys : (columns : List (List Value)) (count : ℕ) (firsts : List ℕ) → firsts ≡ first_places same_keys (keys_of columns count)
-    → map (key_at columns) firsts ≡ distinct same_keys (keys_of columns count)
-first-keys columns count firsts ef = rw ef (sym (distinct-are same_keys same_keys-decides (key_at columns) count))
+pub first-keys : (columns : List (List Value)) (count : ℕ) (firsts : List ℕ) → firsts ≡ first_places same_keys (rows_of count columns)
+    → map (row_of columns) firsts ≡ distinct same_keys (rows_of count columns)
+unfolding rows_of
+first-keys columns count firsts ef = rw ef (sym (distinct-are same_keys same_keys-decides (row_of columns) count))
 
 or-none : (a b : Bool) → (a || b) ≡ false → (a ≡ false) × (b ≡ false)
 or-none true b e = cc

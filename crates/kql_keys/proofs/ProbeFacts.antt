@@ -1,10 +1,10 @@
 -- What a probe finds.
-use Rattle.std.proofs.Common.{◌≡◌, ◌<◌, ◌+◌, ◌==◌, ◌||◌, ◌&&◌, ◌++◌, ◌∷◌, ◌∙◌, ℕ, zero, suc, Bool, true, false, not, if◌then◌else◌, List, [], map, flat_map, take, length, get_or, refl, sym, ap, inl, inr, arith}
-use Rattle.std.specs.Prelude.{Option, Some, None}
-use Rattle.std.specs.Bool.{Decides, one_answer}
+use Rattle.std.proofs.Common.{◌≡◌, ◌<◌, ◌+◌, ◌==◌, ◌++◌, ◌∷◌, ◌∙◌, ℕ, zero, suc, Bool, true, false, List, [], map, flat_map, take, length, get_or, refl, sym, ap, inl, inr, arith}
+use Rattle.std.specs.Prelude.{Some}
+use Rattle.std.specs.Bool.{Decides}
 use Rattle.std.specs.List.{list_any, position, position_or_len, range_with_len}
 use Rattle.std.proofs.lemmas.Bool.{cases_Bool, eqb-true, eq-eqb}
-use Rattle.std.proofs.lemmas.List.{append-nil, length-map, map-append, take_more}
+use Rattle.std.proofs.lemmas.List.{append-nil, map-append, take_more}
 use Rattle.std.proofs.lemmas.List.Concat.{flat_map-append}
 use Rattle.std.proofs.lemmas.List.Folds.{list_any-append, list_any_at}
 use Rattle.std.proofs.lemmas.List.FromFn.{get_or-map-range_with_len, length-map-range_with_len}
@@ -12,7 +12,7 @@ use Rattle.std.proofs.lemmas.List.Quantifiers.{position-Some}
 use Rattle.std.proofs.lemmas.List.Sums.{passes_at_first, position_or_len_is}
 use Rattle.kql_cells.specs.declared.value.Value.{Value}
 use Rattle.kql_cells.specs.declared.value.Value.TheVariants as val
-use Rattle.kql_keys.specs.Keys.{key_at}
+use Rattle.kql_values.specs.Grids.{row_of}
 use Rattle.kql_keys.specs.Matches.{has_null, keys_match, matches_in, pairs_of}
 use Rattle.kql_keys.specs.Numbers.{distinct, numbers_of, places_from}
 use Rattle.kql_keys.specs.Places.{places_by, places_of}
@@ -120,11 +120,11 @@ pub pairs-none : (columns keys : List (List Value)) → pairs_of columns 0 keys 
 unfolding pairs_of
 pairs-none columns keys = refl
 
-pub pairs-more : (columns keys : List (List Value)) (i : ℕ) → pairs_of columns (i + 1) keys ≡ pairs_of columns i keys ++ map (λ j. (i, j)) (matches_in keys (key_at columns i))
+pub pairs-more : (columns keys : List (List Value)) (i : ℕ) → pairs_of columns (i + 1) keys ≡ pairs_of columns i keys ++ map (λ j. (i, j)) (matches_in keys (row_of columns i))
 unfolding pairs_of
 pairs-more columns keys i =
     let one : i + 1 ≡ suc i = omega arith in
-    let f = λ (i : ℕ). map (λ (j : ℕ). (i, j)) (matches_in keys (key_at columns i)) in
+    let f = λ (i : ℕ). map (λ (j : ℕ). (i, j)) (matches_in keys (row_of columns i)) in
     let r : range_with_len 0 (i + 1) ≡ range_with_len 0 i ++ i ∷ [] = ap (range_with_len 0) one ∙ range-suc i in
     ap (flat_map f) r ∙ (flat_map-append f (range_with_len 0 i) (i ∷ []) ∙ ap (λ l. flat_map f (range_with_len 0 i) ++ l) (append-nil (f i)))
 
@@ -136,7 +136,7 @@ seconds-of : (i : ℕ) (js : List ℕ) → map (λ (p : ℕ × ℕ). p.1) (map (
 seconds-of i [] = refl
 seconds-of i (j ∷ js) = ap (λ l. j ∷ l) (seconds-of i js)
 
-pub pairs-step : (columns keys : List (List Value)) (i : ℕ) (ls ls2 rs rs2 found : List ℕ) → found ≡ matches_in keys (key_at columns i)
+pub pairs-step : (columns keys : List (List Value)) (i : ℕ) (ls ls2 rs rs2 found : List ℕ) → found ≡ matches_in keys (row_of columns i)
     → ls ≡ map (λ p. p.0) (pairs_of columns i keys) → rs ≡ map (λ p. p.1) (pairs_of columns i keys) → ls2 ≡ ls ++ map (λ j. i) found → rs2 ≡ rs ++ found
     → (ls2 ≡ map (λ p. p.0) (pairs_of columns (i + 1) keys)) × (rs2 ≡ map (λ p. p.1) (pairs_of columns (i + 1) keys))
 pairs-step columns keys i ls ls2 rs rs2 found ef el er el2 er2 =

@@ -1,4 +1,3 @@
-pub mod Keys
 pub mod Matches
 pub mod Numbers
 pub mod Places

@@ -1,8 +1,8 @@
 -- Which keys match, and the pairs of rows whose keys do.
-use Rattle.std.specs.Prelude.{ℕ, Bool, true, false, not, ◌&&◌, List, map, flat_map}
+use Rattle.std.specs.Prelude.{ℕ, Bool, not, ◌&&◌, List, map, flat_map}
 use Rattle.std.specs.List.{list_any, range_with_len}
 use Rattle.kql_cells.specs.declared.value.Value.{Value}
-use Rattle.kql_keys.specs.Keys.{key_at}
+use Rattle.kql_values.specs.Grids.{row_of}
 use Rattle.kql_keys.specs.Numbers.{places_from}
 use Rattle.kql_cells.specs.Keys.{is_null, same_keys}
 
@@ -20,4 +20,4 @@ matches_in keys k = places_from 0 (keys_match k) keys
 
 -- for each left row, in order, the pairs with its matches, rising
 unfoldable pub pairs_of : List (List Value) → ℕ → List (List Value) → List (ℕ × ℕ)
-pairs_of columns count keys = flat_map (λ i. map (λ j. (i, j)) (matches_in keys (key_at columns i))) (range_with_len 0 count)
+pairs_of columns count keys = flat_map (λ i. map (λ j. (i, j)) (matches_in keys (row_of columns i))) (range_with_len 0 count)

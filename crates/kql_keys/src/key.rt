@@ -2,7 +2,7 @@ ghost use Rattle.std.specs.Prelude.{◌≡◌, ◌<◌, ◌↔◌, IsTrue, All, 
 ghost use Rattle.kql_cells.specs.Seen.{seen, value_at};
 ghost use Rattle.kql_cells.specs.declared.value.Value.TheVariants.{Null};
 ghost use Rattle.kql_cells.specs.Hashed.{cell_writes};
-ghost use Rattle.kql_keys.specs.Keys.{key_at};
+ghost use Rattle.kql_values.specs.Grids.{row_of};
 ghost use Rattle.kql_keys.specs.Matches.{has_null};
 
 use kql_cells::{CellRef, hash_cell};
@@ -22,13 +22,13 @@ impl<'a> Model for KeyRef<'a> {
     ghost use Rattle.std.specs.Coded.{codes};
     ghost use Rattle.kql_cells.specs.contracts.dynamic.Dyn as dynamic;
     ghost use Rattle.kql_cells.specs.declared.value.Value.{Value as Cell};
-    ghost use Rattle.kql_keys.specs.Keys.{key_at};
+    ghost use Rattle.kql_values.specs.Grids.{row_of};
 
     ghost Value = { List Cell };
 
     ghost coded = { Prim.hlevel (codes, dynamic.the_row.coded) };
 
-    ghost view = { λ k. key_at (map (λ c. c.now) k.columns.now) k.at };
+    ghost view = { λ k. row_of (map (λ c. c.now) k.columns.now) k.at };
 
     ghost invariant = { λ k. All (λ c. k.at < length c.now) k.columns.now };
 }
@@ -37,11 +37,12 @@ impl<'a> KeyRef<'a> {
     /// The key at a place of these columns.
     pub fn new(columns: &'a [&'a Vector], at: usize) -> KeyRef<'a>
         requires within { All (λ c. at < length c.now) columns.now }
-        ensures cells { result ≡ key_at (map (λ c. c.now) columns.now) at }
+        ensures cells { result ≡ row_of (map (λ c. c.now) columns.now) at }
     {
         KeyRef { columns, at }
     }
 
+    #[tactic(auto, using(crate::proofs::KeyFacts::key_facts))]
     fn len(&self) -> usize
         ensures { result ≡ length self.now }
     {

@@ -1,5 +1,5 @@
 ghost use Rattle.std.specs.Prelude.{◌≡◌, ◌<◌, ◌≤◌, ◌++◌, ◌∷◌, [], All, IfOk, OnOk, length, map, if◌then◌else◌};
-ghost use Rattle.kql_keys.specs.Keys.{key_at, keys_of};
+ghost use Rattle.kql_values.specs.Grids.{row_of, rows_of};
 ghost use Rattle.kql_keys.specs.Numbers.{distinct, first_places, numbers_of};
 ghost use Rattle.kql_cells.specs.Keys.{same_keys};
 
@@ -32,10 +32,10 @@ pub fn index_keys<'a>(
     count: usize,
 ) -> Result<KeyIndex<'a>, AllocError>
     requires { All (λ c. count ≤ length c.now) columns.now }
-    ensures keys { IfOk result (λ x. x.seen.keys ≡ distinct same_keys (keys_of (map (λ c. c.now) columns.now) count)) }
-    ensures numbers { IfOk result (λ x. x.numbers ≡ numbers_of same_keys (keys_of (map (λ c. c.now) columns.now) count)) }
-    ensures firsts { IfOk result (λ x. x.firsts ≡ first_places same_keys (keys_of (map (λ c. c.now) columns.now) count)) }
-    ensures first_keys { IfOk result (λ x. map (key_at (map (λ c. c.now) columns.now)) x.firsts ≡ distinct same_keys (keys_of (map (λ c. c.now) columns.now) count)) }
+    ensures keys { IfOk result (λ x. x.seen.keys ≡ distinct same_keys (rows_of count (map (λ c. c.now) columns.now))) }
+    ensures numbers { IfOk result (λ x. x.numbers ≡ numbers_of same_keys (rows_of count (map (λ c. c.now) columns.now))) }
+    ensures firsts { IfOk result (λ x. x.firsts ≡ first_places same_keys (rows_of count (map (λ c. c.now) columns.now))) }
+    ensures first_keys { IfOk result (λ x. map (row_of (map (λ c. c.now) columns.now)) x.firsts ≡ distinct same_keys (rows_of count (map (λ c. c.now) columns.now))) }
     ensures within { IfOk result (λ x. All (λ n. n < length x.firsts) x.numbers) }
 {
     let mut seen: IndexSet<KeyRef<'a>> = IndexSet::new(alloc);
@@ -57,9 +57,9 @@ pub fn index_keys<'a>(
 /// The number of each row's key, where the distinct keys are numbered in order of first occurrence, and the first row of each.
 pub fn number_keys(alloc: Global, columns: &[&Vector], count: usize) -> Result<Numbered, AllocError>
     requires { All (λ c. count ≤ length c.now) columns.now }
-    ensures numbers { IfOk result (λ x. x.numbers ≡ numbers_of same_keys (keys_of (map (λ c. c.now) columns.now) count)) }
-    ensures firsts { IfOk result (λ x. x.firsts ≡ first_places same_keys (keys_of (map (λ c. c.now) columns.now) count)) }
-    ensures first_keys { IfOk result (λ x. map (key_at (map (λ c. c.now) columns.now)) x.firsts ≡ distinct same_keys (keys_of (map (λ c. c.now) columns.now) count)) }
+    ensures numbers { IfOk result (λ x. x.numbers ≡ numbers_of same_keys (rows_of count (map (λ c. c.now) columns.now))) }
+    ensures firsts { IfOk result (λ x. x.firsts ≡ first_places same_keys (rows_of count (map (λ c. c.now) columns.now))) }
+    ensures first_keys { IfOk result (λ x. map (row_of (map (λ c. c.now) columns.now)) x.firsts ≡ distinct same_keys (rows_of count (map (λ c. c.now) columns.now))) }
     ensures within { IfOk result (λ x. All (λ n. n < length x.firsts) x.numbers) }
 {
     let KeyIndex {

@@ -1,5 +1,5 @@
 ghost use Rattle.std.specs.Prelude.{◌≡◌, ◌<◌, ◌≤◌, ◌++◌, All, IfOk, OnOk, length, map};
-ghost use Rattle.kql_keys.specs.Keys.{key_at, keys_of};
+ghost use Rattle.kql_values.specs.Grids.{row_of, rows_of};
 ghost use Rattle.kql_keys.specs.Matches.{matches_in, pairs_of};
 
 use crate::key::KeyRef;
@@ -26,7 +26,7 @@ impl<'a> Model for Probe<'a> {
     ghost use Rattle.std.specs.Coded.{codes};
     ghost use Rattle.kql_cells.specs.contracts.dynamic.Dyn as dynamic;
     ghost use Rattle.kql_cells.specs.declared.value.Value.{Value as Cell};
-    ghost use Rattle.kql_keys.specs.Keys.{keys_of};
+    ghost use Rattle.kql_values.specs.Grids.{rows_of};
     ghost use Rattle.kql_keys.specs.Numbers.{distinct, numbers_of};
     ghost use Rattle.kql_keys.specs.Places.{places_by};
     ghost use Rattle.kql_cells.specs.Keys.{same_keys};
@@ -35,9 +35,9 @@ impl<'a> Model for Probe<'a> {
 
     ghost coded = { Prim.hlevel (codes, dynamic.the_row.coded) };
 
-    ghost view = { λ p. keys_of (map (λ c. c.now) p.columns.now) p.count };
+    ghost view = { λ p. rows_of p.count (map (λ c. c.now) p.columns.now) };
 
-    ghost invariant = { λ p. (p.seen.keys ≡ distinct same_keys (keys_of (map (λ c. c.now) p.columns.now) p.count)) × (p.places ≡ places_by (numbers_of same_keys (keys_of (map (λ c. c.now) p.columns.now) p.count)) (length (distinct same_keys (keys_of (map (λ c. c.now) p.columns.now) p.count)))) };
+    ghost invariant = { λ p. (p.seen.keys ≡ distinct same_keys (rows_of p.count (map (λ c. c.now) p.columns.now))) × (p.places ≡ places_by (numbers_of same_keys (rows_of p.count (map (λ c. c.now) p.columns.now))) (length (distinct same_keys (rows_of p.count (map (λ c. c.now) p.columns.now))))) };
 }
 
 impl<'a> Probe<'a> {
@@ -48,7 +48,7 @@ impl<'a> Probe<'a> {
         count: usize,
     ) -> Result<Probe<'a>, AllocError>
         requires { All (λ c. count ≤ length c.now) columns.now }
-        ensures keys { IfOk result (λ p. p ≡ keys_of (map (λ c. c.now) columns.now) count) }
+        ensures keys { IfOk result (λ p. p ≡ rows_of count (map (λ c. c.now) columns.now)) }
     {
         let KeyIndex {
             seen,
@@ -67,7 +67,7 @@ impl<'a> Probe<'a> {
     /// The places of the rows that match a row of other columns, rising. A key with a null matches nothing.
     pub fn matches_of(&self, columns: &[&Vector], at: usize) -> &[usize]
         requires { All (λ c. at < length c.now) columns.now }
-        ensures places { result.now ≡ matches_in self.now (key_at (map (λ c. c.now) columns.now) at) }
+        ensures places { result.now ≡ matches_in self.now (row_of (map (λ c. c.now) columns.now) at) }
     {
         let key = KeyRef::new(columns, at);
         if key.has_null() {
@@ -97,8 +97,8 @@ pub fn matching_pairs(
 ) -> Result<Pairs, AllocError>
     requires left { All (λ c. lefts ≤ length c.now) left.now }
     requires right { All (λ c. rights ≤ length c.now) right.now }
-    ensures lefts { IfOk result (λ p. p.lefts ≡ map (λ p. p.0) (pairs_of (map (λ c. c.now) left.now) lefts (keys_of (map (λ c. c.now) right.now) rights))) }
-    ensures rights { IfOk result (λ p. p.rights ≡ map (λ p. p.1) (pairs_of (map (λ c. c.now) left.now) lefts (keys_of (map (λ c. c.now) right.now) rights))) }
+    ensures lefts { IfOk result (λ p. p.lefts ≡ map (λ p. p.0) (pairs_of (map (λ c. c.now) left.now) lefts (rows_of rights (map (λ c. c.now) right.now)))) }
+    ensures rights { IfOk result (λ p. p.rights ≡ map (λ p. p.1) (pairs_of (map (λ c. c.now) left.now) lefts (rows_of rights (map (λ c. c.now) right.now)))) }
 {
     let probe = Probe::new(alloc, right, rights)?;
     let mut ls = Items::new(alloc);

@@ -1,5 +1,5 @@
 pub mod FrontFacts
-pub mod ItemFacts
+pub mod ItemLaws
 pub mod LexFacts
 pub mod LiteralFacts
 pub mod NumberFacts

@@ -191,6 +191,3 @@ pub fn one_reading(alloc: Global, text: &[u8]) -> Result<Tokens, LexFault>
 {
     lex(alloc, text)
 }
-
-#[cfg(test)]
-mod tests;

@@ -13,7 +13,7 @@ use Rattle.kql_syntax.specs.Classes.{IsOf}
 use Rattle.kql_syntax.specs.Levels.{Level}
 use Rattle.kql_syntax.specs.Forms.{Form, token, level, pair, either, option, many, makes, mark, after, before, listed}
 use Rattle.kql_syntax.specs.Derives.{Is, Row, Perhaps, Derivable}
-use Rattle.kql_syntax.proofs.ClassFacts.{class_means}
+use Rattle.kql_syntax.proofs.ClassLaws.{class_means}
 use Rattle.kql_syntax.proofs.StartLaws.{and_left, and_right}
 use Rattle.kql_parser.specs.Operators.{after_token, is_operator}
 use Rattle.kql_parser_laws.specs.Counted.{Next, names_from}

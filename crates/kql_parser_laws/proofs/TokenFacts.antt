@@ -8,7 +8,7 @@ use Rattle.kql_lexer.specs.declared.token.TokenForm.TheVariants as form
 use Rattle.kql_syntax.specs.declared.class.Class.{Class}
 use Rattle.kql_syntax.specs.declared.class.Class.TheVariants as class
 use Rattle.kql_syntax.specs.Classes.{IsOf, has, holds, spans, number}
-use Rattle.kql_syntax.proofs.ClassFacts.{class_means}
+use Rattle.kql_syntax.proofs.ClassLaws.{class_means}
 use Rattle.kql_syntax.proofs.StartLaws.{and_left, and_right, or_left}
 use Rattle.kql_parser.specs.Operators.{after_free, after_operator, after_hint, after_typeof, after_head, after_token, is_operator, is_source_word, is_word}
 use Rattle.kql_parser_laws.specs.Counted.{at_first}

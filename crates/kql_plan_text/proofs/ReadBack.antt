@@ -9,7 +9,7 @@ use Rattle.kql_lexer.specs.StringItems.{StringItem, escaped, may_stand, meant, p
 use Rattle.kql_lexer.specs.Strings.{escape}
 use Rattle.kql_lexer.specs.Words.{is_reserved, is_word, keyword_of}
 use Rattle.kql_lexer.specs.declared.token.TokenForm.TheVariants as form
-use Rattle.kql_lexer.proofs.ItemFacts.{items_read}
+use Rattle.kql_lexer.proofs.ItemLaws.{items_read}
 use Rattle.kql_plan_text.specs.Literals.{escaped_byte, name_text, quoted}
 use Rattle.kql_plan_text.specs.ReadBack.{IsNamed, NamesReadBack, StringsReadBack, as_word, in_brackets}
 

@@ -1,5 +1,5 @@
 pub mod BeginLaws
-pub mod ClassFacts
+pub mod ClassLaws
 pub mod DepthLaws
 pub mod EndLaws
 pub mod FormLaws

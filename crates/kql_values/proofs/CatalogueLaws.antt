@@ -1,8 +1,10 @@
 -- The names of a catalogue's tables, and of their schemas.
-use Rattle.std.proofs.Common.{◌≡◌, ◌≢◌, ◌<◌, ℕ, not, List, [], ◌∷◌, ◌++◌, length, refl, arith}
+use Rattle.std.proofs.Common.{◌≡◌, ◌≢◌, ◌<◌, ◌↔◌, ℕ, not, List, [], ◌∷◌, ◌++◌, length, refl, arith}
+use Rattle.std.specs.Prelude.{All}
 use Rattle.std.specs.List.{position, prefix_len}
 use Rattle.std.specs.Str.{bytes_eq}
 use Rattle.std.proofs.lemmas.List.{get_or-map, length-map, map-append}
+use Rattle.std.proofs.lemmas.List.Elements.{All-map}
 use Rattle.std.proofs.lemmas.List.Quantifiers.{all_pairs_push}
 use Rattle.kql_cells.specs.Named.{HasDistinctNames, IsAbsent, place_of}
 use Rattle.kql_cells.specs.Catalogues.{schema_name, schema_of, schemas_of, table_name}
@@ -30,6 +32,16 @@ first-named name (t ∷ tables) = rw (first-named name tables) refl
 
 pub place-named : (name : List ℕ) (tables : List Named) → place_of table_name name (all_named tables) ≡ position (λ t. bytes_eq t.name name) tables
 place-named name tables = rw (first-named name tables, length-map tables named_of) refl
+
+-- what has no name, as contracts see it
+pub absent-named : (name : List ℕ) (tables : List Named) → All (λ t. t.name ≢ name) tables ↔ IsAbsent table_name name (all_named tables)
+absent-named name tables =
+    let size = length-map tables named_of in (
+      All-map (λ t. table_name t ≢ name) named_of tables,
+      λ h k d lt.
+          let inside : k < length (all_named tables) = omega arith in
+          rw (get_or-map named_of tables k d (named_of d) lt) at (h k (named_of d) inside),
+    )
 
 -- a table of another name is added
 pub distinct-push : (tables new : List Named) (t : Named) → HasDistinctNames table_name (all_named tables) → IsAbsent table_name t.name (all_named tables) → new ≡ tables ++ t ∷ []

@@ -1,5 +1,6 @@
 pub mod BuilderFacts
 pub mod CatalogueLaws
+pub mod FittingLaws
 pub mod GridLaws
 pub mod NullableLaws
 pub mod PieceLaws

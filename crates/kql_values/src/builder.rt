@@ -1,7 +1,8 @@
-ghost use Rattle.std.specs.Prelude.{◌≡◌, ◌<◌, ◌^◌, ◌++◌, ◌∷◌, [], IfOk, OnErr, OnOk, length, slice_index_or, slice_set};
+ghost use Rattle.std.specs.Prelude.{◌≡◌, ◌<◌, ◌^◌, ◌++◌, ◌∷◌, ◌↔◌, [], IfOk, IsTrue, OnErr, OnOk, length, slice_index_or, slice_set};
 ghost use Rattle.kql_cells.specs.Seen.{seen};
 ghost use Rattle.kql_values.specs.Growing.{FitsNext, closed, started, with_cell};
 
+use crate::fitting::cell_fits;
 use crate::table::Table;
 use crate::vector::Vector;
 use crate::vectors::empty_columns;
@@ -74,6 +75,16 @@ impl TableBuilder {
         ensures count { result ≡ length self.now.row }
     {
         self.filled
+    }
+
+    /// Whether there is a column for one cell more, which this cell fits.
+    pub fn fits_next(&self, cell: CellRef<'_>) -> bool
+        ensures fits { IsTrue result ↔ FitsNext self.now (seen cell.entry) }
+    {
+        match self.schema().columns().get(self.filled()) {
+            None => false,
+            Some(column) => cell_fits(column, cell),
+        }
     }
 
     /// Adds what a cell shows to the row that is open.

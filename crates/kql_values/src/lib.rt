@@ -7,6 +7,7 @@
 mod builder;
 mod byte_pieces;
 mod catalogue;
+mod fitting;
 mod number_column;
 mod rows;
 mod store;
@@ -17,6 +18,7 @@ mod vectors;
 
 pub use builder::TableBuilder;
 pub use catalogue::{Catalogue, Named};
+pub use fitting::{cell_fits, cells_fit, columns_fit, have_same_kinds};
 pub use kql_cells::{
     Bytes, CellRef, Column, Dyn, DynBag, DynList, KText, KeyList, Kind, LEVELS_TOP, MOMENT_TOP,
     NamedSchema, Names, Ordinals, Paths, Places, Row, Schema, Schemas, Value, Values, clone_dyn,

@@ -3,10 +3,12 @@ ghost use Rattle.kql_values.specs.Moves.{IsWithin, value_or};
 ghost use Rattle.kql_values.specs.Numbers.{values_of_numbers};
 ghost use Rattle.kql_values.specs.Stores.{text_value};
 ghost use Rattle.kql_cells.specs.Seen.{seen, value_at};
+ghost use Rattle.kql_cells.specs.Table.{CellFits};
 
+use crate::fitting::cell_fits;
 use crate::store::{Numbers, Store};
 use crate::text_column::TextColumn;
-use kql_cells::{CellRef, Kind, Value};
+use kql_cells::{CellRef, Column, Kind, Value};
 use std::alloc::{AllocError, Global};
 use std::marker::Model;
 
@@ -58,6 +60,18 @@ impl Vector {
         ensures same { seen result ≡ value_at self.now i }
     {
         self.store.cell(i)
+    }
+
+    /// Whether each cell shows a well-formed value of a column's type, or null.
+    pub fn fits(&self, column: &Column) -> bool
+        ensures fits { IsTrue result ↔ All (CellFits column.now) self.now }
+    {
+        for i in 0..self.len() {
+            if !cell_fits(column, self.cell(i)) {
+                return false;
+            }
+        }
+        true
     }
 
     /// Adds what a cell shows at the end.

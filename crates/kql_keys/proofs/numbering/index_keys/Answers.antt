@@ -1,26 +1,28 @@
-use Rattle.std.proofs.Common.{◌≡◌, ◌+◌, ◌++◌, ◌∷◌, ◌∙◌, [], map, length, sym, arith, rules}
-use Rattle.std.proofs.lemmas.List.FromFn.{length-map-range_with_len, map-range_with_len_more}
-use Rattle.kql_keys.specs.Keys.{key_at, keys_of}
+use Rattle.std.proofs.Common.{◌≡◌, ◌∙◌, map, length, sym, rules}
+use Rattle.kql_values.specs.Grids.{row_of, rows_of}
 use Rattle.kql_cells.specs.Keys.{same_keys, same_keys-decides}
-use Rattle.kql_keys.proofs.KeyLaws.{first-keys, numbers-within}
+use Rattle.kql_keys.proofs.KeyLaws.{first-keys, numbers-within, rows-more}
+use Rattle.kql_values.proofs.GridLaws.{rows_of-length, rows_of-none}
 use Rattle.kql_keys.proofs.NumberFacts.{firsts-nil, numbers-nil, numbered-step}
 use Rattle.kql_keys.proofs.numbering.index_keys.Goals as goal
 
 pub loop-i-init : goal.loop-i-init
-loop-i-init c = record {
-  keys = search rules;
-  numbers = c.in_ok-numbers.ensures.empty ∙ sym (numbers-nil same_keys same_keys-decides);
-  firsts = c.new-firsts.ensures.empty ∙ sym (firsts-nil same_keys same_keys-decides);
-}
+loop-i-init c =
+    let none = rows_of-none (map (λ c. c.now) c.args.columns.now) in
+    record {
+      keys = rw none (search rules);
+      numbers = rw none (c.in_ok-numbers.ensures.empty ∙ sym (numbers-nil same_keys same_keys-decides));
+      firsts = rw none (c.new-firsts.ensures.empty ∙ sym (firsts-nil same_keys same_keys-decides));
+    }
 
 pub loop-i-preserved : goal.loop-i-preserved
 loop-i-preserved c =
     let columns = map (λ c. c.now) c.args.columns.now in
     let i = c.loop-i.i in
-    let ks = keys_of columns i in
-    let k = key_at columns i in
-    let more : keys_of columns (i + 1) ≡ ks ++ k ∷ [] = map-range_with_len_more (key_at columns) 0 i i (omega arith) in
-    let count : i ≡ length ks = sym (length-map-range_with_len (key_at columns) 0 i) in
+    let ks = rows_of i columns in
+    let k = row_of columns i in
+    let more = rows-more columns i in
+    let count : i ≡ length ks = sym (rows_of-length i columns) in
     let key = c.new-key.ensures.cells in
     let e = c.in_ok-place.ensures in
     let step = numbered-step same_keys same_keys-decides ks k c.loop-i.seen.keys c.insert_full.new.self.keys c.loop-i.numbers c.push.new.self c.loop-i.firsts c.push_if.new.places c.in_ok-place.place i c.in_ok-place.added

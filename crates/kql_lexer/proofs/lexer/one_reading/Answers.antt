@@ -1,4 +1,4 @@
-use Rattle.kql_lexer.proofs.ItemFacts.{items_read, strings_items}
+use Rattle.kql_lexer.proofs.ItemLaws.{items_read, strings_items}
 use Rattle.kql_lexer.proofs.LexFacts.{told_fault, told_tokens}
 use Rattle.kql_lexer.proofs.lexer.one_reading.Goals as goal
 

@@ -1,4 +1,4 @@
-use Rattle.kql_syntax.proofs.ClassFacts.{class_means, means_class}
+use Rattle.kql_syntax.proofs.ClassLaws.{class_means, means_class}
 use Rattle.kql_syntax.proofs.class.is_of.Goals as goal
 
 pub returns-clause-meaning : goal.returns-clause-meaning
