@@ -13,7 +13,7 @@ use Rattle.std.proofs.lemmas.List.{get_or_past}
 use Rattle.std.proofs.lemmas.List.Folds.{list_any_none}
 use Rattle.std.proofs.lemmas.Str.{IsUtf8-from_ascii}
 use Rattle.csv.specs.Writing.{default_writer, field_text, needs_byte, needs_quotes}
-use Rattle.kql_cells.proofs.NumberFacts.{own}
+use Rattle.kql_cells.proofs.NumberLaws.{own}
 use Rattle.kql_ticks.specs.Texts.{is_of_time}
 
 pub field-plain : (t : List ℕ) → needs_quotes default_writer t ≡ false → field_text default_writer t ≡ t

@@ -1,5 +1,5 @@
 use csv_io::*;
-use kql_cells::CellRef;
+use kql_cells::{CellRef, Schema};
 use kql_values::Table;
 use std::alloc::{AllocError, Global};
 use std::str;
@@ -338,5 +338,15 @@ fn a_file_of_many_rows(rt: HostRuntime) -> Result<(), Fail> {
     let printed = table_text(alloc, &table)?;
     let lines = lines_after(str::from_utf8(printed.as_slice()).unwrap_or(""));
     assert_eq!(rt; lines, lines_after(text.as_str()));
+    Ok(())
+}
+
+// A record of no field is two quotes, as the crate `csv` writes it.
+#[test]
+fn a_table_without_columns(rt: HostRuntime) -> Result<(), Fail> {
+    let alloc = rt.alloc();
+    let table = Table::empty(alloc, Schema::new(alloc))?;
+    let printed = table_text(alloc, &table)?;
+    assert_eq!(rt; printed.as_slice(), b"\"\"\n".as_slice());
     Ok(())
 }
