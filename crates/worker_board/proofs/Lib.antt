@@ -1,0 +1,5 @@
+pub mod Sums
+pub mod RuleSteps
+pub mod RuleKept
+pub mod Sits
+pub mod Deals
