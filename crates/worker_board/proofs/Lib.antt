@@ -3,3 +3,5 @@ pub mod RuleSteps
 pub mod RuleKept
 pub mod Sits
 pub mod Deals
+pub mod Filled
+pub mod AllDone

@@ -5,3 +5,5 @@ pub mod Plays
 pub mod Views
 pub mod Inside
 pub mod InsideBoard
+pub mod Results
+pub mod Placing

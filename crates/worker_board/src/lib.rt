@@ -7,12 +7,19 @@
 
 mod board;
 mod gathered;
+mod joined;
 mod known;
+mod phase;
 mod rule;
 mod seat;
+mod slots;
+mod work;
+mod worker;
 
 pub use board::{Board, Seats};
 pub use gathered::Gathered;
 pub use known::{Known, Size};
+pub use phase::run_pieces;
 pub use rule::BoardRule;
 pub use seat::WorkerSeat;
+pub use work::{Outcome, Work};
