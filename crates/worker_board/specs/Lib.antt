@@ -7,3 +7,4 @@ pub mod Inside
 pub mod InsideBoard
 pub mod Results
 pub mod Placing
+pub mod Laws
