@@ -1,0 +1,10 @@
+pub mod Counts
+pub mod Moves
+pub mod Rule
+pub mod Plays
+pub mod Views
+pub mod Inside
+pub mod InsideBoard
+pub mod Results
+pub mod Placing
+pub mod Laws
