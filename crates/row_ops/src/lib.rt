@@ -1,0 +1,12 @@
+//! Operators that take rows one at a time, and the sources of rows: each gives the table that the meaning of its name has.
+//!
+//! They compute values and places; moving cells is the table's own.
+#![tactic(auto)]
+
+mod columns;
+mod extend;
+mod filter;
+mod values;
+
+pub use extend::{extend_rows, project_rows};
+pub use filter::{count_rows, take_rows, where_rows};
