@@ -1,0 +1,11 @@
+//! Tests of worker_board, on its public calls.
+#![tactic(auto)]
+
+#[cfg(test)]
+mod boards;
+#[cfg(test)]
+mod calls;
+#[cfg(test)]
+mod runs;
+#[cfg(test)]
+mod works;
