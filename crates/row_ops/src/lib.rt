@@ -1,4 +1,4 @@
-//! Operators that take rows one at a time, and the sources of rows: each gives the table that the meaning of its name has.
+//! `where`, `extend`, `project`, `take` and `count`: each gives the table that the meaning of its name has.
 //!
 //! They compute values and places; moving cells is the table's own.
 #![tactic(auto)]
