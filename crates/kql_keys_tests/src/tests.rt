@@ -27,13 +27,21 @@ fn cell(shown: Shown) -> CellRef<'static> {
     }
 }
 
+// What is made, or want of memory.
+type Made<T> = Result<T, AllocError>;
+
 // A vector of these cells.
-fn vector_of(alloc: Global, kind: Kind, cells: &[Shown]) -> Result<Vector, AllocError> {
+fn vector_of(alloc: Global, kind: Kind, cells: &[Shown]) -> Made<Vector> {
     let mut vector = Vector::new(alloc, kind);
+    push_all(&mut vector, cells)?;
+    Ok(vector)
+}
+
+fn push_all(vector: &mut Vector, cells: &[Shown]) -> Made<()> {
     for shown in cells {
         vector.push_cell(cell(*shown))?;
     }
-    Ok(vector)
+    Ok(())
 }
 
 // Five cells of a column, and what the rows' keys are numbered by it alone: the numbers and the first places.
@@ -113,19 +121,29 @@ const COLUMNS: &[(Kind, &[Shown], &[usize], &[usize])] = &[
     ),
 ];
 
+// Whether keys are numbered so.
+fn is(found: Made<Numbered>, numbers: &[usize], firsts: &[usize]) -> Made<bool> {
+    let found = found?;
+    Ok(found.numbers.as_slice() == numbers && found.firsts.as_slice() == firsts)
+}
+
+// Whether the rows of one column of five cells are numbered so.
+fn numbers_one(alloc: Global, column: &Vector, numbers: &[usize], firsts: &[usize]) -> Made<bool> {
+    if column.len() != 5 {
+        return Ok(false);
+    }
+    is(number_keys(alloc, [column].as_slice(), 5), numbers, firsts)
+}
+
 // The first column by which the rows are numbered wrong.
 fn first_wrong(
     alloc: Global,
     rows: &[(Kind, &[Shown], &[usize], &[usize])],
-) -> Result<Option<usize>, AllocError> {
+) -> Made<Option<usize>> {
     for i in 0..rows.len() {
         let (kind, cells, numbers, firsts) = rows[i];
         let column = vector_of(alloc, kind, cells)?;
-        if column.len() != 5 {
-            return Ok(Some(i));
-        }
-        let found = number_keys(alloc, [&column].as_slice(), 5)?;
-        if found.numbers.as_slice() != numbers || found.firsts.as_slice() != firsts {
+        if !numbers_one(alloc, &column, numbers, firsts)? {
             return Ok(Some(i));
         }
     }
@@ -138,117 +156,150 @@ fn numbers_keys_of_each_type(rt: HostRuntime) -> Result<(), Fail> {
     Ok(())
 }
 
+const NUMBERS: &[Shown] = &[
+    Shown::Long(2),
+    Shown::Long(2),
+    Shown::Null,
+    Shown::Long(1),
+    Shown::Null,
+    Shown::Long(2),
+];
+
+const TEXTS: &[Shown] = &[
+    Shown::Text("a"),
+    Shown::Text("b"),
+    Shown::Text("a"),
+    Shown::Text("a"),
+    Shown::Text("a"),
+    Shown::Text("b"),
+];
+
 // 2, 2, null, 1, null, 2.
-fn numbers(alloc: Global) -> Result<Vector, AllocError> {
-    let cells = &[
-        Shown::Long(2),
-        Shown::Long(2),
-        Shown::Null,
-        Shown::Long(1),
-        Shown::Null,
-        Shown::Long(2),
-    ];
-    vector_of(alloc, Kind::Long, cells)
+fn numbers(alloc: Global) -> Made<Vector> {
+    vector_of(alloc, Kind::Long, NUMBERS)
 }
 
 // "a", "b", "a", "a", "a", "b".
-fn texts(alloc: Global) -> Result<Vector, AllocError> {
-    let cells = &[
-        Shown::Text("a"),
-        Shown::Text("b"),
-        Shown::Text("a"),
-        Shown::Text("a"),
-        Shown::Text("a"),
-        Shown::Text("b"),
-    ];
-    vector_of(alloc, Kind::Text, cells)
+fn texts(alloc: Global) -> Made<Vector> {
+    vector_of(alloc, Kind::Text, TEXTS)
 }
 
-// `[0]`, `[1]`, `[0]`.
-fn arrays(alloc: Global) -> Result<Vector, AllocError> {
-    let mut vector = Vector::new(alloc, Kind::Dynamic);
-    for n in 0..3 {
-        let mut parts = Items::new(alloc);
-        parts.push(Dyn::Long(n % 2))?;
-        vector.push(Value::Dynamic(Dyn::Array(parts)))?;
+// Adds the array of a number.
+fn push_array(alloc: Global, vector: &mut Vector, n: i64) -> Made<()> {
+    let mut parts = Items::new(alloc);
+    parts.push(Dyn::Long(n))?;
+    vector.push(Value::Dynamic(Dyn::Array(parts)))?;
+    Ok(())
+}
+
+// Whether `[0]`, `[1]`, `[0]` are two keys.
+fn numbers_arrays(alloc: Global, vector: &mut Vector) -> Made<bool> {
+    push_array(alloc, vector, 0)?;
+    push_array(alloc, vector, 1)?;
+    push_array(alloc, vector, 0)?;
+    if vector.len() != 3 {
+        return Ok(false);
     }
-    Ok(vector)
+    is(
+        number_keys(alloc, [&*vector].as_slice(), 3),
+        &[0, 1, 0],
+        &[0, 1],
+    )
+}
+
+// Whether the rows of two columns are numbered by both, and no row by one.
+fn numbers_two(alloc: Global, longs: &Vector, words: &Vector) -> Made<bool> {
+    if longs.len() != 6 || words.len() != 6 {
+        return Ok(false);
+    }
+    let two = number_keys(alloc, [longs, words].as_slice(), 6);
+    let both = is(two, &[0, 1, 2, 3, 2, 1], &[0, 1, 2, 3])?;
+    let none = is(number_keys(alloc, [words].as_slice(), 0), &[], &[])?;
+    Ok(both && none)
 }
 
 #[test]
 fn numbers_keys(rt: HostRuntime) -> Result<(), Fail> {
     let alloc = rt.alloc();
-    let longs = numbers(alloc)?;
-    let words = texts(alloc)?;
-    assert_eq!(rt; longs.len(), 6);
-    assert_eq!(rt; words.len(), 6);
-    if longs.len() == 6 && words.len() == 6 {
-        let two = number_keys(alloc, [&longs, &words].as_slice(), 6)?;
-        assert!(rt; two.numbers.as_slice() == [0, 1, 2, 3, 2, 1].as_slice());
-        assert!(rt; two.firsts.as_slice() == [0, 1, 2, 3].as_slice());
-        let none = number_keys(alloc, [&words].as_slice(), 0)?;
-        assert_eq!(rt; none.firsts.len(), 0);
-    }
-    let one = number_keys(alloc, &[], 3)?;
-    assert!(rt; one.numbers.as_slice() == [0, 0, 0].as_slice());
-    assert!(rt; one.firsts.as_slice() == [0].as_slice());
-    let lists = arrays(alloc)?;
-    assert_eq!(rt; lists.len(), 3);
-    if lists.len() == 3 {
-        let found = number_keys(alloc, [&lists].as_slice(), 3)?;
-        assert!(rt; found.numbers.as_slice() == [0, 1, 0].as_slice());
-    }
+    assert!(rt; numbers_two(alloc, &numbers(alloc)?, &texts(alloc)?)?);
+    assert!(rt; is(number_keys(alloc, &[], 3), &[0, 0, 0], &[0])?);
+    assert!(rt; numbers_arrays(alloc, &mut Vector::new(alloc, Kind::Dynamic))?);
     Ok(())
+}
+
+// Whether the keys of six rows of two columns are told apart.
+fn tells_apart(longs: &Vector, words: &Vector) -> bool {
+    if longs.len() != 6 || words.len() != 6 {
+        return false;
+    }
+    let columns = [longs, words];
+    let first = KeyRef::new(columns.as_slice(), 0);
+    KeyRef::new(columns.as_slice(), 1) == KeyRef::new(columns.as_slice(), 5)
+        && first != KeyRef::new(columns.as_slice(), 1)
+        && first != KeyRef::new([longs].as_slice(), 0)
+        && !first.has_null()
+        && KeyRef::new(columns.as_slice(), 2).has_null()
 }
 
 #[test]
 fn compares_keys(rt: HostRuntime) -> Result<(), Fail> {
     let alloc = rt.alloc();
-    let longs = numbers(alloc)?;
-    let words = texts(alloc)?;
-    assert_eq!(rt; longs.len(), 6);
-    assert_eq!(rt; words.len(), 6);
-    if longs.len() == 6 && words.len() == 6 {
-        let columns = [&longs, &words];
-        let first = KeyRef::new(columns.as_slice(), 0);
-        assert!(rt; KeyRef::new(columns.as_slice(), 1) == KeyRef::new(columns.as_slice(), 5));
-        assert!(rt; first != KeyRef::new(columns.as_slice(), 1));
-        assert!(rt; first != KeyRef::new([&longs].as_slice(), 0));
-        assert!(rt; !first.has_null());
-        assert!(rt; KeyRef::new(columns.as_slice(), 2).has_null());
-    }
+    assert!(rt; tells_apart(&numbers(alloc)?, &texts(alloc)?));
     Ok(())
+}
+
+// Whether these are the places of 0, 1, 2 and 3 in 1, 0, 1, 3.
+fn are_places(lists: &PlaceLists) -> bool {
+    lists.len() == 4
+        && lists.get(0) == [1].as_slice()
+        && lists.get(1) == [0, 2].as_slice()
+        && lists.get(2).is_empty()
+        && lists.get(3) == [3].as_slice()
 }
 
 #[test]
 fn lists_places(rt: HostRuntime) -> Result<(), Fail> {
-    let lists = places_by_number(rt.alloc(), &[1, 0, 1, 3], 4)?;
-    assert_eq!(rt; lists.len(), 4);
-    if lists.len() == 4 {
-        assert!(rt; lists.get(0) == [1].as_slice());
-        assert!(rt; lists.get(1) == [0, 2].as_slice());
-        assert_eq!(rt; lists.get(2).len(), 0);
-        assert!(rt; lists.get(3) == [3].as_slice());
-    }
+    assert!(rt; are_places(&places_by_number(rt.alloc(), &[1, 0, 1, 3], 4)?));
     Ok(())
+}
+
+// Whether these are the pairs.
+fn are(pairs: Made<Pairs>, lefts: &[usize], rights: &[usize]) -> Made<bool> {
+    let pairs = pairs?;
+    Ok(pairs.lefts.as_slice() == lefts && pairs.rights.as_slice() == rights)
+}
+
+// Whether six rows are paired with four, and none where a side is empty.
+fn pairs_six(alloc: Global, longs: &Vector) -> Made<bool> {
+    if longs.len() != 6 {
+        return Ok(false);
+    }
+    let one = [longs];
+    let six = matching_pairs(alloc, one.as_slice(), 6, one.as_slice(), 4);
+    let some = are(six, &[0, 0, 1, 1, 3, 5, 5], &[0, 1, 0, 1, 3, 0, 1])?;
+    let left = are(
+        matching_pairs(alloc, one.as_slice(), 6, one.as_slice(), 0),
+        &[],
+        &[],
+    )?;
+    let right = are(
+        matching_pairs(alloc, one.as_slice(), 0, one.as_slice(), 6),
+        &[],
+        &[],
+    )?;
+    Ok(some && left && right)
 }
 
 #[test]
 fn pairs_rows(rt: HostRuntime) -> Result<(), Fail> {
     let alloc = rt.alloc();
-    let longs = numbers(alloc)?;
-    assert_eq!(rt; longs.len(), 6);
-    if longs.len() == 6 {
-        let pairs = matching_pairs(alloc, [&longs].as_slice(), 6, [&longs].as_slice(), 4)?;
-        assert!(rt; pairs.lefts.as_slice() == [0, 0, 1, 1, 3, 5, 5].as_slice());
-        assert!(rt; pairs.rights.as_slice() == [0, 1, 0, 1, 3, 0, 1].as_slice());
-        let none = matching_pairs(alloc, [&longs].as_slice(), 6, [&longs].as_slice(), 0)?;
-        assert_eq!(rt; none.lefts.len() + none.rights.len(), 0);
-        let none = matching_pairs(alloc, [&longs].as_slice(), 0, [&longs].as_slice(), 6)?;
-        assert_eq!(rt; none.lefts.len() + none.rights.len(), 0);
-    }
-    let all = matching_pairs(alloc, &[], 2, &[], 2)?;
-    assert!(rt; all.lefts.as_slice() == [0, 0, 1, 1].as_slice());
-    assert!(rt; all.rights.as_slice() == [0, 1, 0, 1].as_slice());
+    assert!(rt; pairs_six(alloc, &numbers(alloc)?)?);
+    assert!(rt;
+        are(
+            matching_pairs(alloc, &[], 2, &[], 2),
+            &[0, 0, 1, 1],
+            &[0, 1, 0, 1]
+        )?
+    );
     Ok(())
 }
