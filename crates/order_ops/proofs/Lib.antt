@@ -1,0 +1,6 @@
+pub mod RisenLaws
+pub mod LeastLaws
+pub mod OrderLaws
+pub mod KeySteps
+pub mod SortSteps
+pub mod LeastSteps
