@@ -1,4 +1,4 @@
-use Rattle.std.proofs.Common.{◌≡◌, ◌≢◌, ℕ, ◌+◌, ◌<◌, ◌≤◌, Bool, true, false, cond, eqb, Option, Some, None, List, [], ◌∷◌, ◌++◌, map, refl, sym, ap, ◌∙◌, subst, arith, ⊎_elim, suc, zero, Contains}
+use Rattle.std.proofs.Common.{◌≡◌, ◌≢◌, ◌↔◌, ℕ, ◌+◌, ◌<◌, ◌≤◌, Bool, true, false, cond, eqb, Option, Some, None, List, [], ◌∷◌, ◌++◌, map, refl, sym, ap, ◌∙◌, subst, arith, ⊎_elim, suc, zero, Contains}
 use Rattle.std.specs.List.{filter, flat_map, range_with_len}
 use Rattle.std.specs.List.Sorted.{IsStrictlyIncreasing}
 use Rattle.std.proofs.lemmas.List.{get_or-set_same, get_or-set_other, length-set, append-nil, map-append}
@@ -12,7 +12,7 @@ use Rattle.board_core.specs.declared.events.Event.TheVariants.{Claim as Asks, Fi
 use Rattle.board_core.specs.declared.events.Stepped.{Stepped}
 use Rattle.board_core.specs.declared.events.Stepped.TheVariants.{Claimed, Filled, Done}
 use Rattle.board_core.specs.State.{State, first, after, run, effect, claims_of, open_claim_of, is_told, slot_of, answer_to_fill}
-use Rattle.board_core.specs.Replay.{NamesEachOnce, IsFinishedWith, named_worker, turn_of, events_of}
+use Rattle.board_core.specs.Replay.{NamesEachOnce, IsBegunWith, IsFinishedWith, named_worker, turn_of, turns_of, events_of}
 use Rattle.board_core.proofs.Lawful.{Keeps, kept_first, kept_after, run-append, get_or-replicate_all}
 use Rattle.board_core.proofs.Stored.{answer_claimed, answer_done}
 use Rattle.board_core.proofs.AnswerLemmas.{may_from}
@@ -166,15 +166,15 @@ module _ (owner : ℕ → ℕ) (pieces workers j : ℕ) (s : State) (stage : Sta
       }
 
 -- all pieces below k, in turn
-turns_taken : (claims : List Claim) (pieces workers : ℕ) → ((piece : ℕ) → piece < pieces → named_worker claims piece < workers) → (k : ℕ) → k ≤ pieces → Stage (named_worker claims) pieces workers k 0 (run (flat_map (turn_of claims) (range_with_len 0 k)) (first pieces workers))
-turns_taken claims pieces workers known zero h = stage_first (named_worker claims) pieces workers
-turns_taken claims pieces workers known (suc k) h =
-    let before = turns_taken claims pieces workers known k (omega arith) in
-    let s = run (flat_map (turn_of claims) (range_with_len 0 k)) (first pieces workers) in
+turns_taken : (claims : List Claim) (drawn pieces workers : ℕ) → drawn ≤ pieces → ((piece : ℕ) → piece < drawn → named_worker claims piece < workers) → (k : ℕ) → k ≤ drawn → Stage (named_worker claims) pieces workers k 0 (run (turns_of claims k) (first pieces workers))
+turns_taken claims drawn pieces workers within known zero h = stage_first (named_worker claims) pieces workers
+turns_taken claims drawn pieces workers within known (suc k) h =
+    let before = turns_taken claims drawn pieces workers within known k (omega arith) in
+    let s = run (turns_of claims k) (first pieces workers) in
     subst (Stage (named_worker claims) pieces workers (suc k) 0)
     (sym (ap (λ (ns : List ℕ). run (flat_map (turn_of claims) ns) (first pieces workers)) (range_next k)
     ∙ (ap (λ (es : List Event). run es (first pieces workers)) (flat_map-append (turn_of claims) (range_with_len 0 k) (k ∷ []))
-    ∙ run-append (flat_map (turn_of claims) (range_with_len 0 k)) (turn_of claims k) (first pieces workers))))
+    ∙ run-append (turns_of claims k) (turn_of claims k) (first pieces workers))))
     (turn_taken (named_worker claims) pieces workers k s before (omega arith) (known k (omega arith)))
 
 -- all workers below j, in turn
@@ -206,18 +206,50 @@ owned_rises : (owner : ℕ → ℕ) (n worker : ℕ) → IsStrictlyIncreasing (o
 unfolding owned
 owned_rises owner n worker = IsStrictlyIncreasing-filter (λ x. eqb (owner x) worker) (range_with_len 0 n) (range_rises n)
 
-module _ (claims : List Claim) (pieces workers : ℕ) (each : NamesEachOnce claims pieces workers) where
-  is_named : (piece : ℕ) → piece < pieces → Contains claims (record { piece = piece; worker = named_worker claims piece })
+-- the first so many pieces are named
+module _ (claims : List Claim) (drawn workers : ℕ) (each : NamesEachOnce claims drawn workers) where
+  is_named : (piece : ℕ) → piece < drawn → Contains claims (record { piece = piece; worker = named_worker claims piece })
   is_named piece h = named claims piece (omega (arith, each.once piece h))
 
-  owner_known : (piece : ℕ) → piece < pieces → named_worker claims piece < workers
-  owner_known piece h = (All-contains (λ (c : Claim). (c.piece < pieces) × (c.worker < workers)) claims _ each.known (is_named piece h)).1
+  owner_known : (piece : ℕ) → piece < drawn → named_worker claims piece < workers
+  owner_known piece h = (All-contains (λ (c : Claim). (c.piece < drawn) × (c.worker < workers)) claims _ each.known (is_named piece h)).1
 
+  -- those that belong to a worker are those that are named with it
+  same_pieces : (worker : ℕ) (mine : List ℕ) → mine ≡ owned (named_worker claims) drawn worker → (piece : ℕ) → Contains mine piece ↔ Contains claims (record { piece = piece; worker = worker })
+  same_pieces worker mine is piece = (
+    λ h.
+        let o = owned_contains (named_worker claims) drawn worker piece (subst (λ xs. Contains xs piece) is h) in
+        subst (λ w. Contains claims (record { piece = piece; worker = w })) o.1 (is_named piece o.0),
+    λ h.
+        let small = (All-contains (λ (c : Claim). (c.piece < drawn) × (c.worker < workers)) claims _ each.known h).0 in
+        subst (λ xs. Contains xs piece) (sym is)
+        (contains_owned (named_worker claims) drawn worker piece small (named_alone claims (record { piece = piece; worker = worker }) h (each.once piece small))),
+  )
+
+  rising_pieces : (worker : ℕ) (mine : List ℕ) → mine ≡ owned (named_worker claims) drawn worker → IsStrictlyIncreasing mine
+  rising_pieces worker mine is = subst IsStrictlyIncreasing (sym is) (owned_rises (named_worker claims) drawn worker)
+
+  module _ (pieces : ℕ) (within : drawn ≤ pieces) where
+    stage_drawn : Stage (named_worker claims) pieces workers drawn 0 (run (turns_of claims drawn) (first pieces workers))
+    stage_drawn = turns_taken claims drawn pieces workers within owner_known drawn (omega arith)
+
+    pub begun : IsBegunWith claims drawn pieces workers (run (turns_of claims drawn) (first pieces workers))
+    begun =
+        record {
+          pieces_kept = stage_drawn.keeps.slot_list;
+          workers_kept = stage_drawn.keeps.claim_lists;
+          claimed = stage_drawn.next_is;
+          same = λ piece worker. same_pieces worker _ (stage_drawn.claims_are worker) piece;
+          rising = λ worker. rising_pieces worker _ (stage_drawn.claims_are worker);
+          filled = stage_drawn.filled;
+        }
+
+module _ (claims : List Claim) (pieces workers : ℕ) (each : NamesEachOnce claims pieces workers) where
   last_stage : Stage (named_worker claims) pieces workers pieces workers (run (events_of claims pieces workers) (first pieces workers))
   last_stage =
       subst (Stage (named_worker claims) pieces workers pieces workers)
-      (sym (run-append (flat_map (turn_of claims) (range_with_len 0 pieces)) (map Asks (range_with_len 0 workers)) (first pieces workers)))
-      (all_told (named_worker claims) pieces workers _ (turns_taken claims pieces workers owner_known pieces (omega arith)) workers (omega arith))
+      (sym (run-append (turns_of claims pieces) (map Asks (range_with_len 0 workers)) (first pieces workers)))
+      (all_told (named_worker claims) pieces workers _ (stage_drawn claims pieces workers each pieces (omega arith)) workers (omega arith))
 
   pub replayed : IsFinishedWith claims pieces workers (run (events_of claims pieces workers) (first pieces workers))
   replayed =
@@ -225,16 +257,8 @@ module _ (claims : List Claim) (pieces workers : ℕ) (each : NamesEachOnce clai
         pieces_kept = last_stage.keeps.slot_list;
         workers_kept = last_stage.keeps.claim_lists;
         all_claimed = last_stage.next_is;
-        same = λ piece worker. (
-          λ h.
-              let o = owned_contains (named_worker claims) pieces worker piece (subst (λ xs. Contains xs piece) (last_stage.claims_are worker) h) in
-              subst (λ w. Contains claims (record { piece = piece; worker = w })) o.1 (is_named piece o.0),
-          λ h.
-              let small = (All-contains (λ (c : Claim). (c.piece < pieces) × (c.worker < workers)) claims _ each.known h).0 in
-              subst (λ xs. Contains xs piece) (sym (last_stage.claims_are worker))
-              (contains_owned (named_worker claims) pieces worker piece small (named_alone claims (record { piece = piece; worker = worker }) h (each.once piece small))),
-        );
-        rising = λ worker. subst IsStrictlyIncreasing (sym (last_stage.claims_are worker)) (owned_rises (named_worker claims) pieces worker);
+        same = λ piece worker. same_pieces claims pieces workers each worker _ (last_stage.claims_are worker) piece;
+        rising = λ worker. rising_pieces claims pieces workers each worker _ (last_stage.claims_are worker);
         filled = last_stage.filled;
         told = last_stage.told;
         closed = λ worker h. last_stage.closed worker;

@@ -20,9 +20,22 @@ named_worker claims piece = option_map_or (λ (c : Claim). c.worker) (find (λ c
 abbrev pub turn_of : List Claim → ℕ → List Event
 turn_of claims piece = Asks (named_worker claims piece) ∷ Fill (named_worker claims piece) ∷ []
 
--- the pieces in rising order, each claimed and filled, and then a claim of each worker
+-- the first so many pieces in rising order, each claimed and filled
+abbrev pub turns_of : List Claim → ℕ → List Event
+turns_of claims drawn = flat_map (turn_of claims) (range_with_len 0 drawn)
+
+-- all pieces in rising order, each claimed and filled, and then a claim of each worker
 abbrev pub events_of : List Claim → ℕ → ℕ → List Event
-events_of claims pieces workers = flat_map (turn_of claims) (range_with_len 0 pieces) ++ map Asks (range_with_len 0 workers)
+events_of claims pieces workers = turns_of claims pieces ++ map Asks (range_with_len 0 workers)
+
+-- the first so many pieces are claimed: each worker has those that are named with it, in rising order, and their slots are filled
+pub record IsBegunWith (claims : List Claim) (drawn pieces workers : ℕ) (s : State) : Type 0 where
+  pub pieces_kept : piece_count s ≡ pieces
+  pub workers_kept : worker_count s ≡ workers
+  pub claimed : s.next ≡ drawn
+  pub same : (piece worker : ℕ) → Contains (claims_of s worker) piece ↔ Contains claims (record { piece = piece; worker = worker })
+  pub rising : (worker : ℕ) → IsStrictlyIncreasing (claims_of s worker)
+  pub filled : (piece : ℕ) → piece < drawn → slot_of s piece ≡ Some piece
 
 -- each worker has the pieces that are named with it, in rising order, all slots are filled, and all workers were told the end
 pub record IsFinishedWith (claims : List Claim) (pieces workers : ℕ) (s : State) : Type 0 where

@@ -11,5 +11,5 @@ mod lists;
 mod machine;
 
 pub use events::{Claim, Claims, Event, Stepped};
-pub use laws::{claims_are_replayed, every_order_is_lawful};
+pub use laws::{claims_are_replayed, every_order_is_lawful, first_claims_are_replayed};
 pub use machine::{Core, run_all};

@@ -15,7 +15,7 @@ mod transfers;
 
 pub use clean::{CleanShelf, CleanSink};
 pub use failing::{MemShelf, MemSink};
-pub use gates::OpenGate;
+pub use gates::{HoldGate, OpenGate};
 pub use host::{DirShelf, StreamSink};
 pub use outside::{Failed, Gate, Shelf, Sink};
 pub use transfers::{ReadError, read_up_to, write_all};

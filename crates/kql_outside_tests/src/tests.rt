@@ -1,6 +1,7 @@
 use kql_outside::*;
 use std::test::Fail;
-use std::{fs, process};
+use std::thread::Threads;
+use std::{fs, process, thread};
 
 // The files of the tests: the second `a` is never seen.
 fn files(rt: &HostRuntime) -> Result<Vec<(String, Vec<u8>)>, Fail> {
@@ -177,4 +178,66 @@ fn passes<G: Gate + Sync>(gate: &G) {
 #[test]
 fn an_open_gate_lets_pass() {
     passes(&OpenGate);
+}
+
+// What one thread enters with, phase and piece, and in no row do two workers meet: who comes first turns to the limit.
+const ENTERED_ALONE: &[&[(u32, u32)]] = &[
+    &[],
+    &[(0, 0)],
+    &[(0, 1)],
+    &[(0, 0), (0, 1)],
+    &[(0, 1), (0, 0)],
+    &[(0, 0), (0, 0)],
+    &[(0, 0), (0, 1), (0, 0), (0, 1)],
+    &[(0, 2), (0, 3)],
+    &[(1, 0), (1, 1)],
+    &[(1, 0), (0, 1)],
+];
+
+fn met_alone(limit: u64, entered: &[(u32, u32)]) -> bool {
+    let gate = HoldGate::new(limit);
+    for (phase, piece) in entered {
+        gate.enter(*phase, *piece);
+    }
+    gate.met()
+}
+
+// Whether anybody is met in one of these rows.
+fn some_meet(limit: u64, rows: &[&[(u32, u32)]]) -> bool {
+    for entered in rows {
+        if met_alone(limit, entered) {
+            return true;
+        }
+    }
+    false
+}
+
+#[test]
+fn one_thread_meets_nobody(rt: HostRuntime) -> Result<(), Fail> {
+    let met = [
+        some_meet(0, ENTERED_ALONE),
+        some_meet(1, ENTERED_ALONE),
+        some_meet(1_000, ENTERED_ALONE),
+    ];
+    assert_eq!(rt; met, [false, false, false]);
+    Ok(())
+}
+
+// Whether two threads meet, of which one enters with piece 0 and one with piece 1.
+fn met_by_two<R: Threads + Sync>(rt: &R, limit: u64, phase: u32) -> bool {
+    let gate = HoldGate::new(limit);
+    let mut pieces = [0u32, 1];
+    thread::for_each_mut(rt, &mut pieces, 2, &|_, piece| gate.enter(phase, *piece));
+    gate.met()
+}
+
+#[test]
+fn two_threads_meet_in_the_first_phase(rt: HostRuntime) -> Result<(), Fail> {
+    let met = [
+        met_by_two(&rt, 2_000_000_000, 0),
+        met_by_two(&rt, 2_000_000_000, 1),
+        met_by_two(&rt, 0, 0),
+    ];
+    assert_eq!(rt; met, [true, false, false]);
+    Ok(())
 }
