@@ -4,3 +4,4 @@ pub mod OrderLaws
 pub mod KeySteps
 pub mod SortSteps
 pub mod LeastSteps
+pub mod LeadLaws
