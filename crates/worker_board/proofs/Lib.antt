@@ -5,4 +5,4 @@ pub mod Sits
 pub mod Deals
 pub mod Filled
 pub mod AllDone
-pub mod Fair
+pub mod Lawful

@@ -23,7 +23,7 @@ shown : (a b t : ℕ) → (0 < a → 0 < t) → (0 < b → 0 < t) → 0 < a + b 
 shown zero b t f g p = g (omega arith)
 shown (suc a) b t f g p = f (omega arith)
 
--- the piece n is claim_count
+-- the piece n is claimed
 pub claims : (k : Size) (n b id : ℕ) (views : List Known) (v : Known) → IsKept k n b views → get_elem? views id ≡ some v → length v.ended ≡ 0 → 0 < length v.numbers
     → n < k.pieces → IsKept k (n + 1) b (set views id (with_claim v n))
 claims k n b id views v h at undone some_number lt = record {
@@ -92,7 +92,7 @@ ends k n b id views v h at undone some_number le = record {
     more : mark_count (told_end v) ≡ mark_count v + 1
     more = length-append v.ended (least v.numbers ∷ [])
 
--- the stop word is set, and the seat mark_count
+-- the stop word is set, and the seat gets the stop mark
 pub stop_set : (k : Size) (n b id : ℕ) (views : List Known) (v : Known) → IsKept k n b views → get_elem? views id ≡ some v → 0 < length v.numbers
     → IsKept k n 1 (set views id (with_stop v))
 stop_set k n b id views v h at some_number = record {
@@ -131,7 +131,7 @@ length_of_others : (xs : List ℕ) → length (others_of xs) + length (first_of 
 length_of_others [] = refl
 length_of_others (x ∷ xs) = omega arith
 
--- a view that has claim_count spent is sound for any of its numbers
+-- a view without a claim and a mark is sound, whatever numbers it holds
 fresh_sound : (k : Size) (v : Known) → IsFresh v → (0 < length v.numbers → (v.size.pieces ≡ k.pieces) × (v.size.workers ≡ k.workers)) → IsSound k v
 fresh_sound k v f sized = record {
   same_size = sized;
@@ -263,9 +263,10 @@ stop_seen k n b id views v h at = (
       (λ ne. (h.stopped (omega arith), λ whole. let here : sum_by number_count views ≡ number_count v = omega (arith, h.numbers_counted) in omega (arith, sum-alone stop_count number_count views id v at here (λ j u e z. ((h.each j u e).spent z).2))))),
 )
 
--- word 0 does not come near its range's end, and a view has at most as many claims as numbers were Draws
+-- word 0 does not come near its range's end
 pub next_small : (k : Size) (n b : ℕ) (views : List Known) → IsKept k n b views → n ≤ k.pieces + k.workers
 next_small k n b views h = omega (arith, h.bounded, h.numbers_counted, sum-le mark_count number_count views (λ i v e. (h.each i v e).marks_few))
 
+-- a view has at most as many claims as numbers were drawn
 pub claims_drawn : (k : Size) (n b id : ℕ) (views : List Known) (v : Known) → IsKept k n b views → get_elem? views id ≡ some v → length v.claims ≤ n
 claims_drawn k n b id views v h at = omega (arith, h.pieces_counted, sum-at claim_count views id v at)

@@ -17,7 +17,7 @@ use Rattle.worker_board.proofs.Sums.{least-append, has_each, has_count, once_bel
 use Rattle.worker_board.proofs.RuleKept.{closes}
 
 -- claims of which each piece has one, and which only workers have, name each piece once
-names_each : (size : Size) (claims : List Claim) → ((p : ℕ) → times_claimed p claims ≡ once_below p size.pieces) → ((w : ℕ) → 0 < claims_by w claims → w < size.workers) → NamesEach size claims
+pub names_each : (size : Size) (claims : List Claim) → ((p : ℕ) → times_claimed p claims ≡ once_below p size.pieces) → ((w : ℕ) → 0 < claims_by w claims → w < size.workers) → NamesEach size claims
 names_each size claims pieces workers =
     record {
       once = λ p lt. pieces p ∙ once_below-in p size.pieces lt;

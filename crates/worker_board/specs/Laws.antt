@@ -1,4 +1,4 @@
-use Rattle.std.specs.Prelude.{◌≡◌, ◌≢◌, ℕ, ◌+◌, ◌<◌, ◌≤◌, ◌⊎◌, List, length, sum_by}
+use Rattle.std.specs.Prelude.{◌≡◌, ◌≢◌, ℕ, ◌+◌, ◌<◌, ◌≤◌, ◌⊎◌, List, [], length, sum_by}
 use mathlib.Core.Option.{some}
 use lib.ListN.{get_elem?}
 use Rattle.worker_board.specs.declared.known.Size.{Size}
@@ -21,7 +21,7 @@ abbrev pub HasStopMark : List Known → Type 0
 HasStopMark views = (place : ℕ) × (v : Known) × (get_elem? views place ≡ some v) × (0 < v.stops)
 
 -- between any two steps, where `next` is the number that is drawn next and `stop` the stop word
-pub record IsFair (size : Size) (next stop : ℕ) (views : List Known) : Type 0 where
+pub record IsLawful (size : Size) (next stop : ℕ) (views : List Known) : Type 0 where
   -- each piece that was drawn is claimed in one view, once, and no other number is
   pub drawn : (piece : ℕ) → piece < next → piece < size.pieces → IsInOne (times_taken piece) views
   pub later : (piece : ℕ) → (next ≤ piece) ⊎ (size.pieces ≤ piece) → IsInNone (times_taken piece) views
@@ -31,6 +31,8 @@ pub record IsFair (size : Size) (next stop : ℕ) (views : List Known) : Type 0 
   -- a claim or a mark stands in the view that holds its worker's number, and a worker has one mark at most
   pub claims : (place worker : ℕ) (v : Known) → get_elem? views place ≡ some v → 0 < claims_by worker v.claims → times worker v.numbers ≡ 1
   pub marks : (place worker : ℕ) (v : Known) → get_elem? views place ≡ some v → 0 < times worker v.ended → (times worker v.ended ≡ 1) × (times worker v.numbers ≡ 1)
+  -- a view without a number is spent: it holds nothing
+  pub spent : (place : ℕ) (v : Known) → get_elem? views place ≡ some v → v.numbers ≡ [] → (v.claims ≡ []) × (v.ended ≡ []) × (v.stops ≡ 0)
   -- a worker that was told the end was told so when all pieces were drawn, and no number is drawn but by a claim or a mark
   pub past : (place : ℕ) (v : Known) → get_elem? views place ≡ some v → 0 < length v.ended → size.pieces < next
   pub bounded : next ≤ size.pieces + sum_by mark_count views

@@ -52,6 +52,6 @@ module _ {T : Type 0} (answer : ℕ → T) where
     pub seat : IsOf board desk.seat
     pub left : HasStopped desk.seat ⊎ (IsDone desk.seat × (desk.results.items ≡ results_of desk.seat.known.claims))
 
-  -- what one worker leaves
+  -- what one worker leaves: no result where it has stopped
   abbrev pub LeavesAlone : BoardView → Desk T → Type 0
-  LeavesAlone board desk = Leaves board desk × (length desk.seat.known.numbers ≡ 1)
+  LeavesAlone board desk = Leaves board desk × (length desk.seat.known.numbers ≡ 1) × (HasStopped desk.seat → desk.results.items ≡ [])

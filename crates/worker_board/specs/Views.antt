@@ -1,10 +1,10 @@
 -- what contracts see of a board, of a seat, and of what `close` answers
-use Rattle.std.specs.Prelude.{◌≡◌, ℕ, ◌<◌, List, length, map}
-use Rattle.std.specs.List.{range_with_len}
+use Rattle.std.specs.Prelude.{◌≡◌, ℕ, ◌<◌, min, List, length, map}
+use Rattle.std.specs.List.{flat_map, range_with_len}
 use Rattle.atomic_table.specs.Seated.{TableId}
 use Rattle.board_core.specs.declared.events.Claim.{Claim}
 use Rattle.board_core.specs.State.{first, run}
-use Rattle.board_core.specs.Replay.{events_of, IsFinishedWith, NamesEachOnce}
+use Rattle.board_core.specs.Replay.{events_of, turns_of, IsBegunWith, IsFinishedWith, NamesEachOnce}
 use Rattle.worker_board.specs.declared.known.Size.{Size}
 use Rattle.worker_board.specs.declared.known.Known.{Known}
 use Rattle.worker_board.specs.Counts.{times}
@@ -58,3 +58,12 @@ NamesEach size claims = NamesEachOnce claims size.pieces size.workers
 -- the core that runs on the events of the claims has these claims in the end, every slot filled and every worker told the end
 abbrev pub Replays : Size → List Claim → Type 0
 Replays size claims = IsFinishedWith claims size.pieces size.workers (run (events_of claims size.pieces size.workers) (first size.pieces size.workers))
+
+-- the claims of all these views
+abbrev pub claims_in : List Known → List Claim
+claims_in views = flat_map (λ view. view.claims) views
+
+-- the core that runs on the events of these claims has drawn as many pieces as the board's counter tells, and has these claims
+abbrev pub ReplaysSoFar : Size → ℕ → List Known → Type 0
+ReplaysSoFar size next views =
+    IsBegunWith (claims_in views) (min next size.pieces) size.pieces size.workers (run (turns_of (claims_in views) (min next size.pieces)) (first size.pieces size.workers))

@@ -136,6 +136,9 @@ impl Board {
         } = seat;
         let shared = &self.table.shared;
         shared.join_seat::<TakeOver>(&mut into.place, place);
+
+        // The number that this finds is not used: the step tells that the claims of both fit into the room of one, and
+        // that no worker's number is held twice.
         shared.load::<Weigh>(&mut into.place, 0);
         into.claims.append(&mut claims).unwrap();
         into.first = into.first.min(first);
@@ -189,7 +192,8 @@ impl Board {
         seat.stopped = true;
     }
 
-    /// Whether some seat was told to stop, by one load. If so, this one gets the stop mark.
+    /// Whether some seat was told to stop, by one load. If so, this one gets the stop mark. A seat that has the mark is
+    /// always told so.
     pub fn is_stopped(&self, seat: &mut WorkerSeat) -> bool
         requires of_board { IsOf self.now seat.old }
         ensures board { seat.new.board ≡ seat.old.board }

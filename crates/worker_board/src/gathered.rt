@@ -13,13 +13,14 @@ pub struct Gathered {
 }
 
 impl Model for Gathered {
+    ghost use Rattle.std.specs.Prelude.{◌≡◌, length};
     ghost use Rattle.worker_board.specs.Views.{WholeClaims, NamesEach};
 
     ghost Value = { WholeClaims };
 
     ghost view = { λ g. record { size = g.size; claims = g.claims.items } };
 
-    ghost invariant = { λ g. NamesEach g.size g.claims.items };
+    ghost invariant = { λ g. NamesEach g.size g.claims.items × (length g.claims.items ≡ g.size.pieces) };
 }
 
 impl Gathered {
@@ -41,6 +42,7 @@ impl Gathered {
     pub fn claims(&self) -> &[Claim]
         ensures claims { result.now ≡ self.now.claims }
         ensures each { NamesEach self.now.size self.now.claims }
+        ensures count { length result.now ≡ self.now.size.pieces }
         ensures core { Replays self.now.size self.now.claims }
     {
         claims_are_replayed();

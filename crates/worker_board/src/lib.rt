@@ -20,7 +20,7 @@ mod worker;
 pub use board::{Board, Seats};
 pub use gathered::Gathered;
 pub use known::{Known, Size};
-pub use laws::every_board_is_fair;
+pub use laws::every_board_is_lawful;
 pub use phase::run_pieces;
 pub use rule::BoardRule;
 pub use seat::WorkerSeat;

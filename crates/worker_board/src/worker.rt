@@ -45,7 +45,7 @@ fn turn<T: Drop, W: Work<T>, G: Gate>(
     true
 }
 
-/// Claims until no piece is left, or some worker has stopped for want of memory.
+/// Claims until no piece is left, or some worker has stopped for want of memory. Then the worker lets its results go.
 pub(crate) fn work_on<T: Drop, W: Work<T>, G: Gate>(
     board: &Board,
     desk: &mut Desk<T>,
@@ -58,4 +58,7 @@ pub(crate) fn work_on<T: Drop, W: Work<T>, G: Gate>(
     ensures left { LeavesAlone (W.answer work.now) board.now desk.new }
 {
     while turn(board, &mut desk.seat, &mut desk.results, phase, work, gate) {}
+    if desk.seat.has_stopped() {
+        desk.results.clear();
+    }
 }

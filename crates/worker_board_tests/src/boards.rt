@@ -4,7 +4,7 @@ ghost use Rattle.worker_board.specs.Views.{IsOf, seats_of};
 use crate::calls::{closed, draw, drawn_twice, halt, is_told, join};
 use std::alloc::{AllocError, Global};
 use std::test::Fail;
-use worker_board::{Board, Gathered, Seats, WorkerSeat, every_board_is_fair};
+use worker_board::{Board, Gathered, Seats, WorkerSeat, every_board_is_lawful};
 
 // Three workers at a board of no pieces, of whom each is told the end at once.
 fn without_pieces(board: Board, seats: Seats) -> Option<Gathered>
@@ -30,7 +30,7 @@ fn without_pieces(board: Board, seats: Seats) -> Option<Gathered>
 
 #[test]
 fn no_pieces(rt: HostRuntime) -> Result<(), Fail> {
-    every_board_is_fair();
+    every_board_is_lawful();
     let (board, seats) = Board::new(rt.alloc(), 0, 3)?;
     let gathered = without_pieces(board, seats).expect(&rt, "the last seat is whole");
     let numbers = (

@@ -1,9 +1,9 @@
-use crate::works::{CountingGate, Lists, MeetingGate, Squares};
+use crate::works::{CountingGate, Lists, Squares};
 use board_core::Claim;
 use kql_items::Items;
-use kql_outside::OpenGate;
+use kql_outside::{HoldGate, OpenGate};
 use std::alloc::{AllocError, Global};
-use std::sync::atomic::{AtomicU64, Ordering};
+use std::sync::atomic::Ordering;
 use std::test::Fail;
 use std::thread::Threads;
 use worker_board::run_pieces;
@@ -96,31 +96,32 @@ fn every_count_of_workers_gives_the_same(rt: HostRuntime) -> Result<(), Fail> {
 
 #[test]
 fn each_piece_enters_the_gate(rt: HostRuntime) -> Result<(), Fail> {
-    let gate = CountingGate {
-        entered: AtomicU64::new(0),
-    };
+    let gate = CountingGate::new();
     run_pieces(&rt, rt.alloc(), 3, 7, &Squares { pieces: 50 }, &gate)?;
-    assert_eq!(rt; gate.entered.load(Ordering::SeqCst), 350);
+    assert_eq!(rt; gate.phases.load(Ordering::SeqCst), 350);
+    assert_eq!(rt; gate.pieces.load(Ordering::SeqCst), 1_225);
     Ok(())
 }
 
-// Whether two of so many workers meet in their pieces.
+// Whether two of so many workers meet in the pieces of a phase.
 fn meet<R: Threads + Sync>(
     rt: &R,
     alloc: Global,
     workers: u32,
+    phase: u32,
     limit: u64,
 ) -> Result<bool, AllocError> {
     let workers = workers.clamp(1, 64);
-    let gate = MeetingGate::new(limit);
-    run_pieces(rt, alloc, workers, 0, &Squares { pieces: 2 }, &gate)?;
+    let gate = HoldGate::new(limit);
+    run_pieces(rt, alloc, workers, phase, &Squares { pieces: 2 }, &gate)?;
     Ok(gate.met())
 }
 
 #[test]
 fn two_workers_are_side_by_side(rt: HostRuntime) -> Result<(), Fail> {
-    assert!(rt; meet(&rt, rt.alloc(), 2, 2_000_000_000)?);
-    assert!(rt; !meet(&rt, rt.alloc(), 1, 1_000)?);
+    assert!(rt; meet(&rt, rt.alloc(), 2, 0, 2_000_000_000)?);
+    assert!(rt; !meet(&rt, rt.alloc(), 1, 0, 1_000)?);
+    assert!(rt; !meet(&rt, rt.alloc(), 2, 1, 2_000_000_000)?);
     Ok(())
 }
 

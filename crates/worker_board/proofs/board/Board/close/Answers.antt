@@ -2,7 +2,7 @@ use Rattle.worker_board.proofs.Sits.{gathers}
 use Rattle.worker_board.proofs.board.Board.close.Goals as goal
 
 pub invariant_of-result : goal.invariant_of-result
-invariant_of-result c = (gathers _ _ _ _ c.self.view_is c.seat.view_is _ _ _ _ _ c.self.invariant.key c.seat.invariant.claims c.requires.whole c.close_with.ensures.values.2).0
+invariant_of-result c = gathers _ _ _ _ c.self.view_is c.seat.view_is _ _ _ _ _ c.self.invariant.key c.seat.invariant.claims c.requires.whole c.close_with.ensures.values.2
 
 pub returns-clause-each : goal.returns-clause-each
 returns-clause-each c = (gathers _ _ _ _ c.self.view_is c.seat.view_is _ _ _ _ _ c.self.invariant.key c.seat.invariant.claims c.requires.whole c.close_with.ensures.values.2).0
