@@ -1,5 +1,5 @@
 -- The equations of the names of items, one for each variant of an expression, and how many names there are.
-use Rattle.std.proofs.Common.{◌≡◌, ℕ, Bool, List, [], ◌∷◌, map, length, refl, sym, ap, ◌∙◌, rules}
+use Rattle.std.proofs.Common.{◌≡◌, ℕ, List, [], ◌∷◌, map, length, refl, rules}
 use Rattle.std.specs.Prelude.{Option, None, Some, is_none, if◌then◌else◌}
 use Rattle.std.specs.List.{list_any}
 use Rattle.kql_cells.specs.declared.schema.Column.{Column}
@@ -16,7 +16,7 @@ use Rattle.kql_bound.specs.declared.literal.Lit.{Lit}
 use Rattle.kql_meaning.specs.Results.{aggregate_result_kinds, result_kinds, result_kinds_step, typed}
 use Rattle.std.proofs.lemmas.List.{length-map}
 use Rattle.kql_cells.specs.declared.value.Kind.{Kind}
-use Rattle.item_names.specs.ItemNames.{aggregate_names, first_column, is_binning, item_names, name_of_gathered, or_numbered, own_name, own_names, own_names_step, takes_number}
+use Rattle.item_names.specs.ItemNames.{aggregate_names, first_column, is_binning, item_names, or_numbered, own_name, own_names, own_names_step, takes_number}
 
 -- The name that an expression of one row has by itself.
 
