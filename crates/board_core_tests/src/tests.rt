@@ -1,5 +1,6 @@
 use board_core::{
-    Claim, Claims, Core, Event, Stepped, claims_are_replayed, every_order_is_lawful, run_all,
+    Claim, Claims, Core, Event, Stepped, claims_are_replayed, every_order_is_lawful,
+    first_claims_are_replayed, run_all,
 };
 use std::alloc::{AllocError, Global};
 use std::process::Abort;
@@ -195,6 +196,7 @@ fn every_order_finishes(rt: HostRuntime) -> Result<(), Fail> {
     }
     every_order_is_lawful();
     claims_are_replayed();
+    first_claims_are_replayed();
     Ok(())
 }
 
