@@ -43,11 +43,11 @@ pub built-Serialize : op_is_built V.Serialize ≡ true
 unfolding op_built_step
 built-Serialize = step V.Serialize Op-F.Serialize (search (rules, the_lemmas))
 
-pub built-Sort : (keys : List BKey) → op_is_built (V.Sort keys) ≡ false
+pub built-Sort : (keys : List BKey) → op_is_built (V.Sort keys) ≡ true
 unfolding op_built_step
 built-Sort keys = step (V.Sort keys) (Op-F.Sort keys) (search (rules, the_lemmas))
 
-pub built-Top : (n : ℕ) (keys : List BKey) → op_is_built (V.Top n keys) ≡ false
+pub built-Top : (n : ℕ) (keys : List BKey) → op_is_built (V.Top n keys) ≡ true
 unfolding op_built_step
 built-Top n keys = step (V.Top n keys) (Op-F.Top n keys) (search (rules, the_lemmas))
 

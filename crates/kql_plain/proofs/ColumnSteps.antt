@@ -1,6 +1,7 @@
 -- The columns of what built operators make, and that these need no table but the one before them.
-use Rattle.std.proofs.Common.{◌≡◌, true, false, List, refl, sym, ap, ◌∙◌}
-use Rattle.std.specs.Prelude.{Option, Some}
+use Rattle.std.proofs.Common.{◌≡◌, Bool, true, false, List, refl, sym, ap, ◌∙◌}
+use Rattle.std.specs.Prelude.{Option, Some, is_some}
+use Rattle.kql_cells.specs.Named.{HasDistinctNames, column_name}
 use Rattle.kql_cells.specs.Table.{Grid}
 use Rattle.kql_cells.specs.declared.schema.Column.{Column}
 use Rattle.kql_bound.specs.declared.plan.Op.{Op, fold_out-Op, out-Op}
@@ -10,15 +11,29 @@ use Rattle.kql_bound.specs.declared.plan.Plan.{Plan}
 use Rattle.kql_meaning.specs.declared.position.Position.TheVariants as position
 use Rattle.kql_meaning.specs.Extend.{extend_columns, extend_table}
 use Rattle.kql_meaning.specs.Fits.{Known, OpColumns, PlanColumns, op_columns, op_columns_step, plan_columns, plan_columns_step}
-use Rattle.kql_meaning.specs.FittingOperators.{items_fit, where_fits}
+use Rattle.kql_meaning.specs.FittingOperators.{answer_if, columns_if, items_fit, sort_fits, where_fits}
 use Rattle.kql_meaning.specs.Items.{items_columns}
 use Rattle.kql_meaning.specs.Plans.{Gives, Makes, World, op_means, op_step, plan_means}
 use Rattle.kql_meaning.specs.Project.{project_table}
+use Rattle.kql_meaning.specs.Sort.{sort_table, top_table}
 use Rattle.kql_meaning.specs.TakeAndCount.{count_table, take_table}
 use Rattle.kql_meaning.specs.Where.{where_table}
 use Rattle.kql_meaning.proofs.PlanLaws.{op_means-out}
 use Rattle.kql_fit_laws.proofs.RowFacts.{answer-some, columns-some}
 use Rattle.kql_plain.specs.Built.{op_built_step, op_is_built}
+
+-- Columns that an operator makes where it fits.
+
+pub columns-there : (b : Bool) (cs : List Column) → is_some (columns_if b cs) ≡ true → columns_if b cs ≡ Some cs
+unfolding columns_if
+columns-there true cs e = refl
+columns-there false cs e = absurd cc
+
+pub answer-there : (b : Bool) (cs : List Column) → is_some (answer_if b cs) ≡ true → (b ≡ true) × HasDistinctNames column_name cs
+unfolding answer_if
+answer-there b cs e =
+    let made = answer-some b cs cs (columns-there _ cs e) in
+    (made.0, made.2)
 
 -- An operator's columns and meaning, from its layer.
 
@@ -36,15 +51,15 @@ some-same : (a b : List Column) → Some a ≡ Some b → a ≡ b
 some-same a b e = cc
 
 made-at : (y : Op-F Op Plan) (k : Known) (w : World) (t : Grid) (cs : List Column) → op_built_step y ≡ true → columns_at y k t.columns ≡ Some cs → (means_at y w t).columns ≡ cs
-unfolding op_built_step where_table extend_table project_table take_table count_table
+unfolding op_built_step where_table extend_table project_table take_table count_table sort_table top_table
 made-at (Op-F.Where e) k w t cs b f = (columns-some (where_fits e t.columns) t.columns cs f).1
 made-at (Op-F.Extend items) k w t cs b f = (answer-some (items_fit items t.columns position.Window) (extend_columns items t.columns) cs f).1
 made-at (Op-F.Project items) k w t cs b f = (answer-some (items_fit items t.columns position.Window) (items_columns items t.columns) cs f).1
 made-at (Op-F.Take n) k w t cs b f = some-same t.columns cs f
 made-at Op-F.Count k w t cs b f = cc
 made-at Op-F.Serialize k w t cs b f = some-same t.columns cs f
-made-at (Op-F.Sort keys) k w t cs b f = absurd cc
-made-at (Op-F.Top n keys) k w t cs b f = absurd cc
+made-at (Op-F.Sort keys) k w t cs b f = (columns-some (sort_fits keys t.columns) t.columns cs f).1
+made-at (Op-F.Top n keys) k w t cs b f = (columns-some (sort_fits keys t.columns) t.columns cs f).1
 made-at (Op-F.Summarize g) k w t cs b f = absurd cc
 made-at (Op-F.MakeSeries s) k w t cs b f = absurd cc
 made-at (Op-F.MvExpand x) k w t cs b f = absurd cc
@@ -68,8 +83,8 @@ alone-at (Op-F.Project items) k l cs b = refl
 alone-at (Op-F.Take n) k l cs b = refl
 alone-at Op-F.Count k l cs b = refl
 alone-at Op-F.Serialize k l cs b = refl
-alone-at (Op-F.Sort keys) k l cs b = absurd cc
-alone-at (Op-F.Top n keys) k l cs b = absurd cc
+alone-at (Op-F.Sort keys) k l cs b = refl
+alone-at (Op-F.Top n keys) k l cs b = refl
 alone-at (Op-F.Summarize g) k l cs b = absurd cc
 alone-at (Op-F.MakeSeries s) k l cs b = absurd cc
 alone-at (Op-F.MvExpand x) k l cs b = absurd cc

@@ -1,5 +1,5 @@
 -- What operators mean and ask of the columns before them, variant by variant, and one after another.
-use Rattle.std.proofs.Common.{◌≡◌, ℕ, Bool, true, false, List, [], ◌∷◌, length, map, refl, sym, ap, ◌∙◌, rules}
+use Rattle.std.proofs.Common.{◌≡◌, ℕ, true, false, List, [], ◌∷◌, length, map, refl, sym, ap, ◌∙◌, rules}
 use Rattle.std.specs.Prelude.{None, Option, Some, fold, is_some}
 use Rattle.std.specs.List.{list_all}
 use Rattle.std.proofs.lemmas.Bool.{and_parts}
@@ -9,6 +9,7 @@ use Rattle.kql_cells.specs.Table.{Grid}
 use Rattle.kql_cells.specs.declared.schema.Column.{Column}
 use Rattle.kql_bound.specs.declared.expr.BExpr.{BExpr}
 use Rattle.kql_bound.specs.declared.parts.BItem.{BItem}
+use Rattle.kql_bound.specs.declared.parts.BKey.{BKey}
 use Rattle.kql_bound.specs.declared.plan.Op.{Op, out-Op, the_lemmas}
 use Rattle.kql_bound.specs.declared.plan.Op.TheFolds.{map-Op}
 use Rattle.kql_bound.specs.declared.plan.Op.TheOpen.{Op-F}
@@ -17,19 +18,20 @@ use Rattle.kql_bound.specs.declared.plan.Plan.{Plan}
 use Rattle.kql_meaning.specs.declared.position.Position.TheVariants as position
 use Rattle.kql_meaning.specs.Extend.{extend_columns, extend_table}
 use Rattle.kql_meaning.specs.Fits.{Known, op_columns, ops_columns}
-use Rattle.kql_meaning.specs.FittingOperators.{answer_if, columns_if, items_fit, where_fits}
+use Rattle.kql_meaning.specs.FittingOperators.{items_fit, sort_fits, where_fits}
 use Rattle.kql_meaning.specs.Items.{items_columns}
 use Rattle.kql_meaning.specs.Plans.{Gives, Makes, World, one_after_another, op_means, op_step, plan_means}
 use Rattle.kql_meaning.specs.Project.{project_table}
+use Rattle.kql_meaning.specs.Sort.{sort_table, top_table}
 use Rattle.kql_meaning.specs.TakeAndCount.{count_table, take_table}
 use Rattle.kql_meaning.specs.Where.{where_table}
-use Rattle.kql_meaning.proofs.OperatorFitLaws.{after, after-none, after-some, op-Extend, op-Project, op-Where, ops-fold, stays-none}
+use Rattle.kql_meaning.proofs.OperatorFitLaws.{after, after-none, after-some, op-Extend, op-Project, op-Sort, op-Top, op-Where, ops-fold, stays-none}
 use Rattle.kql_meaning.proofs.PlanLaws.{op_means-out}
-use Rattle.kql_fit_laws.proofs.RowFacts.{answer-some, columns-some}
+use Rattle.kql_fit_laws.proofs.RowFacts.{columns-some}
 use Rattle.kql_plain.specs.AtHand.{known_in, op_fits, ops_fit}
 use Rattle.kql_plain.specs.Built.{op_is_built}
 use Rattle.kql_plain.proofs.BuiltSteps.{built_steps}
-use Rattle.kql_plain.proofs.ColumnSteps.{made-columns}
+use Rattle.kql_plain.proofs.ColumnSteps.{answer-there, columns-there, made-columns}
 
 -- What each means.
 
@@ -51,26 +53,31 @@ means-Take n w t = step (V.Take n) (Op-F.Take n) (search (rules, the_lemmas)) w 
 pub means-Count : (w : World) (t : Grid) → op_means V.Count w t ≡ count_table t
 means-Count w t = step V.Count Op-F.Count (search (rules, the_lemmas)) w t
 
+pub means-Sort : (keys : List BKey) (w : World) (t : Grid) → op_means (V.Sort keys) w t ≡ sort_table keys t
+means-Sort keys w t = step (V.Sort keys) (Op-F.Sort keys) (search (rules, the_lemmas)) w t
+
+pub means-Top : (n : ℕ) (keys : List BKey) (w : World) (t : Grid) → op_means (V.Top n keys) w t ≡ top_table n keys t
+means-Top n keys w t = step (V.Top n keys) (Op-F.Top n keys) (search (rules, the_lemmas)) w t
+
 pub means-Serialize : (w : World) (t : Grid) → op_means V.Serialize w t ≡ t
 means-Serialize w t = step V.Serialize Op-F.Serialize (search (rules, the_lemmas)) w t
 
 -- What each asks.
 
-columns-there : (b : Bool) (cs : List Column) → is_some (columns_if b cs) ≡ true → columns_if b cs ≡ Some cs
-unfolding columns_if
-columns-there true cs e = refl
-columns-there false cs e = absurd cc
-
-answer-there : (b : Bool) (cs : List Column) → is_some (answer_if b cs) ≡ true → (b ≡ true) × HasDistinctNames column_name cs
-unfolding answer_if
-answer-there b cs e =
-    let made = answer-some b cs cs (columns-there _ cs e) in
-    (made.0, made.2)
-
 pub fits-Where : (e : BExpr) (w : World) (cs : List Column) → op_fits (V.Where e) w cs ≡ true → where_fits e cs ≡ true
 unfolding op_fits
 fits-Where e w cs f =
     (columns-some (where_fits e cs) cs cs (columns-there (where_fits e cs) cs (sym (ap is_some (op-Where e (known_in w) false cs)) ∙ f))).0
+
+pub fits-Sort : (keys : List BKey) (w : World) (cs : List Column) → op_fits (V.Sort keys) w cs ≡ true → sort_fits keys cs ≡ true
+unfolding op_fits
+fits-Sort keys w cs f =
+    (columns-some (sort_fits keys cs) cs cs (columns-there (sort_fits keys cs) cs (sym (ap is_some (op-Sort keys (known_in w) false cs)) ∙ f))).0
+
+pub fits-Top : (n : ℕ) (keys : List BKey) (w : World) (cs : List Column) → op_fits (V.Top n keys) w cs ≡ true → sort_fits keys cs ≡ true
+unfolding op_fits
+fits-Top n keys w cs f =
+    (columns-some (sort_fits keys cs) cs cs (columns-there (sort_fits keys cs) cs (sym (ap is_some (op-Top n keys (known_in w) false cs)) ∙ f))).0
 
 extend-fits : (items : List BItem) (w : World) (cs : List Column) → op_fits (V.Extend items) w cs ≡ true → (items_fit items cs position.Window ≡ true) × HasDistinctNames column_name (extend_columns items cs)
 unfolding op_fits
@@ -94,7 +101,7 @@ fits-Project items w cs f = (project-fits items w cs f).0
 pub names-Project : (items : List BItem) (w : World) (cs : List Column) → op_fits (V.Project items) w cs ≡ true → HasDistinctNames column_name (items_columns items cs)
 names-Project items w cs f = (project-fits items w cs f).1
 
-pub ruleset op_steps = (built_steps, means-Where, means-Extend, means-Project, means-Take, means-Count, means-Serialize, fits-Where, fits-Extend, names-Extend, fits-Project, names-Project)
+pub ruleset op_steps = (built_steps, means-Where, means-Extend, means-Project, means-Take, means-Count, means-Sort, means-Top, means-Serialize, fits-Where, fits-Sort, fits-Top, fits-Extend, names-Extend, fits-Project, names-Project)
 
 -- One after another.
 

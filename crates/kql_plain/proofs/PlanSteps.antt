@@ -2,7 +2,6 @@
 use Rattle.std.proofs.Common.{◌≡◌, true, false, List, [], ◌∷◌, map, refl, sym, ap, ◌∙◌}
 use Rattle.std.specs.Prelude.{None, Option, Some, fold, is_some}
 use Rattle.std.specs.List.{list_all}
-use Rattle.std.proofs.lemmas.Bool.{and_parts}
 use Rattle.kql_cells.specs.Table.{Grid}
 use Rattle.kql_cells.specs.declared.schema.Column.{Column}
 use Rattle.kql_bound.specs.declared.plan.Op.{Op}
@@ -12,7 +11,7 @@ use Rattle.kql_meaning.specs.Plans.{World, one_after_another, op_means, plan_mea
 use Rattle.kql_meaning.proofs.OperatorFitLaws.{after, after-none, ops-fold, plan-out, stays-none}
 use Rattle.kql_meaning.proofs.PlanLaws.{ops_mean-map, plan_means-out}
 use Rattle.kql_plain.specs.AtHand.{known_in, ops_fit, plan_fits, source_fits}
-use Rattle.kql_plain.specs.Built.{op_is_built, plan_is_built, source_is_built}
+use Rattle.kql_plain.specs.Built.{op_is_built, plan_is_built}
 use Rattle.kql_plain.proofs.ColumnSteps.{made-columns}
 use Rattle.kql_plain.proofs.OperatorSteps.{columns-more, first-built, others-built}
 use Rattle.kql_plain.proofs.SourceSteps.{source-columns}
@@ -20,34 +19,30 @@ use Rattle.kql_plain.proofs.SourceSteps.{source-columns}
 pub plan-means : (p : Plan) (w : World) → plan_means p w ≡ one_after_another (map op_means p.ops) w (source_table p.source w)
 plan-means p w = plan_means-out p w ∙ sym (ops_mean-map p.ops w (source_table p.source w))
 
-pub source-built : (p : Plan) → plan_is_built p ≡ true → source_is_built p.source ≡ true
-unfolding plan_is_built
-source-built p b = (and_parts (source_is_built p.source) (list_all op_is_built p.ops) b).0
-
 pub ops-built : (p : Plan) → plan_is_built p ≡ true → list_all op_is_built p.ops ≡ true
 unfolding plan_is_built
-ops-built p b = (and_parts (source_is_built p.source) (list_all op_is_built p.ops) b).1
+ops-built p b = b
 
 -- Where a plan fits, its source does, and its operators over the table of the source.
 
-parted : (p : Plan) (w : World) (o : Option (List Column)) → source_is_built p.source ≡ true → source_columns p.source (known_in w) ≡ o → is_some (of_columns o (λ cs. ops_columns p.ops (known_in w) false cs)) ≡ true → (is_some o ≡ true) × (is_some (ops_columns p.ops (known_in w) false (source_table p.source w).columns) ≡ true)
+parted : (p : Plan) (w : World) (o : Option (List Column)) → source_columns p.source (known_in w) ≡ o → is_some (of_columns o (λ cs. ops_columns p.ops (known_in w) false cs)) ≡ true → (is_some o ≡ true) × (is_some (ops_columns p.ops (known_in w) false (source_table p.source w).columns) ≡ true)
 unfolding of_columns
-parted p w None b e f = absurd cc
-parted p w (Some cs) b e f =
-    let same = source-columns p.source w cs b e in
+parted p w None e f = absurd cc
+parted p w (Some cs) e f =
+    let same = source-columns p.source w cs e in
     (refl, ap (λ (ds : List Column). is_some (ops_columns p.ops (known_in w) false ds)) same ∙ f)
 
-both-fit : (p : Plan) (w : World) → plan_is_built p ≡ true → plan_fits p w ≡ true → (source_fits p.source w ≡ true) × (ops_fit p.ops w (source_table p.source w).columns ≡ true)
+both-fit : (p : Plan) (w : World) → plan_fits p w ≡ true → (source_fits p.source w ≡ true) × (ops_fit p.ops w (source_table p.source w).columns ≡ true)
 unfolding plan_fits source_fits ops_fit
-both-fit p w b f = parted p w (source_columns p.source (known_in w)) (source-built p b) refl (sym (ap is_some (plan-out p (known_in w))) ∙ f)
+both-fit p w f = parted p w (source_columns p.source (known_in w)) refl (sym (ap is_some (plan-out p (known_in w))) ∙ f)
 
-pub source-fits : (p : Plan) (w : World) → plan_is_built p ≡ true → plan_fits p w ≡ true → source_fits p.source w ≡ true
-source-fits p w b f = (both-fit p w b f).0
+pub source-fits : (p : Plan) (w : World) → plan_fits p w ≡ true → source_fits p.source w ≡ true
+source-fits p w f = (both-fit p w f).0
 
-pub ops-fit : (p : Plan) (w : World) → plan_is_built p ≡ true → plan_fits p w ≡ true → ops_fit p.ops w (source_table p.source w).columns ≡ true
-ops-fit p w b f = (both-fit p w b f).1
+pub ops-fit : (p : Plan) (w : World) → plan_fits p w ≡ true → ops_fit p.ops w (source_table p.source w).columns ≡ true
+ops-fit p w f = (both-fit p w f).1
 
-pub ruleset plan_steps = (plan-means, source-built, ops-built, source-fits, ops-fit)
+pub ruleset plan_steps = (plan-means, ops-built, source-fits, ops-fit)
 
 -- The columns of operators, one after another, and of a plan.
 
@@ -66,7 +61,7 @@ from-source : (p : Plan) (w : World) (cs : List Column) → plan_is_built p ≡ 
 unfolding of_columns
 from-source p w cs b None e f = cc
 from-source p w cs b (Some ds) e f =
-    ops-columns p.ops w (source_table p.source w) cs (ops-built p b) (ap (λ (es : List Column). ops_columns p.ops (known_in w) false es) (source-columns p.source w ds (source-built p b) e) ∙ f)
+    ops-columns p.ops w (source_table p.source w) cs (ops-built p b) (ap (λ (es : List Column). ops_columns p.ops (known_in w) false es) (source-columns p.source w ds e) ∙ f)
 
 -- What a built plan gives has the columns that it has there.
 pub plan-columns : (p : Plan) (w : World) (cs : List Column) → plan_is_built p ≡ true → plan_columns p (known_in w) ≡ Some cs → (plan_means p w).columns ≡ cs

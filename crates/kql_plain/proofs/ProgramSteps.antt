@@ -20,11 +20,11 @@ use Rattle.kql_meaning.proofs.OperatorFitLaws.{after, after-none, ops-fold, plan
 use Rattle.kql_fit_laws.proofs.JoinRows.{all-of, same-kind}
 use Rattle.kql_fit_laws.proofs.KnownValues.{found-holds}
 use Rattle.kql_plain.specs.AtHand.{columns_of, lets_fit, plan_fits, world_of}
-use Rattle.kql_plain.specs.Built.{is_built, op_is_built, plan_is_built, source_is_built}
+use Rattle.kql_plain.specs.Built.{is_built, op_is_built, plan_is_built}
 use Rattle.kql_plain.proofs.ColumnSteps.{alone}
 use Rattle.kql_plain.proofs.LetSteps.{first-plan, lets-columns, lets-start, lost-lets, other-plans}
 use Rattle.kql_plain.proofs.OperatorSteps.{columns-more, first-built, others-built}
-use Rattle.kql_plain.proofs.PlanSteps.{ops-built, source-built}
+use Rattle.kql_plain.proofs.PlanSteps.{ops-built}
 
 -- Columns that are the same are equal.
 
@@ -65,12 +65,12 @@ are-there own schemas stand name cs e = table-stands own schemas name cs stand (
 
 -- What fits the tables of the program fits those schemas.
 
-source-there : (s : Source) (own schemas : List NamedSchema) (lets : List (List Column)) (cs : List Column) → AreThere own schemas → source_is_built s ≡ true → source_columns s (known_of own lets) ≡ Some cs → source_columns s (known_of schemas lets) ≡ Some cs
-unfolding AreThere source_columns source_is_built
-source-there (source.Table name) own schemas lets cs there b e = there name cs e
-source-there (source.Let i) own schemas lets cs there b e = e
-source-there (source.Range column from to step) own schemas lets cs there b e = e
-source-there (source.Print items) own schemas lets cs there b e = e
+source-there : (s : Source) (own schemas : List NamedSchema) (lets : List (List Column)) (cs : List Column) → AreThere own schemas → source_columns s (known_of own lets) ≡ Some cs → source_columns s (known_of schemas lets) ≡ Some cs
+unfolding AreThere source_columns
+source-there (source.Table name) own schemas lets cs there e = there name cs e
+source-there (source.Let i) own schemas lets cs there e = e
+source-there (source.Range column from to step) own schemas lets cs there e = e
+source-there (source.Print items) own schemas lets cs there e = e
 
 next-op : (os : List Op) (k l : Known) → ((ds : List Column) → ops_columns os k false ds ≡ ops_columns os l false ds) → (next : Option (List Column)) → fold (after k false) next os ≡ fold (after l false) next os
 next-op os k l same None = stays-none (after k false) (after-none k false) os ∙ sym (stays-none (after l false) (after-none l false) os)
@@ -87,7 +87,7 @@ from-there : (p : Plan) (own schemas : List NamedSchema) (lets : List (List Colu
 unfolding of_columns
 from-there p own schemas lets cs there b None e f = cc
 from-there p own schemas lets cs there b (Some ds) e f =
-    ap (λ (o : Option (List Column)). option_and_then (λ es. ops_columns p.ops (known_of schemas lets) false es) o) (source-there p.source own schemas lets ds there (source-built p b) e)
+    ap (λ (o : Option (List Column)). option_and_then (λ es. ops_columns p.ops (known_of schemas lets) false es) o) (source-there p.source own schemas lets ds there e)
     ∙ (sym (ops-there p.ops (known_of own lets) (known_of schemas lets) ds (ops-built p b)) ∙ f)
 
 plan-there : (p : Plan) (own schemas : List NamedSchema) (lets : List (List Column)) (cs : List Column) → AreThere own schemas → plan_is_built p ≡ true → plan_columns p (known_of own lets) ≡ Some cs → plan_columns p (known_of schemas lets) ≡ Some cs

@@ -1,8 +1,9 @@
 -- Sources: what fits them is at hand, and its columns are those that they have.
-use Rattle.std.proofs.Common.{◌≡◌, ◌<◌, ℕ, zero, suc, true, false, List, [], ◌∷◌, length, get_or, refl, sym, ap, ◌∙◌, subst, inl, inr, arith}
+use Rattle.std.proofs.Common.{◌≡◌, ◌<◌, ℕ, zero, suc, true, List, [], ◌∷◌, length, get_or, refl, sym, ap, ◌∙◌, subst, inl, inr, arith}
 use Rattle.std.specs.Prelude.{None, Option, Some, bytes_eq, find, is_some, option_map, slice_get, slice_index_or}
 use Rattle.std.proofs.lemmas.Bool.{cases_Bool}
 use Rattle.kql_cells.specs.Catalogues.{Named, schema_name, schema_of, schemas_of, table_name}
+use Rattle.kql_cells.specs.Named.{HasDistinctNames, column_name}
 use Rattle.kql_cells.specs.Table.{Grid}
 use Rattle.kql_cells.specs.declared.schema.Column.{Column}
 use Rattle.kql_cells.specs.declared.schemas.NamedSchema.{NamedSchema}
@@ -10,12 +11,17 @@ use Rattle.kql_bound.specs.declared.literal.Lit.{Lit}
 use Rattle.kql_bound.specs.declared.parts.BItem.{BItem}
 use Rattle.kql_bound.specs.declared.plan.Source.{Source}
 use Rattle.kql_bound.specs.declared.plan.Source.TheVariants as source
+use Rattle.kql_meaning.specs.declared.position.Position.TheVariants as position
+use Rattle.kql_meaning.specs.FittingOperators.{items_fit, range_fits}
+use Rattle.kql_meaning.specs.Items.{items_columns}
 use Rattle.kql_meaning.specs.Fits.{source_columns, table_columns}
 use Rattle.kql_meaning.specs.Plans.{World, source_table}
-use Rattle.kql_meaning.specs.Sources.{let_table, named_table, table_of}
+use Rattle.kql_meaning.specs.Project.{project_table}
+use Rattle.kql_meaning.specs.Sources.{let_table, named_table, print_table, range_columns, range_table, table_of}
 use Rattle.kql_meaning.specs.Tables.{nothing}
+use Rattle.kql_fit_laws.proofs.RowFacts.{answer-some}
 use Rattle.kql_plain.specs.AtHand.{columns_of, known_in, source_fits}
-use Rattle.kql_plain.specs.Built.{source_is_built}
+use Rattle.kql_plain.proofs.ColumnSteps.{answer-there}
 
 -- The table of a name, and its schema.
 
@@ -82,28 +88,40 @@ means-let s i w t is fits e =
     let lt = let-there i w (subst (λ (x : Source). source_fits x w ≡ true) is fits) in
     means-Let i w t lt e ∙ ap (λ (x : Source). source_table x w) (sym is)
 
--- Which are built.
+pub means-Range : (column : List ℕ) (from to step : Lit) (w : World) → source_table (source.Range column from to step) w ≡ range_table column from to step
+unfolding source_table
+means-Range column from to step w = refl
 
-pub built-Range : (column : List ℕ) (from to step : Lit) → source_is_built (source.Range column from to step) ≡ false
-unfolding source_is_built
-built-Range column from to step = refl
+pub means-Print : (items : List BItem) (w : World) → source_table (source.Print items) w ≡ print_table items
+unfolding source_table
+means-Print items w = refl
 
-pub built-Print : (items : List BItem) → source_is_built (source.Print items) ≡ false
-unfolding source_is_built
-built-Print items = refl
+-- What `range` and `print` ask.
 
-pub ruleset source_steps = (table-there, let-there, means-Table, means-Let, built-Range, built-Print)
+pub fits-Range : (column : List ℕ) (from to step : Lit) (w : World) → source_fits (source.Range column from to step) w ≡ true → range_fits from to step ≡ true
+unfolding source_fits source_columns
+fits-Range column from to step w f = (answer-there (range_fits from to step) (range_columns column from) f).0
 
--- The columns of a source that is built.
+pub fits-Print : (items : List BItem) (w : World) → source_fits (source.Print items) w ≡ true → items_fit items [] position.Plain ≡ true
+unfolding source_fits source_columns
+fits-Print items w f = (answer-there (items_fit items [] position.Plain) (items_columns items []) f).0
+
+pub names-Print : (items : List BItem) (w : World) → source_fits (source.Print items) w ≡ true → HasDistinctNames column_name (items_columns items [])
+unfolding source_fits source_columns
+names-Print items w f = (answer-there (items_fit items [] position.Plain) (items_columns items []) f).1
+
+pub ruleset source_steps = (table-there, let-there, means-Table, means-Let, means-Range, means-Print, fits-Range, fits-Print, names-Print)
+
+-- The columns of a source.
 
 of-named : (o : Option Named) (cs : List Column) → option_map (λ (s : NamedSchema). s.schema) (option_map schema_of o) ≡ Some cs → (table_of o).columns ≡ cs
 unfolding table_of
 of-named None cs e = cc
 of-named (Some n) cs e = cc
 
-pub source-columns : (s : Source) (w : World) (cs : List Column) → source_is_built s ≡ true → source_columns s (known_in w) ≡ Some cs → (source_table s w).columns ≡ cs
-unfolding source_columns source_is_built source_table named_table let_table
-source-columns (source.Table name) w cs b e = of-named (table_found w.tables name) cs (sym (schema-columns w.tables name) ∙ e)
-source-columns (source.Let i) w cs b e = (let-at w.lets i cs e).1
-source-columns (source.Range column from to step) w cs b e = absurd cc
-source-columns (source.Print items) w cs b e = absurd cc
+pub source-columns : (s : Source) (w : World) (cs : List Column) → source_columns s (known_in w) ≡ Some cs → (source_table s w).columns ≡ cs
+unfolding source_columns source_table named_table let_table range_table print_table project_table
+source-columns (source.Table name) w cs e = of-named (table_found w.tables name) cs (sym (schema-columns w.tables name) ∙ e)
+source-columns (source.Let i) w cs e = (let-at w.lets i cs e).1
+source-columns (source.Range column from to step) w cs e = (answer-some (range_fits from to step) (range_columns column from) cs e).1
+source-columns (source.Print items) w cs e = (answer-some (items_fit items [] position.Plain) (items_columns items []) cs e).1

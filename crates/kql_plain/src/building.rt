@@ -1,11 +1,11 @@
 //! Which programs are built.
 ghost use Rattle.std.specs.Prelude.{◌≡◌};
 ghost use Rattle.std.specs.List.{list_all};
-ghost use Rattle.kql_plain.specs.Built.{is_built, op_is_built, plan_is_built, source_is_built};
+ghost use Rattle.kql_plain.specs.Built.{is_built, op_is_built, plan_is_built};
 
-use kql_bound::{Op, Plan, Program, Source};
+use kql_bound::{Op, Plan, Program};
 
-/// Whether each source and operator of a program has a body.
+/// Whether each operator of a program has a body.
 #[tactic(auto, unfolding(crate::specs::Built::is_built))]
 pub(crate) fn is_built(p: &Program) -> bool
     ensures built { result ≡ is_built p.now }
@@ -30,19 +30,7 @@ fn plans_are_built(plans: &[Plan]) -> bool
 fn plan_is_built(plan: &Plan) -> bool
     ensures built { result ≡ plan_is_built plan.now }
 {
-    source_is_built(&plan.source) && ops_are_built(plan.ops.as_slice())
-}
-
-#[tactic(auto, unfolding(crate::specs::Built::source_is_built))]
-fn source_is_built(source: &Source) -> bool
-    ensures built { result ≡ source_is_built source.now }
-{
-    match source {
-        Source::Table(_) => true,
-        Source::Let(_) => true,
-        Source::Range { .. } => false,
-        Source::Print(_) => false,
-    }
+    ops_are_built(plan.ops.as_slice())
 }
 
 fn ops_are_built(ops: &[Op]) -> bool
@@ -69,8 +57,8 @@ fn op_is_built(op: &Op) -> bool
         Op::Take(_) => true,
         Op::Count => true,
         Op::Serialize => true,
-        Op::Sort(_) => false,
-        Op::Top(_, _) => false,
+        Op::Sort(_) => true,
+        Op::Top(_, _) => true,
         Op::Summarize(_) => false,
         Op::MakeSeries(_) => false,
         Op::MvExpand(_) => false,

@@ -7,7 +7,7 @@ use thiserror::Error;
 /// Why a program that fits has no table.
 #[derive(Clone, Copy, Debug, PartialEq, Eq, Error)]
 pub enum PlainFault {
-    /// A source or an operator of the program has no body yet.
+    /// An operator of the program has no body yet.
     #[error("not built yet")]
     NotBuilt,
     /// There was no memory for a table.

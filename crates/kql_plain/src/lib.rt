@@ -1,6 +1,7 @@
 //! A whole program, operator by operator: the table that it means.
 //!
-//! Each source and operator is a call of the crate that has its body. What has none yet is told before anything is evaluated.
+//! Each source and operator is a call of the crate that has its body. A program with an operator that has none yet is told before
+//! anything is evaluated.
 #![tactic(auto)]
 
 mod building;

@@ -24,8 +24,10 @@ pub(crate) fn plan_table(
     requires fits { IsTrue (plan_fits plan.now (world_of catalogue.now lets.now)) }
     ensures table { IfOk result (λ t. t ≡ plan_means plan.now (world_of catalogue.now lets.now)) }
 {
-    let source = source_table(&plan.source, catalogue, lets);
-    ops_table(alloc, plan.ops.as_slice(), catalogue, lets, source)
+    match source_table(alloc, &plan.source, catalogue, lets) {
+        Ok(source) => ops_table(alloc, plan.ops.as_slice(), catalogue, lets, source),
+        Err(e) => Err(e),
+    }
 }
 
 /// The tables of lets, in order: each stands as a table for those after it.

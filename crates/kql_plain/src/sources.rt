@@ -5,29 +5,44 @@ ghost use Rattle.kql_values.specs.Kept.{all_named};
 ghost use Rattle.kql_meaning.specs.Plans.{source_table};
 ghost use Rattle.kql_meaning.specs.Sources.{named_table};
 ghost use Rattle.kql_plain.specs.AtHand.{source_fits, world_of};
-ghost use Rattle.kql_plain.specs.Built.{source_is_built};
 ghost use Rattle.kql_plain.specs.Inputs.{input_table};
 
 use crate::input::Input;
 use kql_bound::Source;
 use kql_values::{Catalogue, Named, Table};
+use row_ops::{print_rows, range_rows};
+use std::alloc::{AllocError, Global};
 
-/// The table of a source, read where it stands.
+/// The table of a source: one of the catalogue or of a let is read where it stands.
 #[tactic(auto, using(crate::proofs::SourceSteps::source_steps))]
 pub(crate) fn source_table<'a>(
+    alloc: Global,
     source: &Source,
     catalogue: &'a Catalogue,
     lets: &'a [Table],
-) -> Input<'a>
-    requires built { IsTrue (source_is_built source.now) }
+) -> Result<Input<'a>, AllocError>
     requires fits { IsTrue (source_fits source.now (world_of catalogue.now lets.now)) }
-    ensures table { input_table result ≡ source_table source.now (world_of catalogue.now lets.now) }
+    ensures table { IfOk result (λ t. input_table t ≡ source_table source.now (world_of catalogue.now lets.now)) }
 {
     match source {
-        Source::Table(name) => Input::Lent(table_named(catalogue.tables(), name.as_str())),
-        Source::Let(at) => Input::Lent(&lets[*at]),
-        Source::Range { .. } => unreachable!(),
-        Source::Print(_) => unreachable!(),
+        Source::Table(name) => {
+            let table = table_named(catalogue.tables(), name.as_str());
+            Ok(Input::Lent(table))
+        }
+        Source::Let(at) => Ok(Input::Lent(&lets[*at])),
+        Source::Range {
+            column,
+            from,
+            to,
+            step,
+        } => {
+            let table = range_rows(alloc, column, from, to, step)?;
+            Ok(Input::Owned(table))
+        }
+        Source::Print(items) => {
+            let table = print_rows(alloc, items.as_slice())?;
+            Ok(Input::Owned(table))
+        }
     }
 }
 

@@ -6,3 +6,7 @@ pub mod ValueSteps
 pub mod ScalarSteps
 pub mod CountSteps
 pub mod ExtendFacts
+pub mod MovedFacts
+pub mod PlainItemLaws
+pub mod TermSteps
+pub mod SourceSteps

@@ -1,1 +1,2 @@
 pub mod ItemColumns
+pub mod MovedColumns

@@ -8,6 +8,7 @@ ghost use Rattle.kql_meaning.specs.Items.{items_columns};
 ghost use Rattle.kql_meaning.specs.Project.{project_table};
 
 use crate::columns::places_without;
+use crate::moved::{move_columns, moved_places};
 use crate::values::values_of_items;
 use kql_bound::BItem;
 use kql_cells::Schema;
@@ -15,9 +16,25 @@ use kql_columns::{items_columns, items_names};
 use kql_values::{Rows, Table};
 use std::alloc::{AllocError, Global};
 
-/// `project`: the items in order, of each row. Without memory nothing is made.
+/// `project`, and with it `project-away`, `project-keep` and `project-rename`: the items in order, of each row.
+///
+/// Where all items are columns of the table, none twice, these are moved and nothing is copied. Without memory the table is
+/// dropped.
+pub fn project_rows(alloc: Global, t: Table, items: &[BItem]) -> Result<Table, AllocError>
+    requires fits { IsTrue (items_fit items.now t.columns position.Window) }
+    requires names { HasDistinctNames column_name (items_columns items.now t.columns) }
+    ensures rows { IfOk result (λ r. r ≡ project_table items.now t) }
+{
+    let moved = moved_places(alloc, items, t.schema())?;
+    match moved {
+        Some(places) => move_columns(alloc, t, items, places.as_slice()),
+        None => computed_rows(alloc, &t, items),
+    }
+}
+
+/// `project` of a table that is read where it stands: every item is computed, and one that is a column of the table copied.
 #[tactic(auto, using(crate::proofs::ExtendFacts::project_facts))]
-pub fn project_rows(alloc: Global, t: &Table, items: &[BItem]) -> Result<Table, AllocError>
+pub fn computed_rows(alloc: Global, t: &Table, items: &[BItem]) -> Result<Table, AllocError>
     requires fits { IsTrue (items_fit items.now t.now.columns position.Window) }
     requires names { HasDistinctNames column_name (items_columns items.now t.now.columns) }
     ensures rows { IfOk result (λ r. r ≡ project_table items.now t.now) }
@@ -37,7 +54,7 @@ pub fn extend_rows(alloc: Global, t: Table, items: &[BItem]) -> Result<Table, Al
     requires names { HasDistinctNames column_name (extend_columns items.now t.columns) }
     ensures rows { IfOk result (λ r. r ≡ extend_table items.now t) }
 {
-    let added = project_rows(alloc, &t, items)?;
+    let added = computed_rows(alloc, &t, items)?;
     let names = items_names(alloc, items)?;
     let places = places_without(alloc, names.as_slice(), t.schema().columns())?;
     let kept = t.select(places.as_slice())?;

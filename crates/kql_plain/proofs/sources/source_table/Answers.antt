@@ -2,8 +2,8 @@ use Rattle.kql_plain.specs.AtHand.{world_of}
 use Rattle.kql_plain.proofs.SourceSteps.{means-let, named-there}
 use Rattle.kql_plain.proofs.sources.source_table.Goals as goal
 
-pub table_named-requires : goal.table_named-requires
-table_named-requires c = record {
+pub table_named-table-requires : goal.table_named-table-requires
+table_named-table-requires c = record {
   there = named-there c.args.source.now c.in-Table.name c.as_str.result.now (world_of c.args.catalogue.now c.args.lets.now) _ c.in-Table.is c.requires.fits c.as_str.ensures.same c.tables.ensures.tables;
 }
 
