@@ -1,0 +1,118 @@
+-- Comparisons of two operands, of a value and a list, and of a value and its bounds.
+use Rattle.std.specs.Prelude.{Bool, true, false, List, [], ◌∷◌}
+use Rattle.kql_cells.specs.declared.value.Kind.{Kind}
+use Rattle.kql_cells.specs.declared.value.Kind.TheVariants as kind
+use Rattle.kql_functions.specs.declared.func.ComparisonFunc.TheVariants as comparison
+use Rattle.kql_functions.specs.declared.func.Func.{Func}
+use Rattle.kql_functions.specs.declared.func.Func.TheVariants as func
+use Rattle.kql_functions.specs.declared.func.SearchPlace.{SearchPlace}
+use Rattle.kql_functions.specs.declared.func.SearchPlace.TheVariants as place
+use Rattle.kql_texts.specs.declared.folding.Fold.{Fold}
+use Rattle.kql_texts.specs.declared.folding.Fold.TheVariants as fold
+use Rattle.kql_syntax.specs.declared.tree.BetweenOp.{BetweenOp}
+use Rattle.kql_syntax.specs.declared.tree.BetweenOp.TheVariants as between
+use Rattle.kql_syntax.specs.declared.tree.BetweenSign.{BetweenSign}
+use Rattle.kql_syntax.specs.declared.tree.CompareOp.{CompareOp}
+use Rattle.kql_syntax.specs.declared.tree.CompareOp.TheVariants as op
+use Rattle.kql_syntax.specs.declared.tree.CompareSign.{CompareSign}
+use Rattle.kql_syntax.specs.declared.tree.InOp.{InOp}
+use Rattle.kql_syntax.specs.declared.tree.InOp.TheVariants as among
+use Rattle.kql_syntax.specs.declared.tree.InSign.{InSign}
+use Rattle.bind_expr.specs.Operands.{all_beside, as_text, beside, common_kind, kinds_of, operands_call}
+use Rattle.bind_expr.specs.Outcome.{Outcome, ◌>>=◌}
+use Rattle.bind_expr.specs.declared.typed.Typed.{Typed}
+
+-- Two operands.
+
+abbrev pub search : SearchPlace → Fold → Bool → Func
+search p c negated = func.Search (record { place = p; fold = c; negated = negated })
+
+-- The function of a sign or word. The words are without regard to case, but for those with `_cs`.
+unfoldable pub compare_func : CompareOp → Func
+compare_func op.Equal = func.Comparison comparison.Equal
+compare_func op.NotEqual = func.Comparison comparison.NotEqual
+compare_func op.Alike = func.Comparison comparison.EqualText
+compare_func op.NotAlike = func.Comparison comparison.NotEqualText
+compare_func op.Less = func.Comparison comparison.Less
+compare_func op.LessEqual = func.Comparison comparison.AtMost
+compare_func op.Greater = func.Comparison comparison.Greater
+compare_func op.GreaterEqual = func.Comparison comparison.AtLeast
+compare_func op.Contains = search place.Anywhere fold.Caseless false
+compare_func op.ContainsCs = search place.Anywhere fold.Exact false
+compare_func op.Startswith = search place.Start fold.Caseless false
+compare_func op.StartswithCs = search place.Start fold.Exact false
+compare_func op.Endswith = search place.End fold.Caseless false
+compare_func op.EndswithCs = search place.End fold.Exact false
+compare_func op.Has = search place.Term fold.Caseless false
+compare_func op.HasCs = search place.Term fold.Exact false
+compare_func op.NotContains = search place.Anywhere fold.Caseless true
+compare_func op.NotContainsCs = search place.Anywhere fold.Exact true
+compare_func op.NotStartswith = search place.Start fold.Caseless true
+compare_func op.NotStartswithCs = search place.Start fold.Exact true
+compare_func op.NotEndswith = search place.End fold.Caseless true
+compare_func op.NotEndswithCs = search place.End fold.Exact true
+compare_func op.NotHas = search place.Term fold.Caseless true
+compare_func op.NotHasCs = search place.Term fold.Exact true
+
+-- Whether a sign or word compares values of any one type; all others are operators on strings.
+unfoldable pub is_of_any_type : CompareOp → Bool
+is_of_any_type op.Equal = true
+is_of_any_type op.NotEqual = true
+is_of_any_type op.Less = true
+is_of_any_type op.LessEqual = true
+is_of_any_type op.Greater = true
+is_of_any_type op.GreaterEqual = true
+is_of_any_type _ = false
+
+-- The two operands, each converted where it is dynamic: to the other's type, and to a string by an operator on strings.
+abbrev pub compared_as : CompareSign → Typed → Typed → Bool → Outcome Typed
+compared_as sign l r true = operands_call sign.place (compare_func sign.op) (beside l r.kind ∷ beside r l.kind ∷ [])
+compared_as sign l r false = operands_call sign.place (compare_func sign.op) (as_text l ∷ as_text r ∷ [])
+
+unfoldable pub compared : CompareSign → Typed → Typed → Outcome Typed
+compared sign l r = compared_as sign l r (is_of_any_type sign.op)
+
+abbrev pub compare_node : CompareSign → Outcome Typed → Outcome Typed → Outcome Typed
+compare_node sign left right = do
+  l ← left
+  r ← right
+  compared sign l r
+
+-- A value and a list.
+
+unfoldable pub among_func : InOp → Func
+among_func among.In = func.Comparison comparison.In
+among_func among.NotIn = func.Comparison comparison.NotIn
+among_func among.InTilde = func.Comparison comparison.InTexts
+among_func among.NotInTilde = func.Comparison comparison.NotInTexts
+
+-- The type that dynamic operands take: that of the first that is not, and a string where case does not count.
+unfoldable pub among_kind : InOp → List Kind → Kind
+among_kind among.In ks = common_kind ks
+among_kind among.NotIn ks = common_kind ks
+among_kind among.InTilde ks = kind.Text
+among_kind among.NotInTilde ks = kind.Text
+
+unfoldable pub listed : InSign → List Typed → Outcome Typed
+listed sign ts = operands_call sign.place (among_func sign.op) (all_beside (among_kind sign.op (kinds_of ts)) ts)
+
+abbrev pub in_node : InSign → Outcome (List Typed) → Outcome Typed
+in_node sign operands = operands >>= λ ts. listed sign ts
+
+-- A value and its bounds.
+
+unfoldable pub between_func : BetweenOp → Func
+between_func between.Between = func.Comparison comparison.Between
+between_func between.NotBetween = func.Comparison comparison.NotBetween
+
+unfoldable pub bounded : BetweenSign → Typed → Typed → Typed → Outcome Typed
+bounded sign x a b =
+    let k : Kind = common_kind (x.kind ∷ a.kind ∷ b.kind ∷ []) in
+    operands_call sign.place (between_func sign.op) (beside x k ∷ beside a k ∷ beside b k ∷ [])
+
+abbrev pub between_node : BetweenSign → Outcome Typed → Outcome Typed → Outcome Typed → Outcome Typed
+between_node sign value low high = do
+  x ← value
+  a ← low
+  b ← high
+  bounded sign x a b

@@ -1,0 +1,17 @@
+pub mod AggregateCalls
+pub mod Arguments
+pub mod Bound
+pub mod Calls
+pub mod Chains
+pub mod Comparisons
+pub mod Constants
+pub mod Counts
+pub mod Forms
+pub mod KindTests
+pub mod Literals
+pub mod Logic
+pub mod Names
+pub mod Operands
+pub mod Outcome
+pub mod Paths
+pub mod Windows
