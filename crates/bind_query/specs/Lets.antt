@@ -8,7 +8,7 @@ use Rattle.kql_syntax.specs.declared.query.LetBody.{LetBody}
 use Rattle.kql_syntax.specs.declared.query.LetBody.TheVariants as body
 use Rattle.kql_syntax.specs.declared.query.Op.TheOpen.{Source-F}
 use Rattle.kql_syntax.specs.declared.query.Pipe.{Pipe, out-Pipe}
-use Rattle.kql_syntax.specs.declared.query.Source.{Source, out-Source}
+use Rattle.kql_syntax.specs.declared.query.Source.{out-Source}
 use Rattle.kql_syntax.specs.declared.tree.Name.{Name}
 use Rattle.bind_expr.specs.Names.{name_bound, text_of}
 use Rattle.bind_expr.specs.Outcome.{Outcome, ◌>>=◌}

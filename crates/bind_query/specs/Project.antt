@@ -44,10 +44,14 @@ project_away_bound operator names known rows = do
   away ← columns_wanted operator known rows names
   chosen operator rows (without (names_of away) rows.columns)
 
+-- The columns that have one of these names.
+unfoldable pub columns_in : List (List ℕ) → List Column → List Column
+columns_in names columns = filter (λ (c : Column). is_name_among names c.name) columns
+
 unfoldable pub project_keep_bound : Place → List Name → Known → Shape → Outcome BoundOp
 project_keep_bound operator names known rows = do
   kept ← columns_wanted operator known rows names
-  chosen operator rows (filter (λ (c : Column). is_name_among (names_of kept) c.name) rows.columns)
+  chosen operator rows (columns_in (names_of kept) rows.columns)
 
 -- New names, each with the old one.
 abbrev pub Renames : Type 0

@@ -3,7 +3,6 @@ use Rattle.std.specs.Prelude.{ℕ, List, [], ◌∷◌, ◌++◌, bytes_eq, filt
 use Rattle.std.specs.List.{flat_map}
 use Rattle.kql_cells.specs.Catalogues.{schema_name}
 use Rattle.kql_cells.specs.declared.schemas.NamedSchema.{NamedSchema}
-use Rattle.kql_bound.specs.declared.plan.Op.{Op}
 use Rattle.kql_bound.specs.declared.plan.Op.TheOpen.{Op-F, Plan-F}
 use Rattle.kql_bound.specs.declared.plan.Plan.{Plan, fold-Plan}
 use Rattle.kql_bound.specs.declared.plan.Source.{Source}
