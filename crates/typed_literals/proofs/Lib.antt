@@ -1,0 +1,2 @@
+mod BlankSteps
+mod HexSteps
