@@ -8,6 +8,7 @@ pub mod Constants
 pub mod Counts
 pub mod Forms
 pub mod KindTests
+pub mod Laws
 pub mod Literals
 pub mod Logic
 pub mod Names

@@ -1,6 +1,9 @@
 //! Expressions, level by level.
-ghost use Rattle.std.specs.Prelude.{◌≡◌, ◌<◌, IfSome, length};
+ghost use Rattle.std.specs.Prelude.{◌≡◌, ◌<◌, ℕ, Err, IfSome, length, true};
+ghost use Rattle.kql_lexer.specs.declared.place.Place.{Place};
+ghost use Rattle.bind_expr.specs.Laws.{is_bind_code};
 ghost use Rattle.bind_expr.specs.Outcome.{Answers};
+ghost use Rattle.bind_expr.specs.declared.fault.BindFault.TheVariants as fault;
 ghost use Rattle.bind_expr.specs.Bound.{access_key, access_place, and_bound, ands_to, arg_bound, args_to, bound_expr, cmp_bound, expr_bound, factors_to, first_spot, inside, links_to, looks_to, operands_to, ors_to, path_to, post_bound, prod_bound, prod_link, prod_sign, sign_bound, sum_bound, sum_link, sum_sign, term_bound, term_name};
 ghost use Rattle.bind_expr.specs.Paths.{step_named};
 
@@ -32,9 +35,10 @@ use std::alloc::Global;
 /// An expression bound in a scope, or its first fault.
 ///
 /// The arguments of a node are bound from left to right, and then the node; an answer may be want of memory in place of any other.
-#[tactic(auto, unfolding(crate::specs::Bound::bound_expr))]
+#[tactic(auto, using(crate::proofs::CodeLaws::code_laws), unfolding(crate::specs::Bound::bound_expr))]
 pub fn bind_expr(alloc: Global, e: &Expr, scope: &Scope) -> Result<Typed, BindFault>
     ensures exact { Answers result (bound_expr e.now scope.now) }
+    ensures codes { (code : ℕ) (place : Place) → result ≡ Err (fault.Refused code place) → is_bind_code code ≡ true }
 {
     let spot = Spot {
         position: scope.position,

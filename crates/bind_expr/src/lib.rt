@@ -15,6 +15,7 @@ mod counts;
 mod fault;
 mod forms;
 mod kinds;
+mod laws;
 mod literals;
 mod logic;
 mod names;
@@ -27,5 +28,6 @@ mod windows;
 
 pub use bind::bind_expr;
 pub use fault::BindFault;
+pub use laws::law_of_codes;
 pub use scope::{Const, Consts, Scope, StepNames};
 pub use typed::Typed;

@@ -25,7 +25,7 @@ use std::alloc::{AllocError, Global};
 
 /// Whether no two names are the same.
 #[tactic(auto, unfolding(kql_meaning::specs::FittingOperators::are_distinct))]
-pub(crate) fn are_distinct(names: &[KText]) -> bool
+pub fn are_distinct(names: &[KText]) -> bool
     ensures distinct { result ≡ are_distinct names.now }
 {
     let mut left = names;
@@ -100,7 +100,7 @@ fn item_fits(
 
 /// Whether items of one result column each fit in a position.
 #[tactic(auto, unfolding(kql_meaning::specs::FittingOperators::items_fit))]
-pub(crate) fn items_fit(
+pub fn items_fit(
     alloc: Global,
     items: &[BItem],
     columns: &[Column],
@@ -170,7 +170,7 @@ fn key_items_fit(alloc: Global, items: &[BItem], columns: &[Column]) -> Result<b
 
 /// Whether a condition is a bool.
 #[tactic(auto, unfolding(kql_meaning::specs::FittingOperators::where_fits))]
-pub(crate) fn where_fits(alloc: Global, e: &BExpr, columns: &[Column]) -> Result<bool, AllocError>
+pub fn where_fits(alloc: Global, e: &BExpr, columns: &[Column]) -> Result<bool, AllocError>
     ensures fits { IfOk result (λ b. b ≡ where_fits e.now columns.now) }
 {
     let scope = scope_of(columns);
@@ -193,11 +193,7 @@ fn sort_key_fits(alloc: Global, key: &BKey, columns: &[Column]) -> Result<bool, 
 
 /// Whether keys of an order fit.
 #[tactic(auto, unfolding(kql_meaning::specs::FittingOperators::sort_fits))]
-pub(crate) fn sort_fits(
-    alloc: Global,
-    keys: &[BKey],
-    columns: &[Column],
-) -> Result<bool, AllocError>
+pub fn sort_fits(alloc: Global, keys: &[BKey], columns: &[Column]) -> Result<bool, AllocError>
     ensures fits { IfOk result (λ b. b ≡ sort_fits keys.now columns.now) }
 {
     let mut left = keys;
@@ -325,7 +321,7 @@ fn has_at_most_below(from: i64, to: i64, step: i64, top: u64) -> bool
 
 /// Whether two ends and a step make a range of at most 1,000,000 rows.
 #[tactic(auto, unfolding(kql_meaning::specs::FittingOperators::range_fits))]
-pub(crate) fn range_fits(from: &Lit, to: &Lit, step: &Lit) -> bool
+pub fn range_fits(from: &Lit, to: &Lit, step: &Lit) -> bool
     ensures fits { result ≡ range_fits from.now to.now step.now }
 {
     if !ends_fit(from, to, step) {

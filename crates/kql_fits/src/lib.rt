@@ -14,4 +14,5 @@ mod kind_tests;
 mod literals;
 mod scope;
 
+pub use fit_operators::{are_distinct, items_fit, range_fits, sort_fits, where_fits};
 pub use fit_programs::fits;

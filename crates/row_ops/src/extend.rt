@@ -32,9 +32,9 @@ pub fn project_rows(alloc: Global, t: Table, items: &[BItem]) -> Result<Table, A
     }
 }
 
-/// The items in order, of each row, all computed.
+/// `project` of a table that is read where it stands: every item is computed, and one that is a column of the table copied.
 #[tactic(auto, using(crate::proofs::ExtendFacts::project_facts))]
-pub(crate) fn computed_rows(alloc: Global, t: &Table, items: &[BItem]) -> Result<Table, AllocError>
+pub fn computed_rows(alloc: Global, t: &Table, items: &[BItem]) -> Result<Table, AllocError>
     requires fits { IsTrue (items_fit items.now t.now.columns position.Window) }
     requires names { HasDistinctNames column_name (items_columns items.now t.now.columns) }
     ensures rows { IfOk result (λ r. r ≡ project_table items.now t.now) }

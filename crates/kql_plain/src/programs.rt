@@ -1,0 +1,40 @@
+//! Whole programs.
+ghost use Rattle.std.specs.Prelude.{◌≡◌, ◌↔◌, false, IfOk, IsErrOf, IsTrue, OnOk};
+ghost use Rattle.kql_cells.specs.Catalogues.{schemas_of};
+ghost use Rattle.kql_meaning.specs.Fits.{fits};
+ghost use Rattle.kql_meaning.specs.Plans.{means};
+ghost use Rattle.kql_plain.specs.Built.{is_built};
+ghost use Rattle.kql_plain.specs.declared.fault.PlainFault.TheVariants.{NotBuilt};
+
+use crate::building::is_built;
+use crate::fault::PlainFault;
+use crate::plans::{let_tables, plan_table};
+use kql_bound::Program;
+use kql_values::{Catalogue, Table};
+use std::alloc::{AllocError, Global};
+
+/// The table of a program that fits the schemas of a catalogue: its lets one after another, and then its plan.
+///
+/// Whether the program is built is told first, and that takes no memory.
+pub fn plain(alloc: Global, p: &Program, catalogue: &Catalogue) -> Result<Table, PlainFault>
+    requires fits { IsTrue (fits p.now (schemas_of catalogue.now)) }
+    ensures table { IfOk result (λ t. t ≡ means p.now catalogue.now) }
+    ensures built { OnOk result (IsTrue (is_built p.now)) }
+    ensures not_built { IsErrOf result NotBuilt ↔ (is_built p.now ≡ false) }
+{
+    if !is_built(p) {
+        return Err(PlainFault::NotBuilt);
+    }
+    let table = program_table(alloc, p, catalogue)?;
+    Ok(table)
+}
+
+#[tactic(auto, using(crate::proofs::ProgramSteps::program_steps))]
+fn program_table(alloc: Global, p: &Program, catalogue: &Catalogue) -> Result<Table, AllocError>
+    requires built { IsTrue (is_built p.now) }
+    requires fits { IsTrue (fits p.now (schemas_of catalogue.now)) }
+    ensures table { IfOk result (λ t. t ≡ means p.now catalogue.now) }
+{
+    let lets = let_tables(alloc, p.lets.as_slice(), catalogue)?;
+    plan_table(alloc, &p.main, catalogue, lets.as_slice())
+}
