@@ -1,6 +1,6 @@
 -- Answers carried through steps.
 use Rattle.std.proofs.Common.{◌≡◌, ◌<◌, ◌+◌, ℕ, List, [], ◌∷◌, ◌++◌, get_or, length, take, refl, sym, ◌∙◌, subst, ap}
-use Rattle.std.specs.Prelude.{nat_lt, Bool, true, false, Result, Ok, Err, fold}
+use Rattle.std.specs.Prelude.{nat_lt, Bool, true, false, Ok, Err}
 use Rattle.kql_cells.specs.declared.schema.Column.{Column}
 use Rattle.kql_bound.specs.declared.plan.Op.{Op}
 use Rattle.kql_syntax.specs.declared.query.Item.{Item}

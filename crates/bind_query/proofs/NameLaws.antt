@@ -1,7 +1,7 @@
 -- Where no part is told for a name that stands already, no two columns of the answer have one name.
-use Rattle.std.proofs.Common.{◌≡◌, ◌≢◌, ◌⊎◌, ◌<◌, ◌+◌, ℕ, zero, suc, get_or, Bool, true, false, List, [], ◌∷◌, ◌++◌, filter, length, map, refl, sym, ap, ◌∙◌, arith, inl, inr, subst}
+use Rattle.std.proofs.Common.{◌≡◌, ◌≢◌, ◌<◌, ◌+◌, ℕ, suc, get_or, Bool, true, false, List, [], ◌∷◌, ◌++◌, filter, length, map, refl, sym, ap, ◌∙◌, arith, inl, inr, subst}
 use Rattle.std.specs.Prelude.{AllPairs, IfOk, not, ◌||◌, bytes_eq, fold, Ok, Err}
-use Rattle.std.specs.List.{flat_map, list_any}
+use Rattle.std.specs.List.{list_any}
 use Rattle.std.proofs.lemmas.Bool.{and_parts}
 use Rattle.std.proofs.lemmas.List.{length-append}
 use Rattle.std.proofs.lemmas.List.Kept.{AllPairs-filter}
@@ -19,9 +19,9 @@ use Rattle.kql_meaning.specs.Results.{result_kinds}
 use Rattle.kql_meaning.specs.Tables.{is_name_among}
 use Rattle.kql_meaning.specs.TakeAndCount.{count_columns}
 use Rattle.kql_meaning.proofs.FirstLaws.{any-at}
-use Rattle.kql_meaning.proofs.MemberLaws.{Member, Pairwise, contains-member, every-of-members, member-flat, member-of-filter, member-of-map, member-either, member-left, member-right, of-member, pairs-of, pairwise-append, pairwise-filter}
+use Rattle.kql_meaning.proofs.MemberLaws.{Member, Pairwise, contains-member, every-of-members, member-of-filter, member-of-map, member-either, member-left, member-right, of-member, pairs-of, pairwise-append, pairwise-filter}
 use Rattle.kql_syntax.specs.declared.query.Item.{Item}
-use Rattle.bind_expr.specs.Outcome.{Answers, Outcome, ◌>>=◌}
+use Rattle.bind_expr.specs.Outcome.{Answers, Outcome}
 use Rattle.bind_expr.specs.declared.fault.BindFault.{BindFault}
 use Rattle.bind_expr.specs.declared.scope.Scope.{Scope}
 use Rattle.bind_expr.specs.declared.typed.Typed.{Typed}

@@ -1,5 +1,5 @@
 -- Where terms, signed terms and comparisons begin, one equation for each variant.
-use Rattle.std.proofs.Common.{◌≡◌, ℕ, List, refl, sym, ap, ◌∙◌}
+use Rattle.std.proofs.Common.{◌≡◌, List, sym, ap, ◌∙◌}
 use Rattle.kql_lexer.specs.declared.place.Place.{Place}
 use Rattle.kql_syntax.specs.declared.tree.Access.TheOpen.{Cmp-F, Sign-F, Term-F}
 use Rattle.kql_syntax.specs.declared.tree.Arg.{Arg}
@@ -11,7 +11,7 @@ use Rattle.kql_syntax.specs.declared.tree.Expr.{Expr}
 use Rattle.kql_syntax.specs.declared.tree.InSign.{InSign}
 use Rattle.kql_syntax.specs.declared.tree.Literal.{Literal}
 use Rattle.kql_syntax.specs.declared.tree.Name.{Name}
-use Rattle.kql_syntax.specs.declared.tree.Post.{Post, out-Post}
+use Rattle.kql_syntax.specs.declared.tree.Post.{Post}
 use Rattle.kql_syntax.specs.declared.tree.Sign.{out-Sign, out-roll-Sign}
 use Rattle.kql_syntax.specs.declared.tree.Sign.TheVariants as sign
 use Rattle.kql_syntax.specs.declared.tree.Sum.{Sum}
