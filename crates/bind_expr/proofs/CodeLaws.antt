@@ -52,7 +52,8 @@ use Rattle.bind_expr.specs.Calls.{from_moment, moment_call, moment_call_as, mome
 use Rattle.bind_expr.specs.Chains.{chain_whole, chained_from, closed, linked, linked_as, opened}
 use Rattle.bind_expr.specs.Comparisons.{among_func, among_kind, between_func, bounded, compare_func, compared, compared_as, in_node, is_of_any_type, listed}
 use Rattle.bind_expr.specs.Laws.{EachIsTold, Tells, is_bind_code, tells}
-use Rattle.bind_expr.specs.Literals.{literal_bound}
+use Rattle.bind_expr.specs.Literals.{literal_bound, read_or_fault, typed_literal, typed_of_kind}
+use Rattle.typed_literals.specs.Reading.{kind_of_word, trimmed, value_or_null}
 use Rattle.bind_expr.specs.Logic.{joined_as, joined_from, terms_closed, terms_opened, terms_whole, with_term}
 use Rattle.bind_expr.specs.Names.{column_or_const, const_named, const_or_fault, name_bound, text_of, word_bound}
 use Rattle.bind_expr.specs.Operands.{all_beside, as_text, beside, common_kind, exprs_of, kinds_of, typed_as, typed_call}
@@ -115,9 +116,13 @@ told-409 : {X : Type 0} (place : Place) → Tells {X = X} (Err (fault.Refused 40
 unfolding is_bind_code
 told-409 place = told-code 409 place refl
 
-told-204 : {X : Type 0} (place : Place) → Tells {X = X} (Err (fault.Refused 204 place))
+told-405 : {X : Type 0} (place : Place) → Tells {X = X} (Err (fault.Refused 405 place))
 unfolding is_bind_code
-told-204 place = told-code 204 place refl
+told-405 place = told-code 405 place refl
+
+told-418 : {X : Type 0} (place : Place) → Tells {X = X} (Err (fault.Refused 418 place))
+unfolding is_bind_code
+told-418 place = told-code 418 place refl
 
 -- The nodes.
 
@@ -186,14 +191,22 @@ told-negated place t = told-call place (func.Arithmetic arithmetic.Negate) (t.ex
 
 -- Terms.
 
+told-read : (place : Place) (k : Kind) (o : Option Value) → Tells (read_or_fault place k o)
+told-read place k None = told-418 place
+told-read place k (Some v) = record { holds = tt }
+
+told-of-kind : (place : Place) (t : List ℕ) (o : Option Kind) → Tells (typed_of_kind place t o)
+told-of-kind place t None = told-405 place
+told-of-kind place t (Some k) = told-read place k (value_or_null k (trimmed t))
+
 told-literal : (l : Literal) → Tells (literal_bound l)
-unfolding literal_bound
+unfolding literal_bound typed_literal
 told-literal (literal.Number place n) = record { holds = tt }
 told-literal (literal.Span place n) = record { holds = tt }
 told-literal (literal.Text place text) = record { holds = tt }
 told-literal (literal.True place) = record { holds = tt }
 told-literal (literal.False place) = record { holds = tt }
-told-literal (literal.Typed place w text) = told-204 place
+told-literal (literal.Typed place w text) = told-of-kind place text (kind_of_word w)
 
 told-const : (place : Place) (o : Option Typed) → Tells (const_or_fault place o)
 told-const place (Some t) = told-ok t

@@ -2,14 +2,17 @@
 ghost use Rattle.std.specs.Prelude.{◌≡◌, Ok};
 ghost use Rattle.bind_expr.specs.Bound.{entry_key};
 ghost use Rattle.bind_expr.specs.Outcome.{Answers};
-ghost use Rattle.bind_expr.specs.Literals.{literal_bound, literal_of};
+ghost use Rattle.bind_expr.specs.Literals.{literal_bound, literal_of, read_or_fault, typed_literal};
+ghost use Rattle.typed_literals.specs.Reading.{value_or_null};
 
 use crate::fault::BindFault;
 use crate::typed::{Typed, with_kind};
 use kql_bound::{BExpr, Lit};
-use kql_cells::{Kind, Value};
+use kql_cells::{KText, Kind, Value};
+use kql_lexer::{Keyword, Place};
 use kql_syntax::{Literal, Word};
 use std::alloc::Global;
+use typed_literals::{kind_of_word, trimmed, value_or_null};
 
 /// A literal of a type.
 #[tactic(auto, using(crate::proofs::AnswerFacts::answer_steps))]
@@ -17,6 +20,35 @@ pub(crate) fn literal(alloc: Global, kind: Kind, value: Value) -> Result<Typed, 
     ensures exact { Answers result (Ok (literal_of kind value)) }
 {
     with_kind(alloc, BExpr::Literal(Lit { kind, value }), kind)
+}
+
+#[tactic(auto, using(crate::proofs::AnswerFacts::answer_steps))]
+fn read_or_fault(alloc: Global, place: Place, kind: Kind, text: &str) -> Result<Typed, BindFault>
+    ensures exact { Answers result (read_or_fault place kind (value_or_null kind text.now)) }
+{
+    match value_or_null(alloc, kind, text) {
+        Ok(read) => match read {
+            Some(value) => literal(alloc, kind, value),
+            None => Err(BindFault::Refused { code: 418, place }),
+        },
+        Err(_) => Err(BindFault::OutOfMemory),
+    }
+}
+
+/// A typed literal: 405 where the language leaves out its type, and 418 where its text does not read.
+#[tactic(auto, using(crate::proofs::AnswerFacts::answer_steps), unfolding(crate::specs::Literals::typed_literal))]
+fn typed_literal(
+    alloc: Global,
+    place: Place,
+    word: Keyword,
+    text: &KText,
+) -> Result<Typed, BindFault>
+    ensures exact { Answers result (typed_literal place word text.now) }
+{
+    match kind_of_word(word) {
+        Some(kind) => read_or_fault(alloc, place, kind, trimmed(text.as_str())),
+        None => Err(BindFault::Refused { code: 405, place }),
+    }
 }
 
 /// A literal as it is written.
@@ -33,10 +65,7 @@ pub(crate) fn bind_literal(alloc: Global, l: &Literal) -> Result<Typed, BindFaul
         },
         Literal::True(_) => literal(alloc, Kind::Bool, Value::Bool(true)),
         Literal::False(_) => literal(alloc, Kind::Bool, Value::Bool(false)),
-        Literal::Typed(place, _, _) => Err(BindFault::Refused {
-            code: 204,
-            place: *place,
-        }),
+        Literal::Typed(place, word, text) => typed_literal(alloc, *place, *word, text),
     }
 }
 
