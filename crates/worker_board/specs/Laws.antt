@@ -29,11 +29,18 @@ pub record IsLawful (size : Size) (next stop : ℕ) (views : List Known) : Type 
   pub seated : (worker : ℕ) → worker < size.workers → IsInOne (times_held worker) views
   pub unknown : (worker : ℕ) → size.workers ≤ worker → IsInNone (times_held worker) views
   -- a claim or a mark stands in the view that holds its worker's number, and a worker has one mark at most
-  pub claims : (place worker : ℕ) (v : Known) → get_elem? views place ≡ some v → 0 < claims_by worker v.claims → times worker v.numbers ≡ 1
-  pub marks : (place worker : ℕ) (v : Known) → get_elem? views place ≡ some v → 0 < times worker v.ended → (times worker v.ended ≡ 1) × (times worker v.numbers ≡ 1)
+  pub claims :
+      (place worker : ℕ) (v : Known) → get_elem? views place ≡ some v → 0 < claims_by worker v.claims
+      → times worker v.numbers ≡ 1
+  pub marks :
+      (place worker : ℕ) (v : Known) → get_elem? views place ≡ some v → 0 < times worker v.ended
+      → (times worker v.ended ≡ 1) × (times worker v.numbers ≡ 1)
   -- a view without a number is spent: it holds nothing
-  pub spent : (place : ℕ) (v : Known) → get_elem? views place ≡ some v → v.numbers ≡ [] → (v.claims ≡ []) × (v.ended ≡ []) × (v.stops ≡ 0)
-  -- a worker that was told the end was told so when all pieces were drawn, and no number is drawn but by a claim or a mark
+  pub spent :
+      (place : ℕ) (v : Known) → get_elem? views place ≡ some v → v.numbers ≡ []
+      → (v.claims ≡ []) × (v.ended ≡ []) × (v.stops ≡ 0)
+  -- a worker that was told the end was told so when all pieces were drawn, and no number is drawn but by a claim or
+  -- a mark
   pub past : (place : ℕ) (v : Known) → get_elem? views place ≡ some v → 0 < length v.ended → size.pieces < next
   pub bounded : next ≤ size.pieces + sum_by mark_count views
   -- the stop word is 1 where a view has the stop mark, and 0 where none has

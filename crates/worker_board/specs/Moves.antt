@@ -46,7 +46,8 @@ first_alone view = newly view.size (first_of view.numbers)
 
 -- the least worker of the seat claims a piece
 abbrev pub with_claim : Known → ℕ → Known
-with_claim view piece = record view { claims = view.claims ++ record { piece = piece; worker = least view.numbers } ∷ [] }
+with_claim view piece =
+    record view { claims = view.claims ++ record { piece = piece; worker = least view.numbers } ∷ [] }
 
 -- or is told the end
 abbrev pub told_end : Known → Known

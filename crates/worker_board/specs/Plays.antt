@@ -24,7 +24,8 @@ module _ {S : Type 0} where
   abbrev pub SetsStop : Step S → Me S Known → ℕ → Me S Known → Type 0
   SetsStop step me n me' = (me'.1 ≡ me.1) × (me'.0 ≡ with_stop me.0)
 
-  -- the stop word is 0, and then the seat has no mark, or 1, and then it gets one. A seat with every number had it before
+  -- the stop word is 0, and then the seat has no mark, or 1, and then it gets one. A seat with every number had it
+  -- before
   abbrev pub SeesStop : Step S → Me S Known → ℕ → Me S Known → Type 0
   SeesStop step me n me' =
       (me'.1 ≡ me.1)

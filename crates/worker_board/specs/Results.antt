@@ -54,4 +54,7 @@ module _ {T : Type 0} (answer : ℕ → T) where
 
   -- what one worker leaves: no result where it has stopped
   abbrev pub LeavesAlone : BoardView → Desk T → Type 0
-  LeavesAlone board desk = Leaves board desk × (length desk.seat.known.numbers ≡ 1) × (HasStopped desk.seat → desk.results.items ≡ [])
+  LeavesAlone board desk =
+      Leaves board desk
+      × (length desk.seat.known.numbers ≡ 1)
+      × (HasStopped desk.seat → desk.results.items ≡ [])

@@ -4,7 +4,8 @@ use lib.ListN.{get_elem?}
 use Rattle.atomic_table.specs.Table.{State}
 use Rattle.worker_board.specs.declared.known.Size.{Size}
 use Rattle.worker_board.specs.declared.known.Known.{Known}
-use Rattle.worker_board.specs.Counts.{once_below, times, claims_by, times_held, times_taken, number_count, claim_count, mark_count, stop_count}
+use Rattle.worker_board.specs.Counts.{once_below, times, claims_by, times_held, times_taken}
+use Rattle.worker_board.specs.Counts.{number_count, claim_count, mark_count, stop_count}
 
 -- what holds of one view
 pub record IsSound (size : Size) (view : Known) : Type 0 where
@@ -22,7 +23,8 @@ pub record IsKept (size : Size) (next stop : ℕ) (views : List Known) : Type 0 
   -- each worker's number stands in one view, once, and no other number in any
   pub numbers : (w : ℕ) → sum_by (times_held w) views ≡ once_below w size.workers
   pub numbers_counted : sum_by number_count views ≡ size.workers
-  -- each number below both `next` and the number of pieces stands in the claims of one view, once, and no other number in any
+  -- each number below both `next` and the number of pieces stands in the claims of one view, once, and no other number
+  -- in any
   pub pieces : (p : ℕ) → sum_by (times_taken p) views ≡ once_below p (min next size.pieces)
   pub pieces_counted : sum_by claim_count views ≡ min next size.pieces
   -- `next` is at most the number of pieces and marks together, and above that of the pieces where a mark stands

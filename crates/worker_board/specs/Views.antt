@@ -55,15 +55,20 @@ seats_of board n = map (seat_of board) (range_with_len 0 n)
 abbrev pub NamesEach : Size → List Claim → Type 0
 NamesEach size claims = NamesEachOnce claims size.pieces size.workers
 
--- the core that runs on the events of the claims has these claims in the end, every slot filled and every worker told the end
+-- the core that runs on the events of the claims has these claims in the end, every slot filled and every worker told
+-- the end
 abbrev pub Replays : Size → List Claim → Type 0
-Replays size claims = IsFinishedWith claims size.pieces size.workers (run (events_of claims size.pieces size.workers) (first size.pieces size.workers))
+Replays size claims =
+    IsFinishedWith claims size.pieces size.workers
+    (run (events_of claims size.pieces size.workers) (first size.pieces size.workers))
 
 -- the claims of all these views
 abbrev pub claims_in : List Known → List Claim
 claims_in views = flat_map (λ view. view.claims) views
 
--- the core that runs on the events of these claims has drawn as many pieces as the board's counter tells, and has these claims
+-- the core that runs on the events of these claims has drawn as many pieces as the board's counter tells, and has these
+-- claims
 abbrev pub ReplaysSoFar : Size → ℕ → List Known → Type 0
 ReplaysSoFar size next views =
-    IsBegunWith (claims_in views) (min next size.pieces) size.pieces size.workers (run (turns_of (claims_in views) (min next size.pieces)) (first size.pieces size.workers))
+    IsBegunWith (claims_in views) (min next size.pieces) size.pieces size.workers
+    (run (turns_of (claims_in views) (min next size.pieces)) (first size.pieces size.workers))

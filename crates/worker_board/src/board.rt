@@ -2,12 +2,14 @@ ghost use Rattle.std.specs.Prelude.{◌≡◌, ◌<◌, ◌≤◌, ◌↔◌, []
 ghost use Rattle.worker_board.specs.Moves.{everyone, only, with_claim, told_end, together, with_stop};
 ghost use Rattle.worker_board.specs.Views.{IsOf, IsDone, IsWhole, HasStopped, HoldsEach, NamesEach, Replays, seats_of};
 
-use crate::gathered::Gathered;
+mod gathered;
+
 use crate::known::{Known, Size};
 use crate::rule::{BoardRule, Deal, Draw, ReadStop, SetStop, TakeOver, Weigh};
 use crate::seat::WorkerSeat;
 use atomic_table::{Seat, Table};
 use board_core::{Claim, claims_are_replayed};
+pub use gathered::Gathered;
 use kql_items::Items;
 use std::alloc::{AllocError, Global};
 use std::marker::Model;

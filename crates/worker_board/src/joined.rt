@@ -5,7 +5,8 @@ use crate::board::Board;
 use crate::work::{Desk, Work};
 use std::alloc::AllocError;
 
-// Gives a seat back, and moves its results behind the others.
+// Gives a seat back, and moves its results behind the others. The contract alone needs the work: whose answers the
+// results are.
 fn take_in<T: Drop, W: Work<T>>(
     board: &Board,
     _work: &W,
@@ -15,7 +16,8 @@ fn take_in<T: Drop, W: Work<T>>(
     requires all { Leaves (W.answer _work.now) board.now all.old }
     requires next { Leaves (W.answer _work.now) board.now next }
     ensures left { OnOk result (Leaves (W.answer _work.now) board.now all.new) }
-    ensures numbers { OnOk result (length all.new.seat.known.numbers ≡ length all.old.seat.known.numbers + length next.seat.known.numbers) }
+    ensures numbers { OnOk result (length all.new.seat.known.numbers
+        ≡ length all.old.seat.known.numbers + length next.seat.known.numbers) }
 {
     let Desk { seat, mut results } = next;
     board.give_back(&mut all.seat, seat);

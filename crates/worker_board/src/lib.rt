@@ -6,7 +6,6 @@
 #![tactic(auto)]
 
 mod board;
-mod gathered;
 mod joined;
 mod known;
 mod laws;
@@ -17,8 +16,7 @@ mod slots;
 mod work;
 mod worker;
 
-pub use board::{Board, Seats};
-pub use gathered::Gathered;
+pub use board::{Board, Gathered, Seats};
 pub use known::{Known, Size};
 pub use laws::every_board_is_lawful;
 pub use phase::run_pieces;

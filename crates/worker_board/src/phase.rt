@@ -12,7 +12,7 @@ use std::alloc::{AllocError, Global};
 use std::thread;
 use std::thread::Threads;
 
-// A desk for each seat, without results.
+// A desk for each seat, without results. The contract alone needs the board: whose seats they are.
 fn desks_of<T: Drop>(alloc: Global, board: &Board, seats: Seats) -> Result<Vec<Desk<T>>, AllocError>
     requires ready { All (IsReady board.now) seats }
     ensures each { IfOk result (λ desks. All (IsWaiting board.now) desks.items) }
@@ -53,7 +53,8 @@ fn fork<R: Threads + Sync, T: Send + Drop, W: Work<T> + Sync, G: Gate + Sync>(
     thread::for_each_mut(rt, desks.as_mut_slice(), workers, &worker);
 }
 
-/// All pieces of the work, by so many workers. Whatever the schedule, the results are those of the pieces, in their order.
+/// All pieces of the work, by so many workers. Whatever the schedule, the results are those of the pieces, in their
+/// order.
 ///
 /// Each worker draws a piece from the board, enters the gate with it, and works on it, until no piece is left. A worker
 /// that wants memory stops the others, and then the answer is want of memory.
@@ -67,7 +68,8 @@ pub fn run_pieces<R: Threads + Sync, T: Send + Drop, W: Work<T> + Sync, G: Gate 
 ) -> Result<Outcome<T>, AllocError>
     requires workers { (0 < workers) × (workers ≤ 64) }
     ensures results { IfOk result (λ o. o.results ≡ answers (W.answer work.now) (W.count work.now)) }
-    ensures size { IfOk result (λ o. (o.gathered.size.pieces ≡ W.count work.now) × (o.gathered.size.workers ≡ workers)) }
+    ensures size { IfOk result (λ o. (o.gathered.size.pieces ≡ W.count work.now)
+        × (o.gathered.size.workers ≡ workers)) }
     ensures claims { IfOk result (λ o. NamesEach o.gathered.size o.gathered.claims) }
 {
     let pieces = work.pieces();

@@ -23,7 +23,7 @@ fn fill<T: Drop>(slots: &mut Vec<Option<T>>, made: PieceResult<T>)
     slots[piece as usize] = Some(value);
 }
 
-// Each result, in the slot of its piece.
+// Each result, in the slot of its piece. The contract alone needs the work: whose answers the results are.
 fn fill_all<T: Drop, W: Work<T>>(
     alloc: Global,
     pieces: u32,

@@ -1,6 +1,6 @@
 ghost use Rattle.std.specs.Prelude.{◌≡◌, ◌<◌, ℕ, IfOk};
 
-use crate::gathered::Gathered;
+use crate::board::Gathered;
 use crate::seat::WorkerSeat;
 use kql_items::Items;
 use std::alloc::AllocError;

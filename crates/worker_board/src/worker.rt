@@ -23,7 +23,8 @@ fn turn<T: Drop, W: Work<T>, G: Gate>(
     ensures seat { IsOf board.now seat.new × (seat.new.known.numbers ≡ seat.old.known.numbers) }
     ensures on { result ≡ true → (IsDone seat.new → ⊥)
         × (results.new.items ≡ results_of (W.answer work.now) seat.new.known.claims)
-        × (board.now.size.pieces - length seat.new.known.claims < board.now.size.pieces - length seat.old.known.claims) }
+        × (board.now.size.pieces - length seat.new.known.claims
+        < board.now.size.pieces - length seat.old.known.claims) }
     ensures off { result ≡ false → HasStopped seat.new
         ⊎ (IsDone seat.new × (results.new.items ≡ results_of (W.answer work.now) seat.new.known.claims)) }
 {

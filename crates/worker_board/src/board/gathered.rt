@@ -8,8 +8,8 @@ use std::marker::Model;
 /// The claims of a whole phase. `Board::close` alone makes one.
 #[derive(Debug, Drop)]
 pub struct Gathered {
-    pub(crate) size: Size,
-    pub(crate) claims: Vec<Claim>,
+    pub(super) size: Size,
+    pub(super) claims: Vec<Claim>,
 }
 
 impl Model for Gathered {
