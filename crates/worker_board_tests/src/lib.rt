@@ -6,6 +6,8 @@ mod boards;
 #[cfg(test)]
 mod calls;
 #[cfg(test)]
+mod gates;
+#[cfg(test)]
 mod runs;
 #[cfg(test)]
 mod works;

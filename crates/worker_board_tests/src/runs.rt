@@ -1,9 +1,9 @@
-use crate::works::{CountingGate, Lists, Squares};
+use crate::gates::{CountingGate, Entries, MeetingGate};
+use crate::works::{Lists, Squares, Stopping, Watched};
 use board_core::Claim;
 use kql_items::Items;
 use kql_outside::{HoldGate, OpenGate};
 use std::alloc::{AllocError, Global};
-use std::sync::atomic::Ordering;
 use std::test::Fail;
 use std::thread::Threads;
 use worker_board::run_pieces;
@@ -94,12 +94,33 @@ fn every_count_of_workers_gives_the_same(rt: HostRuntime) -> Result<(), Fail> {
     Ok(())
 }
 
+// Whether each piece enters the gate before it is worked on, once, and no more until the end.
+fn enters_once<R: Threads + Sync>(
+    rt: &R,
+    alloc: Global,
+    pieces: u32,
+    phase: u32,
+) -> Result<bool, AllocError> {
+    let entries = Entries::new(alloc, phase, pieces)?;
+    let watched = Watched {
+        pieces,
+        entries: &entries,
+    };
+    let outcome = run_pieces(rt, alloc, 3, phase, &watched, &entries);
+    if outcome.is_err() {
+        return Ok(false);
+    }
+    for piece in 0..pieces {
+        if entries.of_piece(piece) != 1 {
+            return Ok(false);
+        }
+    }
+    Ok(true)
+}
+
 #[test]
-fn each_piece_enters_the_gate(rt: HostRuntime) -> Result<(), Fail> {
-    let gate = CountingGate::new();
-    run_pieces(&rt, rt.alloc(), 3, 7, &Squares { pieces: 50 }, &gate)?;
-    assert_eq!(rt; gate.phases.load(Ordering::SeqCst), 350);
-    assert_eq!(rt; gate.pieces.load(Ordering::SeqCst), 1_225);
+fn each_piece_enters_the_gate_before_and_once(rt: HostRuntime) -> Result<(), Fail> {
+    assert!(rt; enters_once(&rt, rt.alloc(), 50, 7)?);
     Ok(())
 }
 
@@ -122,6 +143,26 @@ fn two_workers_are_side_by_side(rt: HostRuntime) -> Result<(), Fail> {
     assert!(rt; meet(&rt, rt.alloc(), 2, 0, 2_000_000_000)?);
     assert!(rt; !meet(&rt, rt.alloc(), 1, 0, 1_000)?);
     assert!(rt; !meet(&rt, rt.alloc(), 2, 1, 2_000_000_000)?);
+    Ok(())
+}
+
+// Whether the workers of the first three pieces meet, of so many workers.
+fn three_meet<R: Threads + Sync>(
+    rt: &R,
+    alloc: Global,
+    workers: u32,
+    limit: u64,
+) -> Result<bool, AllocError> {
+    let workers = workers.clamp(1, 64);
+    let gate = MeetingGate::new(limit);
+    run_pieces(rt, alloc, workers, 0, &Squares { pieces: 3 }, &gate)?;
+    Ok(gate.met())
+}
+
+#[test]
+fn three_workers_are_side_by_side(rt: HostRuntime) -> Result<(), Fail> {
+    assert!(rt; three_meet(&rt, rt.alloc(), 3, 2_000_000_000)?);
+    assert!(rt; !three_meet(&rt, rt.alloc(), 2, 100_000)?);
     Ok(())
 }
 
@@ -160,6 +201,32 @@ fn a_piece_that_wants_memory_ends_the_run(rt: HostRuntime) -> Result<(), Fail> {
         };
         let outcome = run_pieces(&rt, rt.alloc(), 1 + failing % 4, 0, &lists, &OpenGate);
         assert!(rt; outcome.is_err(), "piece {failing}");
+    }
+    Ok(())
+}
+
+// How many of 10,000 pieces two workers take, of which this one wants memory. `None` where the run ends well.
+fn taken_until<R: Threads + Sync>(rt: &R, alloc: Global, failing: u32) -> Option<u64> {
+    let gate = CountingGate::new();
+    let stopping = Stopping {
+        pieces: 10_000,
+        failing,
+    };
+    let outcome = run_pieces(rt, alloc, 2, 0, &stopping, &gate);
+    if outcome.is_ok() {
+        return None;
+    }
+    Some(gate.entries())
+}
+
+#[test]
+fn a_stop_is_seen_by_the_other(rt: HostRuntime) -> Result<(), Fail> {
+    for failing in [0, 5_000] {
+        let taken = taken_until(&rt, rt.alloc(), failing).expect(&rt, "one piece wants memory");
+        assert!(rt;
+            taken > u64::from(failing) && taken < 10_000,
+            "{taken} taken of {failing}"
+        );
     }
     Ok(())
 }

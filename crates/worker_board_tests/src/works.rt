@@ -1,10 +1,10 @@
 //! Works whose results are known.
 ghost use Rattle.std.specs.Prelude.{◌≡◌, ◌*◌, [], ◌∷◌, IfOk};
 
+use crate::gates::Entries;
 use kql_items::Items;
-use kql_outside::Gate;
 use std::alloc::{AllocError, Global};
-use std::sync::atomic::{AtomicU64, Ordering};
+use std::hint::spin_loop;
 use worker_board::Work;
 
 /// The square of each number.
@@ -54,25 +54,58 @@ impl Work<Items<u32>> for Lists {
     }
 }
 
-/// A gate that adds up the phases and the pieces with which it is entered.
-#[derive(Drop)]
-pub struct CountingGate {
-    pub phases: AtomicU64,
-    pub pieces: AtomicU64,
+/// Each number, of which one wants memory. Those behind it take a while.
+#[derive(Clone, Copy)]
+pub struct Stopping {
+    pub pieces: u32,
+    pub failing: u32,
 }
 
-impl CountingGate {
-    pub fn new() -> CountingGate {
-        CountingGate {
-            phases: AtomicU64::new(0),
-            pieces: AtomicU64::new(0),
+// How often a piece behind the one that wants memory turns.
+const TURNS: u32 = 20_000;
+
+impl Work<u32> for Stopping {
+    ghost count = { λ s. s.pieces };
+
+    ghost answer = { λ _ piece. piece };
+
+    fn pieces(&self) -> u32 {
+        self.pieces
+    }
+
+    fn run(&self, piece: u32) -> Result<u32, AllocError> {
+        if piece == self.failing {
+            return Err(AllocError);
         }
+        if piece > self.failing {
+            for _ in 0..TURNS {
+                spin_loop();
+            }
+        }
+        Ok(piece)
     }
 }
 
-impl Gate for CountingGate {
-    fn enter(&self, phase: u32, piece: u32) {
-        self.phases.fetch_add(u64::from(phase), Ordering::SeqCst);
-        self.pieces.fetch_add(u64::from(piece), Ordering::SeqCst);
+/// Each number, which wants memory unless its worker has entered the gate with it, and once.
+#[derive(Clone, Copy)]
+pub struct Watched<'a> {
+    pub pieces: u32,
+    pub entries: &'a Entries,
+}
+
+impl<'a> Work<u32> for Watched<'a> {
+    ghost count = { λ w. w.pieces };
+
+    ghost answer = { λ _ piece. piece };
+
+    fn pieces(&self) -> u32 {
+        self.pieces
+    }
+
+    fn run(&self, piece: u32) -> Result<u32, AllocError> {
+        if self.entries.of_piece(piece) != 1 {
+            return Err(AllocError);
+        }
+        Ok(piece)
     }
 }
