@@ -1,13 +1,13 @@
 //! Constants, and their values.
 ghost use Rattle.std.specs.Prelude.{◌≡◌, ◌↔◌, ◌&&◌, Ok, IfOk, IsTrue};
 ghost use Rattle.bind_expr.specs.Outcome.{Answers};
-ghost use Rattle.bind_expr.specs.Constants.{AreConstant, AreLinksConstant, IsConstant, bare_row, constant_value, is_constant, settled};
+ghost use Rattle.bind_expr.specs.Constants.{AreConstant, AreLinksConstant, IsConstant, bare_row, constant_value, constant_of, is_constant, settled};
 ghost use Rattle.kql_scalar.specs.Scalar.{IsScalar, is_scalar};
 
 use crate::fault::BindFault;
 use crate::literals::literal;
 use crate::typed::Typed;
-use kql_bound::{BExpr, Link};
+use kql_bound::{BExpr, Link, Lit};
 use kql_cells::{Schema, Value};
 use kql_items::Items;
 use kql_scalar::{eval, is_scalar};
@@ -105,6 +105,24 @@ fn constant_value(alloc: Global, e: &BExpr) -> Result<Value, BindFault>
             }
         }
         Err(_) => Err(BindFault::OutOfMemory),
+    }
+}
+
+/// The literal that a constant is: one without columns, step records, window functions and aggregates.
+#[tactic(auto, using(crate::proofs::AnswerFacts::answer_steps, crate::proofs::ConstantSteps::settled_steps), unfolding(crate::specs::Constants::constant_of))]
+pub fn constant_of(alloc: Global, t: &Typed) -> Result<Option<Lit>, AllocError>
+    ensures literal { IfOk result (λ l. l ≡ constant_of t.now) }
+{
+    if has_value(t.expr.get()) {
+        match constant_value(alloc, t.expr.get()) {
+            Ok(value) => Ok(Some(Lit {
+                kind: t.kind,
+                value,
+            })),
+            Err(_) => Err(AllocError),
+        }
+    } else {
+        Ok(None)
     }
 }
 

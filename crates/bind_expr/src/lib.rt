@@ -27,7 +27,9 @@ mod typed;
 mod windows;
 
 pub use bind::bind_expr;
+pub use constants::constant_of;
 pub use fault::BindFault;
 pub use laws::law_of_codes;
+pub use names::bind_name;
 pub use scope::{Const, Consts, Scope, StepNames};
 pub use typed::Typed;

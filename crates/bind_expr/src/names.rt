@@ -46,7 +46,7 @@ fn bind_word(alloc: Global, place: Place, name: &KText, scope: &Scope) -> Result
 
 /// A column, a constant, or 401.
 #[tactic(auto, using(crate::proofs::AnswerFacts::answer_steps), unfolding(crate::specs::Names::name_bound))]
-pub(crate) fn bind_name(alloc: Global, n: &Name, scope: &Scope) -> Result<Typed, BindFault>
+pub fn bind_name(alloc: Global, n: &Name, scope: &Scope) -> Result<Typed, BindFault>
     ensures exact { Answers result (name_bound n.now scope.now) }
 {
     match n {

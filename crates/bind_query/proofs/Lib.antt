@@ -1,3 +1,0 @@
-pub mod AnswerSteps
-pub mod NameLaws
-pub mod PlaceFacts

@@ -6,9 +6,9 @@ use Rattle.kql_bound.specs.declared.plan.Program.{Program}
 use Rattle.kql_syntax.specs.declared.query.Let.{Let}
 use Rattle.kql_syntax.specs.declared.query.Query.{Query}
 use Rattle.bind_expr.specs.Outcome.{Outcome, ◌>>=◌}
-use Rattle.bind_query.specs.declared.bound.BoundPlan.{BoundPlan}
+use Rattle.bind_operators.specs.declared.bound.BoundPlan.{BoundPlan}
 use Rattle.bind_query.specs.declared.bound.BoundStatements.{BoundStatements}
-use Rattle.bind_query.specs.declared.known.Known.{Known}
+use Rattle.bind_operators.specs.declared.known.Known.{Known}
 use Rattle.bind_query.specs.Lets.{let_bound}
 use Rattle.bind_query.specs.Operators.{pipe_bound}
 use Rattle.bind_query.specs.TablesRead.{tables_read}

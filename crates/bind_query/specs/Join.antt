@@ -18,14 +18,14 @@ use Rattle.kql_syntax.specs.declared.query.On.{On}
 use Rattle.kql_syntax.specs.declared.query.On.TheVariants as key
 use Rattle.bind_expr.specs.Outcome.{Outcome, ◌>>=◌}
 use Rattle.bind_expr.specs.declared.fault.BindFault.{BindFault}
-use Rattle.bind_query.specs.declared.bound.BoundOp.{BoundOp}
-use Rattle.bind_query.specs.declared.bound.BoundPlan.{BoundPlan}
-use Rattle.bind_query.specs.declared.known.Known.{Known}
-use Rattle.bind_query.specs.declared.shape.Shape.{Shape}
-use Rattle.bind_query.specs.Answers.{answer}
-use Rattle.bind_query.specs.Faults.{each_bound, fault_if, unless}
-use Rattle.bind_query.specs.Known.{column_wanted}
-use Rattle.bind_query.specs.Places.{name_place}
+use Rattle.bind_operators.specs.declared.bound.BoundOp.{BoundOp}
+use Rattle.bind_operators.specs.declared.bound.BoundPlan.{BoundPlan}
+use Rattle.bind_operators.specs.declared.known.Known.{Known}
+use Rattle.bind_operators.specs.declared.shape.Shape.{Shape}
+use Rattle.bind_operators.specs.Answers.{answer}
+use Rattle.bind_operators.specs.Faults.{each_bound, fault_if, unless}
+use Rattle.bind_operators.specs.Known.{column_wanted}
+use Rattle.bind_operators.specs.Places.{name_place}
 
 -- Kinds.
 

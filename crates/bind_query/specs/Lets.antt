@@ -14,16 +14,16 @@ use Rattle.bind_expr.specs.Names.{name_bound, text_of}
 use Rattle.bind_expr.specs.Outcome.{Outcome, ◌>>=◌}
 use Rattle.bind_expr.specs.declared.fault.BindFault.{BindFault}
 use Rattle.bind_expr.specs.declared.scope.Const.{Const}
-use Rattle.bind_query.specs.declared.bound.BoundPlan.{BoundPlan}
+use Rattle.bind_operators.specs.declared.bound.BoundPlan.{BoundPlan}
 use Rattle.bind_query.specs.declared.bound.BoundStatements.{BoundStatements}
-use Rattle.bind_query.specs.declared.known.Known.{Known}
-use Rattle.bind_query.specs.declared.known.LetTable.{LetTable}
-use Rattle.bind_query.specs.declared.wanted.Wanted.TheVariants as wanted
-use Rattle.bind_query.specs.Faults.{fault_if, unless}
-use Rattle.bind_query.specs.Known.{is_constant_name, let_numbered, no_rows, scope_at, table_named}
+use Rattle.bind_operators.specs.declared.known.Known.{Known}
+use Rattle.bind_operators.specs.declared.known.LetTable.{LetTable}
+use Rattle.bind_operators.specs.declared.wanted.Wanted.TheVariants as wanted
+use Rattle.bind_operators.specs.Faults.{fault_if, unless}
+use Rattle.bind_operators.specs.Known.{is_constant_name, let_numbered, no_rows, scope_at, table_named}
 use Rattle.bind_query.specs.Operators.{pipe_bound}
-use Rattle.bind_query.specs.Places.{name_place}
-use Rattle.bind_query.specs.Wanted.{constant_bound, constant_wanted}
+use Rattle.bind_operators.specs.Places.{name_place}
+use Rattle.bind_operators.specs.Wanted.{constant_bound, constant_wanted}
 
 -- The name that a pipe is, where it is one alone.
 abbrev pub name_of_source : {A B C D E F G H : Type 0} → Source-F A B C D E F G H → Option Name

@@ -11,26 +11,26 @@ use Rattle.kql_syntax.specs.declared.query.Pipe.{Pipe, fold-Pipe}
 use Rattle.kql_syntax.specs.declared.query.RowOp.{RowOp}
 use Rattle.kql_syntax.specs.declared.query.RowOp.TheVariants as row
 use Rattle.bind_expr.specs.Outcome.{Outcome}
-use Rattle.bind_query.specs.declared.bound.BoundOp.{BoundOp}
-use Rattle.bind_query.specs.declared.known.Known.{Known}
-use Rattle.bind_query.specs.declared.shape.Shape.{Shape}
-use Rattle.bind_query.specs.Extend.{extend_bound, serialize_bound}
+use Rattle.bind_operators.specs.declared.bound.BoundOp.{BoundOp}
+use Rattle.bind_operators.specs.declared.known.Known.{Known}
+use Rattle.bind_operators.specs.declared.shape.Shape.{Shape}
+use Rattle.bind_operators.specs.Extend.{extend_bound, serialize_bound}
 use Rattle.bind_query.specs.Join.{join_bound}
-use Rattle.bind_query.specs.Known.{table_bound}
-use Rattle.bind_query.specs.MakeSeries.{make_series_bound}
-use Rattle.bind_query.specs.MvExpand.{mv_expand_bound}
-use Rattle.bind_query.specs.Parse.{parse_bound}
+use Rattle.bind_operators.specs.Known.{table_bound}
+use Rattle.bind_groups.specs.MakeSeries.{make_series_bound}
+use Rattle.bind_groups.specs.MvExpand.{mv_expand_bound}
+use Rattle.bind_groups.specs.Parse.{parse_bound}
 use Rattle.bind_query.specs.Partition.{partition_bound}
 use Rattle.bind_query.specs.Pipes.{BindsArg, BindsOp, BindsPlan, UnionParts, piped}
-use Rattle.bind_query.specs.Places.{name_place}
-use Rattle.bind_query.specs.Project.{project_away_bound, project_bound, project_keep_bound, project_rename_bound}
+use Rattle.bind_operators.specs.Places.{name_place}
+use Rattle.bind_operators.specs.Project.{project_away_bound, project_bound, project_keep_bound, project_rename_bound}
 use Rattle.bind_query.specs.Scan.{scan_bound}
-use Rattle.bind_query.specs.Sort.{sort_bound, top_bound}
-use Rattle.bind_query.specs.Sources.{print_bound, range_bound}
-use Rattle.bind_query.specs.Summarize.{distinct_bound, summarize_bound}
-use Rattle.bind_query.specs.TakeAndCount.{counted, take_bound}
+use Rattle.bind_operators.specs.Sort.{sort_bound, top_bound}
+use Rattle.bind_operators.specs.Sources.{print_bound, range_bound}
+use Rattle.bind_groups.specs.Summarize.{distinct_bound, summarize_bound}
+use Rattle.bind_operators.specs.TakeAndCount.{counted, take_bound}
 use Rattle.bind_query.specs.Union.{is_inner, union_bound, union_source_bound}
-use Rattle.bind_query.specs.Where.{where_bound}
+use Rattle.bind_operators.specs.Where.{where_bound}
 
 -- Operators without tables in them.
 

@@ -6,14 +6,14 @@ use Rattle.kql_lexer.specs.declared.place.Place.{Place}
 use Rattle.kql_bound.specs.declared.plan.Op.TheVariants as op
 use Rattle.kql_syntax.specs.declared.tree.Name.{Name}
 use Rattle.bind_expr.specs.Outcome.{Outcome, ◌>>=◌}
-use Rattle.bind_query.specs.declared.bound.BoundOp.{BoundOp}
+use Rattle.bind_operators.specs.declared.bound.BoundOp.{BoundOp}
 use Rattle.bind_query.specs.declared.bound.BoundOps.{BoundOps}
-use Rattle.bind_query.specs.declared.known.Known.{Known}
-use Rattle.bind_query.specs.declared.shape.Shape.{Shape}
-use Rattle.bind_query.specs.Answers.{made}
-use Rattle.bind_query.specs.Faults.{fault_if, unless}
+use Rattle.bind_operators.specs.declared.known.Known.{Known}
+use Rattle.bind_operators.specs.declared.shape.Shape.{Shape}
+use Rattle.bind_operators.specs.Answers.{made}
+use Rattle.bind_operators.specs.Faults.{fault_if, unless}
 use Rattle.bind_query.specs.Pipes.{BindsOp, ops_over}
-use Rattle.bind_query.specs.Summarize.{distinct_column}
+use Rattle.bind_groups.specs.Summarize.{distinct_column}
 
 -- Its columns are those of the subquery, which has asked for their number itself.
 unfoldable pub partitioned : Place → Bool → Column → BoundOps → Outcome BoundOp

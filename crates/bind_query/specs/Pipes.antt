@@ -4,11 +4,11 @@ use Rattle.kql_lexer.specs.declared.place.Place.{Place}
 use Rattle.kql_bound.specs.declared.plan.Op.{Op}
 use Rattle.kql_bound.specs.declared.plan.Plan.{Plan, out-Plan, roll-Plan}
 use Rattle.bind_expr.specs.Outcome.{Outcome, ◌>>=◌}
-use Rattle.bind_query.specs.declared.bound.BoundOp.{BoundOp}
+use Rattle.bind_operators.specs.declared.bound.BoundOp.{BoundOp}
 use Rattle.bind_query.specs.declared.bound.BoundOps.{BoundOps}
-use Rattle.bind_query.specs.declared.bound.BoundPlan.{BoundPlan}
-use Rattle.bind_query.specs.declared.known.Known.{Known}
-use Rattle.bind_query.specs.declared.shape.Shape.{Shape}
+use Rattle.bind_operators.specs.declared.bound.BoundPlan.{BoundPlan}
+use Rattle.bind_operators.specs.declared.known.Known.{Known}
+use Rattle.bind_operators.specs.declared.shape.Shape.{Shape}
 
 -- What an operator is bound to: under what is known, in a subquery or not, and over the rows before it.
 abbrev pub BindsOp : Type 0

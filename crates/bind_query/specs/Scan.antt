@@ -29,17 +29,17 @@ use Rattle.bind_expr.specs.Outcome.{Outcome, ◌>>=◌}
 use Rattle.bind_expr.specs.declared.fault.BindFault.{BindFault}
 use Rattle.bind_expr.specs.declared.scope.Scope.{Scope}
 use Rattle.bind_expr.specs.declared.typed.Typed.{Typed}
-use Rattle.bind_query.specs.declared.bound.BoundOp.{BoundOp}
-use Rattle.bind_query.specs.declared.known.Known.{Known}
-use Rattle.bind_query.specs.declared.shape.Shape.{Shape}
-use Rattle.bind_query.specs.declared.wanted.Wanted.{Wanted}
-use Rattle.bind_query.specs.declared.wanted.Wanted.TheVariants as wanted
-use Rattle.bind_query.specs.Answers.{answer}
-use Rattle.bind_query.specs.Faults.{each_bound, fault_if}
-use Rattle.bind_query.specs.Items.{names_twice}
-use Rattle.bind_query.specs.Known.{scope_at}
-use Rattle.bind_query.specs.Places.{name_place}
-use Rattle.bind_query.specs.Wanted.{constant_bound, kind_bound, typed_bound}
+use Rattle.bind_operators.specs.declared.bound.BoundOp.{BoundOp}
+use Rattle.bind_operators.specs.declared.known.Known.{Known}
+use Rattle.bind_operators.specs.declared.shape.Shape.{Shape}
+use Rattle.bind_operators.specs.declared.wanted.Wanted.{Wanted}
+use Rattle.bind_operators.specs.declared.wanted.Wanted.TheVariants as wanted
+use Rattle.bind_operators.specs.Answers.{answer}
+use Rattle.bind_operators.specs.Faults.{each_bound, fault_if}
+use Rattle.bind_operators.specs.Items.{names_twice}
+use Rattle.bind_operators.specs.Known.{scope_at}
+use Rattle.bind_operators.specs.Places.{name_place}
+use Rattle.bind_operators.specs.Wanted.{constant_bound, kind_bound, typed_bound}
 
 -- Declared columns.
 

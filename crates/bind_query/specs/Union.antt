@@ -12,12 +12,12 @@ use Rattle.kql_syntax.specs.declared.query.UnionKind.TheVariants as union
 use Rattle.bind_expr.specs.Outcome.{Outcome, ◌>>=◌}
 use Rattle.bind_expr.specs.declared.fault.BindFault.{BindFault}
 use Rattle.bind_expr.specs.declared.fault.BindFault.TheVariants as fault
-use Rattle.bind_query.specs.declared.bound.BoundOp.{BoundOp}
-use Rattle.bind_query.specs.declared.bound.BoundPlan.{BoundPlan}
-use Rattle.bind_query.specs.declared.known.Known.{Known}
-use Rattle.bind_query.specs.declared.shape.Shape.{Shape}
-use Rattle.bind_query.specs.Answers.{answer}
-use Rattle.bind_query.specs.Faults.{each_bound, fault_if}
+use Rattle.bind_operators.specs.declared.bound.BoundOp.{BoundOp}
+use Rattle.bind_operators.specs.declared.bound.BoundPlan.{BoundPlan}
+use Rattle.bind_operators.specs.declared.known.Known.{Known}
+use Rattle.bind_operators.specs.declared.shape.Shape.{Shape}
+use Rattle.bind_operators.specs.Answers.{answer}
+use Rattle.bind_operators.specs.Faults.{each_bound, fault_if}
 use Rattle.bind_query.specs.Pipes.{BindsArg, UnionParts, with_ops}
 
 -- Outer unless `inner` is given.

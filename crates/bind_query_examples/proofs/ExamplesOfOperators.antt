@@ -15,22 +15,22 @@ use Rattle.kql_meaning.specs.TakeAndCount.{count_columns}
 use Rattle.kql_meaning.specs.Union.{all_in_order, same_name, union_columns}
 use Rattle.kql_meaning.specs.Values.{number_of}
 use Rattle.bind_expr.specs.Names.{text_of}
-use Rattle.bind_query.specs.Answers.{answer, made, over, width_faults}
-use Rattle.bind_query.specs.Faults.{each_bound, fault_if, unless}
-use Rattle.bind_query.specs.Items.{clash, column_as, names_twice, twice}
+use Rattle.bind_operators.specs.Answers.{answer, made, over, width_faults}
+use Rattle.bind_operators.specs.Faults.{each_bound, fault_if, unless}
+use Rattle.bind_operators.specs.Items.{clash, column_as, names_twice, twice}
 use Rattle.bind_query.specs.Join.{join_bound, join_plan, joined, key_bound, key_clashes, key_place, kind_of_join, pair_wanted}
-use Rattle.bind_query.specs.Known.{column_wanted, columns_handed_in, is_constant_name, let_numbered, rows_of, serial_rows_of, table_bound, table_named}
+use Rattle.bind_operators.specs.Known.{column_wanted, columns_handed_in, is_constant_name, let_numbered, rows_of, serial_rows_of, table_bound, table_named}
 use Rattle.bind_query.specs.Lets.{is_let_name, let_faults}
 use Rattle.bind_query.specs.Partition.{partition_bound, partitioned}
 use Rattle.bind_query.specs.Pipes.{next_op, no_ops, ops_over}
-use Rattle.bind_query.specs.Places.{name_place}
-use Rattle.bind_query.specs.Project.{chosen, columns_wanted, project_answer, project_away_bound, project_keep_bound, project_rename_bound, rename_faults, renamed_columns}
+use Rattle.bind_operators.specs.Places.{name_place}
+use Rattle.bind_operators.specs.Project.{chosen, columns_wanted, project_answer, project_away_bound, project_keep_bound, project_rename_bound, rename_faults, renamed_columns}
 use Rattle.bind_query.specs.Scan.{assignment_faults, new_names, scan_faults, step_faults, step_name_faults}
-use Rattle.bind_query.specs.Sources.{ranged}
-use Rattle.bind_query.specs.Summarize.{distinct_answer, distinct_bound, distinct_column, key_column}
-use Rattle.bind_query.specs.TakeAndCount.{counted, taken}
+use Rattle.bind_operators.specs.Sources.{ranged}
+use Rattle.bind_groups.specs.Summarize.{distinct_answer, distinct_bound, distinct_column, key_column}
+use Rattle.bind_operators.specs.TakeAndCount.{counted, taken}
 use Rattle.bind_query.specs.Union.{table_clashes, tables_bound, union_bound, united}
-use Rattle.bind_query.specs.Wanted.{count_in, is_no_count}
+use Rattle.bind_operators.specs.Wanted.{count_in, is_no_count}
 use Rattle.bind_query_examples.specs.Examples.{Assignments, AwayWithAll, ConstantIsNoTable, DistinctStarOfDynamic, DistinctTwice, JoinInside, JoinOfFault, JoinOnConstant, JoinOnDynamic, JoinOnKey, JoinOnMissing, JoinOnTwoTypes, KeepMissing, LetTwice, NamesTwice, NoTable, PartitionCounts, PartitionInside, RangeStands, RangeTooLong, RenameOnto, RenameTwice, ScanFaults, SixtyFiveSteps, SixtyFourSteps, TableStands, TakeNegative, TakeNull, TakeThree, UnionOfNothing, UnionOfTwoTypes}
 
 -- Tables.

@@ -21,20 +21,20 @@ use Rattle.kql_syntax.specs.declared.tree.Name.{Name}
 use Rattle.kql_syntax.specs.declared.tree.Name.TheVariants as name
 use Rattle.bind_expr.specs.Outcome.{Outcome}
 use Rattle.bind_expr.specs.declared.fault.BindFault.TheVariants as fault
-use Rattle.bind_query.specs.declared.bound.BoundOp.{BoundOp}
-use Rattle.bind_query.specs.declared.bound.BoundPlan.{BoundPlan}
-use Rattle.bind_query.specs.declared.known.Known.{Known}
-use Rattle.bind_query.specs.declared.shape.Shape.{Shape}
-use Rattle.bind_query.specs.Items.{names_twice}
+use Rattle.bind_operators.specs.declared.bound.BoundOp.{BoundOp}
+use Rattle.bind_operators.specs.declared.bound.BoundPlan.{BoundPlan}
+use Rattle.bind_operators.specs.declared.known.Known.{Known}
+use Rattle.bind_operators.specs.declared.shape.Shape.{Shape}
+use Rattle.bind_operators.specs.Items.{names_twice}
 use Rattle.bind_query.specs.Join.{join_bound}
-use Rattle.bind_query.specs.Known.{table_bound}
+use Rattle.bind_operators.specs.Known.{table_bound}
 use Rattle.bind_query.specs.Lets.{let_faults}
 use Rattle.bind_query.specs.Partition.{partition_bound}
-use Rattle.bind_query.specs.Project.{project_away_bound, project_keep_bound, project_rename_bound}
+use Rattle.bind_operators.specs.Project.{project_away_bound, project_keep_bound, project_rename_bound}
 use Rattle.bind_query.specs.Scan.{assignment_faults, scan_faults, step_faults}
-use Rattle.bind_query.specs.Sources.{ranged}
-use Rattle.bind_query.specs.Summarize.{distinct_bound}
-use Rattle.bind_query.specs.TakeAndCount.{counted, taken}
+use Rattle.bind_operators.specs.Sources.{ranged}
+use Rattle.bind_groups.specs.Summarize.{distinct_bound}
+use Rattle.bind_operators.specs.TakeAndCount.{counted, taken}
 use Rattle.bind_query.specs.Union.{union_bound}
 
 -- The place of a column of the first line, and a name there.

@@ -47,7 +47,7 @@ pub(crate) fn takes_aggregate(at: Position, f: Aggregate) -> bool
 
 /// Whether a call has one result column.
 #[tactic(auto, unfolding(kql_meaning::specs::Results::has_one_result))]
-pub(crate) fn has_one_result(f: Aggregate, args: &[BExpr]) -> bool
+pub fn has_one_result(f: Aggregate, args: &[BExpr]) -> bool
     ensures one { result ≡ has_one_result f args.now }
 {
     match f {

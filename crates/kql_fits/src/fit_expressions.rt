@@ -258,7 +258,7 @@ pub(crate) fn call_or_expr_fits(
 
 /// Whether an expression is one call of an aggregate.
 #[tactic(auto, using(kql_meaning::proofs::ExpressionFitLaws::is_call_steps))]
-pub(crate) fn is_aggregate_call(e: &BExpr) -> bool
+pub fn is_aggregate_call(e: &BExpr) -> bool
     ensures call { result ≡ is_aggregate_call e.now }
 {
     match e {

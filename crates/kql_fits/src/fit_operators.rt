@@ -223,8 +223,9 @@ pub(crate) fn summarize_fits(
 
 // Ranges and series.
 
+/// Whether values of a type lead from one of another to the next.
 #[tactic(auto, unfolding(kql_meaning::specs::FittingOperators::is_step_of))]
-fn is_step_of(kind: Kind, step: Kind) -> bool
+pub fn is_step_of(kind: Kind, step: Kind) -> bool
     ensures step { result ≡ is_step_of kind step }
 {
     match kind {
@@ -366,8 +367,9 @@ fn series_items_fit(
     Ok(true)
 }
 
+/// Whether the axis of `make-series` has at most 100,000 bins, of its type.
 #[tactic(auto, unfolding(kql_meaning::specs::FittingOperators::bins_fit))]
-fn bins_fit(series: &SeriesPlan, columns: &[Column]) -> bool
+pub fn bins_fit(series: &SeriesPlan, columns: &[Column]) -> bool
     ensures fit { result ≡ bins_fit series.now columns.now }
 {
     if !ends_fit(&series.from, &series.to, &series.step) {
@@ -488,8 +490,9 @@ pub(crate) fn parse_fits(
 
 // Join and union.
 
+/// Whether the two columns of a key of `join` stand, and have one type.
 #[tactic(auto, unfolding(kql_meaning::specs::FittingOperators::pair_fits))]
-fn pair_fits(pair: &OnPair, left: &[Column], right: &[Column]) -> bool
+pub fn pair_fits(pair: &OnPair, left: &[Column], right: &[Column]) -> bool
     ensures fits { result ≡ pair_fits left.now right.now pair.now }
 {
     let key = column_kind(pair.left.as_str(), left);
@@ -528,8 +531,9 @@ pub(crate) fn join_fits(join: &JoinPlan, left: &[Column], right: &[Column]) -> b
     pairs_fit(join.on.as_slice(), left, right) && (!join.lookup || is_lookup_kind(join.kind))
 }
 
+/// Whether a column has the same type among others, where one there has its name.
 #[tactic(auto, unfolding(kql_meaning::specs::FittingOperators::is_of_type_in))]
-fn is_of_type_in(column: &Column, columns: &[Column]) -> bool
+pub fn is_of_type_in(column: &Column, columns: &[Column]) -> bool
     ensures is { result ≡ is_of_type_in column.now columns.now }
 {
     let name = column.name.as_str();

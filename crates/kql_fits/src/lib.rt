@@ -14,5 +14,11 @@ mod kind_tests;
 mod literals;
 mod scope;
 
-pub use fit_operators::{are_distinct, items_fit, range_fits, sort_fits, where_fits};
+pub use fit_aggregates::has_one_result;
+pub use fit_expressions::is_aggregate_call;
+pub use fit_operators::{
+    are_distinct, bins_fit, is_of_type_in, is_step_of, items_fit, pair_fits, range_fits, sort_fits,
+    where_fits,
+};
 pub use fit_programs::fits;
+pub use literals::is_count;

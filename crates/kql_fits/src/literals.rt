@@ -48,7 +48,7 @@ fn literal_of(e: &BExpr) -> Option<&Lit>
 
 /// Whether an expression is a long of 0 or more, as a literal.
 #[tactic(auto, unfolding(kql_meaning::specs::FittingExpressions::is_count, kql_meaning::specs::FittingExpressions::is_count_literal))]
-pub(crate) fn is_count(e: &BExpr) -> bool
+pub fn is_count(e: &BExpr) -> bool
     ensures count { result ≡ is_count e.now }
 {
     match literal_of(e) {

@@ -1,0 +1,4 @@
+pub mod MakeSeries
+pub mod MvExpand
+pub mod Parse
+pub mod Summarize

@@ -1,0 +1,9 @@
+//! Operators that group or take rows apart, bound to the columns of the rows before them: `summarize`, `distinct`, `make-series`,
+//! `mv-expand` and `parse`.
+//!
+//! The definitions are in `specs/`, one file for each operator, named as in `kql_meaning`.
+#![tactic(auto)]
+
+mod part;
+
+pub use part::{ExpandPart, NamedExpands, NamedSeries, SeriesPart};

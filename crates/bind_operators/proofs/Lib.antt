@@ -1,0 +1,3 @@
+pub mod AnswerSteps
+pub mod NameLaws
+pub mod PlaceFacts

@@ -1,0 +1,12 @@
+pub mod Answers
+pub mod Extend
+pub mod Faults
+pub mod Items
+pub mod Known
+pub mod Places
+pub mod Project
+pub mod Sort
+pub mod Sources
+pub mod TakeAndCount
+pub mod Wanted
+pub mod Where

@@ -1,8 +1,0 @@
-use Rattle.std.proofs.Common.{take}
-use Rattle.bind_expr.specs.Outcome.{Answers}
-use Rattle.bind_query.specs.Faults.{each_bound}
-use Rattle.bind_query.specs.Sort.{key_bound}
-use Rattle.bind_query.proofs.sort.bind_keys.Given as goal
-
-abbrev pub invariant-each : goal.invariant-each
-invariant-each l = Answers l.bound (each_bound (key_bound l.scope) (take l.k-index l.keys))
