@@ -1,0 +1,2 @@
+pub mod GroupNames
+pub mod TwiceLaws

@@ -28,6 +28,7 @@ use Rattle.bind_expr.specs.declared.typed.Typed.{Typed}
 use Rattle.bind_operators.specs.declared.bound.BoundOp.{BoundOp}
 use Rattle.bind_operators.specs.declared.items.NamedItems.{NamedItems}
 use Rattle.bind_operators.specs.declared.known.Known.{Known}
+use Rattle.bind_groups.specs.declared.part.Axis.{Axis}
 use Rattle.bind_groups.specs.declared.part.NamedSeries.{NamedSeries}
 use Rattle.bind_groups.specs.declared.part.SeriesPart.{SeriesPart}
 use Rattle.bind_operators.specs.declared.shape.Shape.{Shape}
@@ -96,11 +97,27 @@ axis_bound operator known rows n = do
   c ← column_wanted operator known rows.columns n
   unless (fault_if (not (has_order c.kind)) 404 (name_place n)) c
 
+abbrev pub axis_over : Column → Lit → Lit → Lit → Axis
+axis_over c from to step = record { name = c.name; from = from; to = to; step = step }
+
+-- An axis with its bins, as `make_series_bound` has them one after another: the ends are of its type, and the step leads through them.
+unfoldable pub bins_bound : Place → Known → Shape → Column → MakeSeries → Outcome Axis
+bins_bound operator known rows axis s = do
+  from ← constant_bound operator (wanted.Is axis.kind) known rows s.from
+  to ← constant_bound operator (wanted.Is axis.kind) known rows s.to
+  step ← constant_bound operator (wanted.StepOf axis.kind) known rows s.step
+  Ok (axis_over axis from to step)
+
 -- The operator.
 
 abbrev pub series_plan : NamedSeries → Column → Lit → Lit → Lit → NamedItems → SeriesPlan
 series_plan done axis from to step keys =
     record { items = done.items; axis = axis.name; from = from; to = to; step = step; keys = keys.items }
+
+-- The same over an axis with its bins.
+abbrev pub plan_over : NamedSeries → Axis → NamedItems → SeriesPlan
+plan_over done axis keys =
+    record { items = done.items; axis = axis.name; from = axis.from; to = axis.to; step = axis.step; keys = keys.items }
 
 -- Columns are made by the items, the axis and the keys, in this order of the text.
 unfoldable pub series_twice : NamedSeries → Place → List ℕ → NamedItems → List BindFault

@@ -4,6 +4,10 @@
 //! The definitions are in `specs/`, one file for each operator, named as in `kql_meaning`.
 #![tactic(auto)]
 
+mod distinct;
+mod groups;
+mod names;
 mod part;
 
+pub use distinct::{bind_distinct, distinct_column};
 pub use part::{ExpandPart, NamedExpands, NamedSeries, SeriesPart};

@@ -1,6 +1,6 @@
 use bind_expr::Typed;
 use kql_bound::{ExpandItems, Lit, SeriesItems};
-use kql_cells::Kind;
+use kql_cells::{KText, Kind};
 use kql_items::Items;
 use kql_lexer::Place;
 
@@ -20,6 +20,15 @@ pub struct NamedSeries {
     pub places: Items<Place>,
     /// The number of the next column that has no name by itself.
     pub next: u64,
+}
+
+/// The axis of `make-series`: the name of its column, and its bins.
+#[derive(Debug, Drop)]
+pub struct Axis {
+    pub name: KText,
+    pub from: Lit,
+    pub to: Lit,
+    pub step: Lit,
 }
 
 /// A bound item of `mv-expand`, with the type that its parts are converted to.
