@@ -1,2 +1,4 @@
+pub mod FormSteps
 pub mod GroupNames
+pub mod GroupSteps
 pub mod TwiceLaws

@@ -1,5 +1,5 @@
 -- Faults of which the first ones come first, and names that stand twice in parts one behind another.
-use Rattle.std.proofs.Common.{◌≡◌, ℕ, List, [], ◌∷◌, ◌++◌, length, map, refl, sym, ap, ◌∙◌, subst, arith}
+use Rattle.std.proofs.Common.{◌≡◌, ℕ, Bool, false, List, [], ◌∷◌, ◌++◌, length, map, refl, sym, ap, ◌∙◌, subst, arith}
 use Rattle.std.specs.Prelude.{Ok, Err}
 use Rattle.std.proofs.lemmas.List.{append-nil, append_assoc}
 use Rattle.kql_lexer.specs.declared.place.Place.{Place}
@@ -14,7 +14,15 @@ use Rattle.bind_operators.specs.declared.items.NamedItems.{NamedItems}
 use Rattle.bind_operators.specs.Faults.{fault_if, unless}
 use Rattle.bind_operators.specs.Items.{clash, column_as, names_of_items, names_twice, twice, twice_items}
 use Rattle.bind_operators.specs.Places.{name_place}
-use Rattle.bind_operators.proofs.AnswerSteps.{none-told}
+use Rattle.bind_operators.proofs.AnswerSteps.{none-told, told}
+
+-- One fault, told or not.
+
+pub nothing-told : {X : Type 0} (b : Bool) (code : ℕ) (place : Place) (x : X) → b ≡ false → Answers (Ok x) (unless (fault_if b code place) x)
+unfolding unless fault_if
+nothing-told b code place x is = rw is (record { holds = refl })
+
+pub ruleset fault_steps = (told, nothing-told)
 
 -- Faults before others.
 

@@ -29,7 +29,7 @@ fn is_dynamic(kind: Kind) -> bool
 }
 
 // A column to group by, or 404 where it is dynamic.
-#[tactic(auto, using(bind_expr::proofs::AnswerFacts::answer_steps, bind_operators::proofs::AnswerSteps::fault_steps), unfolding(crate::specs::Summarize::key_column))]
+#[tactic(auto, using(crate::proofs::TwiceLaws::fault_steps), unfolding(crate::specs::Summarize::key_column))]
 fn key_column(place: Place, c: Column) -> Result<Column, BindFault>
     ensures exact { Answers result (key_column place c) }
 {

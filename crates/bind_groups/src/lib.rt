@@ -5,9 +5,12 @@
 #![tactic(auto)]
 
 mod distinct;
+mod forms;
 mod groups;
 mod names;
 mod part;
+mod summarize;
 
 pub use distinct::{bind_distinct, distinct_column};
 pub use part::{ExpandPart, NamedExpands, NamedSeries, SeriesPart};
+pub use summarize::bind_summarize;
