@@ -1,0 +1,4 @@
+pub mod EachLaws
+mod ExpandLaws
+pub mod NameSteps
+mod ParseLaws

@@ -4,6 +4,14 @@
 //! The definitions are in `specs/`, one file for each operator, named as in `kql_meaning`.
 #![tactic(auto)]
 
+mod kinds;
+mod mv_expand;
+mod names;
+mod parse;
 mod part;
 
+pub use kinds::{bind_kind, bind_kind_or};
+pub use mv_expand::bind_mv_expand;
+pub use names::{WrittenNames, first_written_twice, none_written, with_text, with_written};
+pub use parse::bind_parse;
 pub use part::{ExpandPart, NamedExpands, NamedSeries, SeriesPart};
