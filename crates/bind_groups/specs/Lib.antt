@@ -1,4 +1,5 @@
 pub mod MakeSeries
 pub mod MvExpand
+pub mod Names
 pub mod Parse
 pub mod Summarize

@@ -7,10 +7,18 @@
 mod distinct;
 mod forms;
 mod groups;
+mod kinds;
+mod mv_expand;
 mod names;
+mod parse;
 mod part;
 mod summarize;
+mod written_names;
 
 pub use distinct::{bind_distinct, distinct_column};
+pub use kinds::{bind_kind, bind_kind_or};
+pub use mv_expand::bind_mv_expand;
+pub use parse::bind_parse;
 pub use part::{ExpandPart, NamedExpands, NamedSeries, SeriesPart};
 pub use summarize::bind_summarize;
+pub use written_names::{WrittenNames, first_written_twice, none_written, with_text, with_written};
