@@ -164,11 +164,7 @@ pub fn no_items(alloc: Global, next: u64) -> NamedItems
 
 /// Items from left to right.
 #[tactic(auto, using(crate::proofs::AnswerSteps::items_steps), unfolding(crate::specs::Items::items_bound))]
-pub fn bind_items(
-    alloc: Global,
-    scope: &Scope,
-    items: &[Item],
-) -> Result<NamedItems, BindFault>
+pub fn bind_items(alloc: Global, scope: &Scope, items: &[Item]) -> Result<NamedItems, BindFault>
     ensures exact { Answers result (items_bound scope.now items.now) }
 {
     let mut done = Ok(no_items(alloc, 1));

@@ -31,11 +31,11 @@ pub use places::{expr_start, item_start, name_place, text_of};
 pub use project::{bind_project, bind_project_away, bind_project_keep, column_as, column_items};
 pub use scopes::{no_rows, scope_at};
 pub use shape::Shape;
-pub use sort::bind_sort;
+pub use sort::{bind_sort, bind_top};
 pub use tables::{
     bind_table, column_wanted, is_constant_name, let_numbered, straight_from, table_named,
 };
-pub use take_and_count::bind_count;
+pub use take_and_count::{bind_count, bind_take};
 pub use wanted::{
     Wanted, bind_constant, bind_row_count, bind_typed, constant_wanted, count_in, is_no_count,
 };

@@ -70,12 +70,7 @@ fn of_type(want: Wanted, place: Place, t: Typed) -> Result<Typed, BindFault>
 
 /// An expression of a type that is wanted.
 #[tactic(auto, using(crate::proofs::AnswerSteps::bind_steps), unfolding(crate::specs::Wanted::typed_bound))]
-pub fn bind_typed(
-    alloc: Global,
-    want: Wanted,
-    e: &Expr,
-    scope: &Scope,
-) -> Result<Typed, BindFault>
+pub fn bind_typed(alloc: Global, want: Wanted, e: &Expr, scope: &Scope) -> Result<Typed, BindFault>
     ensures exact { Answers result (typed_bound want e.now scope.now) }
 {
     match bind_expr(alloc, e, scope) {
