@@ -10,6 +10,7 @@ mod extend;
 mod items;
 mod known;
 mod places;
+mod print;
 mod project;
 mod scopes;
 mod shape;
@@ -28,6 +29,7 @@ pub use items::{
 };
 pub use known::{Known, LetTable, LetTables};
 pub use places::{expr_start, item_start, name_place, text_of};
+pub use print::bind_print;
 pub use project::{bind_project, bind_project_away, bind_project_keep, column_as, column_items};
 pub use scopes::{no_rows, scope_at};
 pub use shape::Shape;
