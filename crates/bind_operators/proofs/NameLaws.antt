@@ -12,11 +12,13 @@ use Rattle.kql_cells.specs.declared.value.Kind.{Kind}
 use Rattle.kql_lexer.specs.declared.place.Place.{Place}
 use Rattle.kql_bound.specs.declared.expr.BExpr.{BExpr}
 use Rattle.kql_bound.specs.declared.expr.BExpr.TheVariants as V
+use Rattle.kql_bound.specs.declared.literal.Lit.{Lit}
 use Rattle.kql_bound.specs.declared.parts.BItem.{BItem}
 use Rattle.kql_meaning.specs.Extend.{extend_columns}
 use Rattle.kql_meaning.specs.FittingOperators.{are_distinct}
 use Rattle.kql_meaning.specs.Items.{items_columns, items_names, named_columns, without}
 use Rattle.kql_meaning.specs.Results.{result_kinds}
+use Rattle.kql_meaning.specs.Sources.{range_columns}
 use Rattle.kql_meaning.specs.Tables.{is_name_among}
 use Rattle.kql_meaning.specs.TakeAndCount.{count_columns}
 use Rattle.kql_meaning.proofs.FirstLaws.{any-at}
@@ -233,7 +235,11 @@ pub count-once : (made : List Column) → made ≡ count_columns → HasDistinct
 unfolding count_columns
 count-once made is = rw is (pairs-of different count_columns (tt, tt))
 
-pub ruleset kept_steps = (without-once, kept-once, count-once)
+pub range-once : (column : List ℕ) (from : Lit) (made : List Column) → made ≡ range_columns column from → HasDistinctNames column_name made
+unfolding range_columns
+range-once column from made is = rw is (pairs-of different (range_columns column from) (tt, tt))
+
+pub ruleset kept_steps = (without-once, kept-once, count-once, range-once)
 
 pub ruleset name_steps = (projected-once, extended-once, chosen-once)
 
