@@ -1,3 +1,4 @@
 pub mod AnswerSteps
 pub mod NameLaws
 pub mod PlaceFacts
+pub mod PrintSteps

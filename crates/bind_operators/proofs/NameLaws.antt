@@ -10,12 +10,15 @@ use Rattle.kql_cells.specs.Named.{HasDistinctNames, column_name}
 use Rattle.kql_cells.specs.declared.schema.Column.{Column}
 use Rattle.kql_cells.specs.declared.value.Kind.{Kind}
 use Rattle.kql_lexer.specs.declared.place.Place.{Place}
+use Rattle.kql_bound.specs.declared.expr.BExpr.{BExpr}
 use Rattle.kql_bound.specs.declared.expr.BExpr.TheVariants as V
+use Rattle.kql_bound.specs.declared.literal.Lit.{Lit}
 use Rattle.kql_bound.specs.declared.parts.BItem.{BItem}
 use Rattle.kql_meaning.specs.Extend.{extend_columns}
 use Rattle.kql_meaning.specs.FittingOperators.{are_distinct}
 use Rattle.kql_meaning.specs.Items.{items_columns, items_names, named_columns, without}
 use Rattle.kql_meaning.specs.Results.{result_kinds}
+use Rattle.kql_meaning.specs.Sources.{range_columns}
 use Rattle.kql_meaning.specs.Tables.{is_name_among}
 use Rattle.kql_meaning.specs.TakeAndCount.{count_columns}
 use Rattle.kql_meaning.proofs.FirstLaws.{any-at}
@@ -27,9 +30,10 @@ use Rattle.bind_expr.specs.declared.scope.Scope.{Scope}
 use Rattle.bind_expr.specs.declared.typed.Typed.{Typed}
 use Rattle.bind_operators.specs.declared.items.NamedItems.{NamedItems}
 use Rattle.bind_operators.specs.Faults.{fault_if}
-use Rattle.bind_operators.specs.Items.{clash, column_as, column_item, given_name, item_in, item_link, items_bound, items_from, names_of_items, names_or_own, no_items, twice, twice_items, with_item}
+use Rattle.bind_operators.specs.Items.{clash, column_as, column_item, given_name, item_in, items_bound, items_from, names_of_items, names_or_own, no_items, number_behind, twice, twice_items, with_item, with_names}
 use Rattle.bind_operators.specs.Places.{item_start}
 use Rattle.bind_operators.specs.Project.{columns_in}
+use Rattle.bind_operators.proofs.AnswerSteps.{stepped}
 
 abbrev pub different : Column → Column → Type 0
 different c d = c.name ≢ d.name
@@ -167,24 +171,30 @@ is_even d = length d.places ≡ length d.items
 one-more : {X Y : Type 0} (xs : List X) (x : X) (ys : List Y) (y : Y) → length xs ≡ length ys → length (xs ++ x ∷ []) ≡ length (ys ++ y ∷ [])
 one-more xs x ys y e = length-append xs (x ∷ []) ∙ (ap (λ n. n + 1) e ∙ sym (length-append ys (y ∷ [])))
 
-link-even : (before : Outcome NamedItems) (item : Item) (next : Outcome Typed) → IfOk before is_even → IfOk (item_link before item next) is_even
-unfolding with_item
-link-even (Ok d) item (Ok t) h = one-more d.places (item_start item) d.items (record { names = names_or_own d.next (given_name item) t.expr; expr = t.expr }) h
-link-even (Ok d) item (Err f) h = tt
-link-even (Err f) item next h = tt
+abbrev pub keeps_even : (NamedItems → Item → Typed → NamedItems) → Type 0
+keeps_even step = (d : NamedItems) (item : Item) (t : Typed) → is_even d → is_even (step d item t)
 
-links-even : (bind : Item → Outcome Typed) (items : List Item) (start : Outcome NamedItems) → IfOk start is_even → IfOk (fold (λ before item. item_link before item (bind item)) start items) is_even
-links-even bind [] start h = h
-links-even bind (item ∷ items) start h = links-even bind items (item_link start item (bind item)) (link-even start item (bind item) h)
+link-even : (step : NamedItems → Item → Typed → NamedItems) → keeps_even step → (before : Outcome NamedItems) (item : Item) (next : Outcome Typed) → IfOk before is_even → IfOk (stepped step before item next) is_even
+link-even step keeps (Ok d) item (Ok t) h = keeps d item t h
+link-even step keeps (Ok d) item (Err f) h = tt
+link-even step keeps (Err f) item next h = tt
 
-of-ok : (o : Outcome NamedItems) (d : NamedItems) → o ≡ Ok d → IfOk o is_even → is_even d
+pub steps-even : (step : NamedItems → Item → Typed → NamedItems) → keeps_even step → (bind : Item → Outcome Typed) (items : List Item) (start : Outcome NamedItems) → IfOk start is_even → IfOk (fold (λ before item. stepped step before item (bind item)) start items) is_even
+steps-even step keeps bind [] start h = h
+steps-even step keeps bind (item ∷ items) start h = steps-even step keeps bind items (stepped step start item (bind item)) (link-even step keeps start item (bind item) h)
+
+pub names-even : (d : NamedItems) (place : Place) (names : List (List ℕ)) (e : BExpr) (n : ℕ) → is_even d → is_even (with_names d place names e n)
+names-even d place names e n h = one-more d.places place d.items (record { names = names; expr = e }) h
+
+pub of-ok : (o : Outcome NamedItems) (d : NamedItems) → o ≡ Ok d → IfOk o is_even → is_even d
 of-ok o d is h = rw is at h
 
 pub items-even : (scope : Scope) (items : List Item) (r : Outcome NamedItems) (done : NamedItems) → r ≡ Ok done → Answers r (items_bound scope items) → length done.places ≡ length done.items
-unfolding items_bound items_from no_items
+unfolding items_bound items_from no_items with_item
 items-even scope items r done is a =
     let there : Answers (Ok done) (items_bound scope items) = subst (λ s. Answers s (items_bound scope items)) is a in
-    of-ok (items_bound scope items) done (there.holds) (links-even (item_in scope) items (Ok (no_items 1)) refl)
+    of-ok (items_bound scope items) done (there.holds)
+    (steps-even with_item (λ d item t h. names-even d (item_start item) (names_or_own d.next (given_name item) t.expr) t.expr (number_behind d.next (given_name item) t.expr) h) (item_in scope) items (Ok (no_items 1)) refl)
 
 -- Columns that are chosen keep their names.
 chosen-named : (cs columns : List Column) (c : Column) → Member c (items_columns (map column_item cs) columns) → Member c.name (map (λ (d : Column). d.name) cs)
@@ -225,7 +235,11 @@ pub count-once : (made : List Column) → made ≡ count_columns → HasDistinct
 unfolding count_columns
 count-once made is = rw is (pairs-of different count_columns (tt, tt))
 
-pub ruleset kept_steps = (without-once, kept-once, count-once)
+pub range-once : (column : List ℕ) (from : Lit) (made : List Column) → made ≡ range_columns column from → HasDistinctNames column_name made
+unfolding range_columns
+range-once column from made is = rw is (pairs-of different (range_columns column from) (tt, tt))
+
+pub ruleset kept_steps = (without-once, kept-once, count-once, range-once)
 
 pub ruleset name_steps = (projected-once, extended-once, chosen-once)
 

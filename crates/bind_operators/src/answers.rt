@@ -2,8 +2,8 @@
 ghost use Rattle.std.specs.Prelude.{◌≡◌, [], ◌∷◌, ◌++◌, IfOk, Ok, length, nat_lt};
 ghost use Rattle.bind_expr.specs.Outcome.{Answers};
 ghost use Rattle.kql_meaning.specs.FittingOperators.{is_empty};
-ghost use Rattle.bind_operators.specs.Answers.{answer, over, serialised};
-ghost use Rattle.bind_operators.specs.Faults.{with_next};
+ghost use Rattle.bind_operators.specs.Answers.{answer, over, serialised, width_faults};
+ghost use Rattle.bind_operators.specs.Faults.{unless, with_next};
 
 use crate::bound::BoundOp;
 use crate::shape::Shape;
@@ -95,8 +95,28 @@ fn is_empty(columns: &Schema) -> bool
     }
 }
 
-/// An operator that makes columns: 412 or 419 where they are too many, or none.
+/// 412 or 419 where the columns that an operator makes are too many, or none.
 #[tactic(auto, using(crate::proofs::AnswerSteps::width_steps))]
+pub(crate) fn checked_width(operator: Place, columns: &Schema) -> Result<(), BindFault>
+    ensures exact { Answers result (unless (width_faults operator columns.now) tt) }
+{
+    if are_too_many(columns) {
+        return Err(BindFault::Refused {
+            code: 412,
+            place: operator,
+        });
+    }
+    if is_empty(columns) {
+        return Err(BindFault::Refused {
+            code: 419,
+            place: operator,
+        });
+    }
+    Ok(())
+}
+
+/// An operator that makes columns: 412 or 419 where they are too many, or none.
+#[tactic(auto, using(crate::proofs::AnswerSteps::within_steps))]
 pub fn answered(
     alloc: Global,
     operator: Place,
@@ -106,21 +126,12 @@ pub fn answered(
 ) -> Result<BoundOp, BindFault>
     ensures exact { Answers result (answer operator [] op columns serial) }
 {
-    if are_too_many(&columns) {
-        drop(op);
-        drop(columns);
-        return Err(BindFault::Refused {
-            code: 412,
-            place: operator,
-        });
+    match checked_width(operator, &columns) {
+        Ok(()) => or_lost(over(alloc, op, Shape { columns, serial })),
+        Err(fault) => {
+            drop(op);
+            drop(columns);
+            Err(fault)
+        }
     }
-    if is_empty(&columns) {
-        drop(op);
-        drop(columns);
-        return Err(BindFault::Refused {
-            code: 419,
-            place: operator,
-        });
-    }
-    or_lost(over(alloc, op, Shape { columns, serial }))
 }

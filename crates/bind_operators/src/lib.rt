@@ -10,7 +10,9 @@ mod extend;
 mod items;
 mod known;
 mod places;
+mod print;
 mod project;
+mod range;
 mod scopes;
 mod shape;
 mod sort;
@@ -28,14 +30,16 @@ pub use items::{
 };
 pub use known::{Known, LetTable, LetTables};
 pub use places::{expr_start, item_start, name_place, text_of};
+pub use print::bind_print;
 pub use project::{bind_project, bind_project_away, bind_project_keep, column_as, column_items};
+pub use range::bind_range;
 pub use scopes::{no_rows, scope_at};
 pub use shape::Shape;
-pub use sort::bind_sort;
+pub use sort::{bind_sort, bind_top};
 pub use tables::{
     bind_table, column_wanted, is_constant_name, let_numbered, straight_from, table_named,
 };
-pub use take_and_count::bind_count;
+pub use take_and_count::{bind_count, bind_take};
 pub use wanted::{
     Wanted, bind_constant, bind_row_count, bind_typed, constant_wanted, count_in, is_no_count,
 };

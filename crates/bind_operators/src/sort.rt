@@ -1,20 +1,21 @@
-ghost use Rattle.std.specs.Prelude.{◌≡◌};
+ghost use Rattle.std.specs.Prelude.{◌≡◌, [], ◌∷◌, IfOk, Ok};
 ghost use Rattle.bind_expr.specs.Outcome.{Answers};
 ghost use Rattle.bind_operators.specs.Faults.{each_bound};
-ghost use Rattle.bind_operators.specs.Sort.{are_nulls_first, is_ascending, key_bound, key_of, sort_bound};
+ghost use Rattle.bind_operators.specs.Sort.{are_nulls_first, is_ascending, key_bound, key_of, sort_bound, top_bound, topped};
 
 use crate::answers::{or_lost, over, serialised, with_next};
 use crate::bound::BoundOp;
 use crate::known::Known;
 use crate::scopes::scope_at;
 use crate::shape::Shape;
-use crate::wanted::{Wanted, bind_typed};
+use crate::wanted::{Wanted, bind_row_count, bind_typed, count_in, is_no_count};
 use bind_expr::{BindFault, Scope, Typed};
-use kql_bound::{BKey, Keys, Op};
+use kql_bound::{BKey, Keys, Lit, Op};
 use kql_items::Items;
+use kql_lexer::Place;
 use kql_meaning::Position;
-use kql_syntax::{Key, NullsEnd, SortOrder};
-use std::alloc::Global;
+use kql_syntax::{Expr, Key, NullsEnd, SortOrder};
+use std::alloc::{AllocError, Global};
 
 #[tactic(auto, unfolding(crate::specs::Sort::is_ascending))]
 fn is_ascending(order: Option<SortOrder>) -> bool
@@ -88,5 +89,64 @@ pub fn bind_sort(
             Err(fault) => Err(fault),
         },
         Err(_) => Err(BindFault::OutOfMemory),
+    }
+}
+
+fn one_key(alloc: Global, key: BKey) -> Result<Keys, AllocError>
+    ensures one { IfOk result (λ ks. ks ≡ key ∷ []) }
+{
+    let mut keys = Items::with_capacity(alloc, 1)?;
+    keys.push(key)?;
+    Ok(keys)
+}
+
+#[tactic(auto, using(bind_expr::proofs::AnswerFacts::answer_steps, crate::proofs::AnswerSteps::fault_steps), unfolding(crate::specs::Sort::topped))]
+fn topped(
+    alloc: Global,
+    operator: Place,
+    rows: Shape,
+    n: &Lit,
+    key: BKey,
+) -> Result<BoundOp, BindFault>
+    ensures exact { Answers result (topped operator rows n.now key) }
+{
+    if is_no_count(n) {
+        drop(rows);
+        drop(key);
+        return Err(BindFault::Refused {
+            code: 414,
+            place: operator,
+        });
+    }
+    match one_key(alloc, key) {
+        Ok(keys) => or_lost(over(alloc, Op::Top(count_in(n), keys), serialised(rows))),
+        Err(_) => {
+            drop(rows);
+            Err(BindFault::OutOfMemory)
+        }
+    }
+}
+
+/// `top`.
+#[tactic(auto, using(bind_expr::proofs::AnswerFacts::answer_steps, crate::proofs::AnswerSteps::bind_steps), unfolding(crate::specs::Sort::top_bound))]
+pub fn bind_top(
+    alloc: Global,
+    operator: Place,
+    e: &Expr,
+    k: &Key,
+    known: &Known,
+    rows: Shape,
+) -> Result<BoundOp, BindFault>
+    ensures exact { Answers result (top_bound operator e.now k.now known.now rows) }
+{
+    match bind_row_count(alloc, operator, known, &rows, e) {
+        Ok(n) => match scope_at(alloc, known, &rows, Position::Plain) {
+            Ok(scope) => match bind_key(alloc, &scope, k) {
+                Ok(key) => topped(alloc, operator, rows, &n, key),
+                Err(fault) => Err(fault),
+            },
+            Err(_) => Err(BindFault::OutOfMemory),
+        },
+        Err(fault) => Err(fault),
     }
 }
