@@ -41,12 +41,12 @@ different c d = c.name ≢ d.name
 abbrev pub apart : List ℕ → List ℕ → Type 0
 apart m n = m ≢ n
 
-first-none : (b : Bool) (code : ℕ) (place : Place) (more : List BindFault) → fault_if b code place ++ more ≡ [] → (b ≡ false) × (more ≡ [])
+pub first-none : (b : Bool) (code : ℕ) (place : Place) (more : List BindFault) → fault_if b code place ++ more ≡ [] → (b ≡ false) × (more ≡ [])
 unfolding fault_if
 first-none true code place more e = cc
 first-none false code place more e = (refl, e)
 
-true-and-false : (b : Bool) → b ≡ true → b ≡ false → ⊥
+pub true-and-false : (b : Bool) → b ≡ true → b ≡ false → ⊥
 true-and-false true e f = cc
 true-and-false false e f = cc
 
@@ -54,7 +54,7 @@ not-true : (b : Bool) → not b ≡ true → b ≡ false
 not-true true e = cc
 not-true false e = refl
 
-neither : (a b : Bool) → a || b ≡ false → (a ≡ false) × (b ≡ false)
+pub neither : (a b : Bool) → a || b ≡ false → (a ≡ false) × (b ≡ false)
 neither true b e = cc
 neither false true e = cc
 neither false false e = (refl, refl)
@@ -63,7 +63,7 @@ not-false : (b : Bool) → not b ≡ false → b ≡ true
 not-false true e = refl
 not-false false e = cc
 
-among : (names : List (List ℕ)) (n : List ℕ) → Member n names → is_name_among names n ≡ true
+pub among : (names : List (List ℕ)) (n : List ℕ) → Member n names → is_name_among names n ≡ true
 unfolding is_name_among
 among names n m = any-at (λ k. bytes_eq k n) names n m ((bytes_eq-Decides n n).1 refl)
 
@@ -89,14 +89,14 @@ once-of-clash before names e = once names (not-false (are_distinct names) (neith
 
 -- Columns under their names.
 
-named-member : (ns : List (List ℕ)) (ks : List Kind) (c : Column) → Member c (named_columns ns ks) → Member c.name ns
+pub named-member : (ns : List (List ℕ)) (ks : List Kind) (c : Column) → Member c (named_columns ns ks) → Member c.name ns
 unfolding named_columns
 named-member [] ks c m = absurd m
 named-member (n ∷ ns) [] c m = absurd m
 named-member (n ∷ ns) (k ∷ ks) c (inl e) = inl (ap (λ (d : Column). d.name) e)
 named-member (n ∷ ns) (k ∷ ks) c (inr m) = inr (named-member ns ks c m)
 
-named-differ : (ns : List (List ℕ)) (ks : List Kind) → Pairwise apart ns → Pairwise different (named_columns ns ks)
+pub named-differ : (ns : List (List ℕ)) (ks : List Kind) → Pairwise apart ns → Pairwise different (named_columns ns ks)
 unfolding named_columns
 named-differ [] ks h = tt
 named-differ (n ∷ ns) [] h = tt
@@ -151,14 +151,14 @@ extended-differ places items columns h l e =
 first-of : {X : Type 0} (R : X → X → Type 0) (x : X) (xs : List X) → AllPairs R (x ∷ xs) → (k : ℕ) (y : X) → k < length xs → get_or xs k y ≡ y → R x y
 first-of R x xs h k y lt e = subst (R x) e (h 0 (suc k) y (omega arith) (omega arith))
 
-pairwise-of : {X : Type 0} (R : X → X → Type 0) (xs : List X) → AllPairs R xs → Pairwise R xs
+pub pairwise-of : {X : Type 0} (R : X → X → Type 0) (xs : List X) → AllPairs R xs → Pairwise R xs
 pairwise-of R [] h = tt
 pairwise-of R (x ∷ xs) h =
     (every-of-members (R x) xs (λ y m. let c = contains-member xs y m in first-of R x xs h c.0 y c.1 c.2), pairwise-of R xs (λ i j d lt in_range. h (suc i) (suc j) d (omega arith) (omega arith)))
 
-pub projected-once : (done : NamedItems) (columns made : List Column) → length done.places ≡ length done.items → twice_items done ≡ [] → made ≡ items_columns done.items columns → HasDistinctNames column_name made
+pub projected-once : (done : NamedItems) (columns : List Column) → length done.places ≡ length done.items → twice_items done ≡ [] → HasDistinctNames column_name (items_columns done.items columns)
 unfolding twice_items
-projected-once done columns made l e is = rw is (projected-differ done.places done.items columns l e)
+projected-once done columns l e = projected-differ done.places done.items columns l e
 
 pub extended-once : (done : NamedItems) (columns made : List Column) → HasDistinctNames column_name columns → length done.places ≡ length done.items → twice_items done ≡ [] → made ≡ extend_columns done.items columns → HasDistinctNames column_name made
 unfolding twice_items
@@ -216,8 +216,11 @@ chosen-differ (d ∷ ds) columns h =
       | inr r ↦ absurd r
     ])
 
-pub chosen-once : (cs columns made : List Column) (items : List BItem) → HasDistinctNames column_name cs → items ≡ map column_item cs → made ≡ items_columns items columns → HasDistinctNames column_name made
-chosen-once cs columns made items h same is = rw is (rw same (pairs-of different (items_columns (map column_item cs) columns) (chosen-differ cs columns (pairwise-of different cs h))))
+pub chosen-once : (cs columns : List Column) (items : List BItem) → HasDistinctNames column_name cs → items ≡ map column_item cs → HasDistinctNames column_name (items_columns items columns)
+chosen-once cs columns items h same = rw same (pairs-of different (items_columns (map column_item cs) columns) (chosen-differ cs columns (pairwise-of different cs h)))
+
+pub made-once : (items : List BItem) (columns made : List Column) → made ≡ items_columns items columns → HasDistinctNames column_name (items_columns items columns) → HasDistinctNames column_name made
+made-once items columns made is h = rw is h
 
 pub without-once : (names : List (List ℕ)) (columns made : List Column) → HasDistinctNames column_name columns → made ≡ without names columns → HasDistinctNames column_name made
 unfolding without
@@ -242,5 +245,7 @@ range-once column from made is = rw is (pairs-of different (range_columns column
 pub ruleset kept_steps = (without-once, kept-once, count-once, range-once)
 
 pub ruleset name_steps = (projected-once, extended-once, chosen-once)
+
+pub ruleset made_steps = (made-once)
 
 pub ruleset even_steps = (items-even)

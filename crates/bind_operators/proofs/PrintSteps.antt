@@ -1,6 +1,6 @@
 -- The items of `print`, one after another.
 use Rattle.std.proofs.Common.{◌≡◌, ◌<◌, ◌+◌, ℕ, List, [], get_or, length, take, refl, sym, subst, ap}
-use Rattle.std.specs.Prelude.{IfOk, Ok}
+use Rattle.std.specs.Prelude.{Ok}
 use Rattle.kql_syntax.specs.declared.query.Item.{Item}
 use Rattle.bind_expr.specs.Outcome.{Answers, Outcome}
 use Rattle.bind_expr.specs.declared.scope.Scope.{Scope}

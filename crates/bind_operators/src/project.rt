@@ -1,9 +1,9 @@
 ghost use Rattle.std.specs.Prelude.{◌≡◌, [], IfOk, length, map};
 ghost use Rattle.bind_expr.specs.Outcome.{Answers};
 ghost use Rattle.kql_cells.specs.Named.{HasDistinctNames, column_name};
-ghost use Rattle.kql_meaning.specs.Items.{without};
+ghost use Rattle.kql_meaning.specs.Items.{items_columns, without};
 ghost use Rattle.kql_meaning.specs.Tables.{names_of};
-ghost use Rattle.bind_operators.specs.Items.{column_as, column_item, twice_items};
+ghost use Rattle.bind_operators.specs.Items.{column_as, column_item};
 ghost use Rattle.bind_operators.specs.Project.{chosen, columns_in, columns_wanted, project_answer, project_away_bound, project_bound, project_keep_bound, projected};
 
 use crate::answers::{answered, with_next};
@@ -23,23 +23,22 @@ use kql_meaning::Position;
 use kql_syntax::{Item, Name};
 use std::alloc::{AllocError, Global};
 
-// What is projected, where no two items give columns of one name.
-#[tactic(auto, using(bind_expr::proofs::AnswerFacts::answer_steps, crate::proofs::NameLaws::name_steps), unfolding(crate::specs::Project::project_answer))]
-fn project_made(
+// Items that give columns of different names.
+#[tactic(auto, using(bind_expr::proofs::AnswerFacts::answer_steps, crate::proofs::NameLaws::made_steps), unfolding(crate::specs::Project::project_answer))]
+pub(crate) fn project_items(
     alloc: Global,
     operator: Place,
     rows: Shape,
-    done: NamedItems,
+    items: BItems,
 ) -> Result<BoundOp, BindFault>
-    requires places { length done.places ≡ length done.items }
-    requires once { twice_items done ≡ [] }
-    ensures exact { Answers result (project_answer operator rows [] done.items) }
+    requires distinct { HasDistinctNames column_name (items_columns items rows.columns) }
+    ensures exact { Answers result (project_answer operator rows [] items) }
 {
-    match items_columns(alloc, done.items.as_slice(), rows.columns.columns()) {
+    match items_columns(alloc, items.as_slice(), rows.columns.columns()) {
         Ok(columns) => answered(
             alloc,
             operator,
-            Op::Project(done.items),
+            Op::Project(items),
             Schema::from_items(columns),
             rows.serial,
         ),
@@ -47,7 +46,7 @@ fn project_made(
     }
 }
 
-#[tactic(auto, using(crate::proofs::AnswerSteps::after_steps), unfolding(crate::specs::Project::projected, crate::specs::Project::project_answer))]
+#[tactic(auto, using(crate::proofs::AnswerSteps::after_steps, crate::proofs::NameLaws::name_steps), unfolding(crate::specs::Project::projected, crate::specs::Project::project_answer))]
 fn projected(
     alloc: Global,
     operator: Place,
@@ -58,7 +57,7 @@ fn projected(
     ensures exact { Answers result (projected operator rows done) }
 {
     match twice_items(alloc, &done) {
-        Ok(()) => project_made(alloc, operator, rows, done),
+        Ok(()) => project_items(alloc, operator, rows, done.items),
         Err(fault) => {
             drop(done);
             drop(rows);
@@ -114,32 +113,8 @@ pub fn column_items(alloc: Global, columns: &[Column]) -> Result<BItems, AllocEr
     Ok(items)
 }
 
-#[tactic(auto, using(bind_expr::proofs::AnswerFacts::answer_steps, crate::proofs::NameLaws::name_steps), unfolding(crate::specs::Project::project_answer))]
-fn chosen_items(
-    alloc: Global,
-    operator: Place,
-    rows: Shape,
-    columns: &[Column],
-    items: BItems,
-) -> Result<BoundOp, BindFault>
-    requires distinct { HasDistinctNames column_name columns.now }
-    requires items { items ≡ map column_item columns.now }
-    ensures exact { Answers result (project_answer operator rows [] items) }
-{
-    match items_columns(alloc, items.as_slice(), rows.columns.columns()) {
-        Ok(made) => answered(
-            alloc,
-            operator,
-            Op::Project(items),
-            Schema::from_items(made),
-            rows.serial,
-        ),
-        Err(_) => Err(BindFault::OutOfMemory),
-    }
-}
-
 // Some of the columns, in their order.
-#[tactic(auto, using(bind_expr::proofs::AnswerFacts::answer_steps), unfolding(crate::specs::Project::chosen))]
+#[tactic(auto, using(bind_expr::proofs::AnswerFacts::answer_steps, crate::proofs::NameLaws::name_steps), unfolding(crate::specs::Project::chosen))]
 fn chosen(
     alloc: Global,
     operator: Place,
@@ -150,7 +125,7 @@ fn chosen(
     ensures exact { Answers result (chosen operator rows columns.now) }
 {
     match column_items(alloc, columns) {
-        Ok(items) => chosen_items(alloc, operator, rows, columns, items),
+        Ok(items) => project_items(alloc, operator, rows, items),
         Err(_) => Err(BindFault::OutOfMemory),
     }
 }
@@ -176,7 +151,7 @@ fn columns_wanted(
 
 // The columns without these names, and those with them.
 #[tactic(auto, unfolding(kql_meaning::specs::Items::without))]
-fn columns_without(
+pub(crate) fn columns_without(
     alloc: Global,
     names: &[KText],
     columns: &[Column],
