@@ -25,7 +25,8 @@ pub fn or_lost<T>(made: Result<T, AllocError>) -> Result<T, BindFault>
     }
 }
 
-fn pushed<T: Drop>(before: Items<T>, next: T) -> Result<Items<T>, AllocError>
+/// One part more at the end.
+pub(crate) fn pushed<T: Drop>(before: Items<T>, next: T) -> Result<Items<T>, AllocError>
     ensures added { IfOk result (λ xs. xs ≡ before ++ next ∷ []) }
 {
     let mut before = before;

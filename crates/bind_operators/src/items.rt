@@ -1,10 +1,10 @@
 //! Items, and the names of their columns.
-ghost use Rattle.std.specs.Prelude.{◌≡◌, [], ◌∷◌, ◌++◌, IfOk, OnOk, Ok, length};
+ghost use Rattle.std.specs.Prelude.{◌≡◌, [], ◌∷◌, ◌++◌, ◌+◌, IfOk, Ok};
 ghost use Rattle.bind_expr.specs.Outcome.{Answers};
 ghost use Rattle.std.specs.List.{list_any};
 ghost use Rattle.kql_meaning.specs.Tables.{is_name_among};
 ghost use Rattle.bind_operators.specs.Faults.{unless};
-ghost use Rattle.bind_operators.specs.Items.{clash, given_name, item_in, item_link, items_bound, items_from, names_of_items, names_or_own, no_items, number_behind, twice, twice_items, with_item, with_names};
+ghost use Rattle.bind_operators.specs.Items.{clash, given_name, item_in, item_link, items_bound, names_of_items, names_or_own, no_items, number_behind, twice, twice_items, with_item, with_names};
 
 use crate::answers::or_lost;
 use crate::places::{item_start, text_of};
@@ -66,7 +66,17 @@ pub fn names_or_own(
     }
 }
 
-/// The number behind an item. Where it is no number of the machine there is no memory for so many.
+/// The number behind this one. Where it is no number of the machine there is no memory for so many items.
+pub(crate) fn number_after(next: u64) -> Result<u64, AllocError>
+    ensures number { IfOk result (λ n. n ≡ next + 1) }
+{
+    match next.checked_add(1) {
+        Some(next) => Ok(next),
+        None => Err(AllocError),
+    }
+}
+
+/// The number behind an item.
 #[tactic(auto, unfolding(crate::specs::Items::number_behind, item_names::specs::ItemNames::next_number))]
 pub fn number_behind(next: u64, given: &Option<KText>, e: &BExpr) -> Result<u64, AllocError>
     ensures number { IfOk result (λ n. n ≡ number_behind next given.now e.now) }
@@ -74,10 +84,7 @@ pub fn number_behind(next: u64, given: &Option<KText>, e: &BExpr) -> Result<u64,
     if given.is_some() || !takes_number(e) {
         return Ok(next);
     }
-    match next.checked_add(1) {
-        Some(next) => Ok(next),
-        None => Err(AllocError),
-    }
+    number_after(next)
 }
 
 /// One item more under its names.

@@ -1,7 +1,7 @@
 //! The places of names, and where expressions and items begin.
 ghost use Rattle.std.specs.Prelude.{◌≡◌};
 ghost use Rattle.bind_expr.specs.Names.{text_of};
-ghost use Rattle.bind_operators.specs.Places.{cmp_place, expr_start, item_start, literal_place, name_place, post_start, sign_place, start_or, sum_start, term_place};
+ghost use Rattle.bind_operators.specs.Places.{cmp_place, expr_start, item_start, literal_place, name_place, sign_place, sum_start, term_place};
 
 use kql_cells::KText;
 use kql_lexer::Place;

@@ -1,5 +1,5 @@
 //! `print`.
-ghost use Rattle.std.specs.Prelude.{◌≡◌, [], ◌+◌, IfOk, length};
+ghost use Rattle.std.specs.Prelude.{◌≡◌, [], IfOk, length};
 ghost use Rattle.bind_expr.specs.Outcome.{Answers};
 ghost use Rattle.kql_bound.specs.declared.plan.Source.TheVariants as Source;
 ghost use Rattle.kql_meaning.specs.Items.{items_columns};
@@ -11,7 +11,9 @@ ghost use Rattle.bind_operators.specs.Sources.{print_bound, print_items, print_l
 
 use crate::answers::{checked_width, or_lost};
 use crate::bound::BoundPlan;
-use crate::items::{NamedItems, bind_item, given_name, no_items, one, twice_items, with_names};
+use crate::items::{
+    NamedItems, bind_item, given_name, no_items, number_after, one, twice_items, with_names,
+};
 use crate::known::Known;
 use crate::places::item_start;
 use crate::scopes::{no_rows, scope_at};
@@ -35,16 +37,6 @@ fn print_names(alloc: Global, next: u64, given: Option<KText>) -> Result<Names, 
             one(alloc, name)
         }
         Some(name) => one(alloc, name),
-    }
-}
-
-// The number behind this one. Where it is no number of the machine there is no memory for so many items.
-fn number_after(next: u64) -> Result<u64, AllocError>
-    ensures number { IfOk result (λ n. n ≡ next + 1) }
-{
-    match next.checked_add(1) {
-        Some(next) => Ok(next),
-        None => Err(AllocError),
     }
 }
 

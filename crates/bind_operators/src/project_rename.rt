@@ -8,7 +8,7 @@ ghost use Rattle.kql_syntax.specs.declared.tree.Name.{Name};
 ghost use Rattle.bind_operators.specs.Faults.{unless};
 ghost use Rattle.bind_operators.specs.Project.{columns_wanted, name_after, old_name, project_answer, project_rename_bound, rename_faults, renamed_columns, renamed_item};
 
-use crate::answers::with_next;
+use crate::answers::{pushed, with_next};
 use crate::bound::BoundOp;
 use crate::known::Known;
 use crate::places::{name_place, text_of};
@@ -80,10 +80,8 @@ fn is_twice(standing: &[KText], renamed: &[KText], r: &(Name, Name)) -> bool
 fn with_name(alloc: Global, names: Names, name: &KText) -> Result<Names, AllocError>
     ensures added { IfOk result (λ ns. ns ≡ names ++ name.now ∷ []) }
 {
-    let mut names = names;
     let copy = name.copy(alloc)?;
-    names.push(copy)?;
-    Ok(names)
+    pushed(names, copy)
 }
 
 // The first rename to a name that stands already, or of a column that was renamed before.

@@ -1,9 +1,9 @@
 //! What names stand for: tables, lets and columns.
-ghost use Rattle.std.specs.Prelude.{◌≡◌, [], bytes_eq, find, IfOk, option_map};
+ghost use Rattle.std.specs.Prelude.{◌≡◌, bytes_eq, find, IfOk};
 ghost use Rattle.bind_expr.specs.Outcome.{Answers};
 ghost use Rattle.kql_cells.specs.declared.schema.Column.{Column};
 ghost use Rattle.kql_meaning.specs.Fits.{table_columns};
-ghost use Rattle.bind_operators.specs.Known.{column_or_fault, column_wanted, columns_handed_in, is_constant_name, let_columns, let_numbered, straight_from, table_bound, table_named};
+ghost use Rattle.bind_operators.specs.Known.{column_wanted, columns_handed_in, is_constant_name, let_columns, let_numbered, straight_from, table_bound, table_named};
 
 use crate::answers::or_lost;
 use crate::bound::BoundPlan;
