@@ -20,8 +20,11 @@ unfoldable pub no_statements : Known → BoundStatements
 no_statements known = record { known = known; lets = [] }
 
 -- Let statements, each under those before it.
+unfoldable pub next_let : Let → Outcome BoundStatements → Outcome BoundStatements
+next_let l before = before >>= let_bound l
+
 unfoldable pub lets_bound : List Let → Known → Outcome BoundStatements
-lets_bound lets known = fold (λ before (l : Let). before >>= let_bound l) (Ok (no_statements known)) lets
+lets_bound lets known = fold (λ before (l : Let). next_let l before) (Ok (no_statements known)) lets
 
 -- The program of the lets and the last pipe, with the tables that it reads.
 unfoldable pub program_of : List NamedSchema → BoundStatements → BoundPlan → Program

@@ -57,6 +57,13 @@ unfoldable pub pair_wanted : Place → Column → Column → Outcome OnPair
 pair_wanted place left right =
     unless (fault_if (is_dynamic left.kind || is_dynamic right.kind) 404 place) (record { left = left.name; right = right.name })
 
+-- The same of columns that may be refused.
+unfoldable pub pair_of : Place → Outcome Column → Outcome Column → Outcome OnPair
+pair_of place left right = do
+  l ← left
+  r ← right
+  pair_wanted place l r
+
 -- A column of both sides, or `$left.a == $right.b`.
 unfoldable pub key_bound : Place → Known → List Column → List Column → On → Outcome OnPair
 key_bound operator known left right (key.Column n) = do

@@ -8,7 +8,7 @@ use Rattle.kql_syntax.specs.declared.query.LetBody.{LetBody}
 use Rattle.kql_syntax.specs.declared.query.LetBody.TheVariants as body
 use Rattle.kql_syntax.specs.declared.query.Op.TheOpen.{Source-F}
 use Rattle.kql_syntax.specs.declared.query.Pipe.{Pipe, out-Pipe}
-use Rattle.kql_syntax.specs.declared.query.Source.{out-Source}
+use Rattle.kql_syntax.specs.declared.query.Source.{Source, out-Source}
 use Rattle.kql_syntax.specs.declared.tree.Name.{Name}
 use Rattle.bind_expr.specs.Names.{name_bound, text_of}
 use Rattle.bind_expr.specs.Outcome.{Outcome, ◌>>=◌}
@@ -34,8 +34,11 @@ abbrev pub if_alone : {A : Type 0} → List A → Option Name → Option Name
 if_alone [] n = n
 if_alone (_ ∷ _) n = None
 
+unfoldable pub source_name : Source → Option Name
+source_name s = name_of_source (out-Source s)
+
 unfoldable pub name_alone : Pipe → Option Name
-name_alone p = if_alone (out-Pipe p).ops (name_of_source (out-Source (out-Pipe p).source))
+name_alone p = if_alone (out-Pipe p).ops (source_name (out-Pipe p).source)
 
 -- More statements: with a table of a name, or a constant.
 abbrev pub named_table : List ℕ → BoundPlan → LetTable

@@ -1,17 +1,25 @@
 -- Operators and pipes, by cases on the tree.
-use Rattle.std.specs.Prelude.{Bool, true, false, Ok}
+use Rattle.std.specs.Prelude.{Bool, true, false, List, Ok, fold}
 use Rattle.kql_lexer.specs.declared.place.Place.{Place}
 use Rattle.kql_syntax.specs.declared.query.ColumnOp.{ColumnOp}
 use Rattle.kql_syntax.specs.declared.query.ColumnOp.TheVariants as column
 use Rattle.kql_syntax.specs.declared.query.GroupOp.{GroupOp}
 use Rattle.kql_syntax.specs.declared.query.GroupOp.TheVariants as group
 use Rattle.kql_syntax.specs.declared.query.Op.{Op, fold-Op}
+use Rattle.kql_syntax.specs.declared.query.Join.{Join, fold-Join}
 use Rattle.kql_syntax.specs.declared.query.Op.TheOpen.{Join-F, Op-F, Partition-F, Pipe-F, Source-F, TableArg-F, TableOp-F, Union-F}
+use Rattle.kql_syntax.specs.declared.query.Partition.{Partition, fold-Partition}
 use Rattle.kql_syntax.specs.declared.query.Pipe.{Pipe, fold-Pipe}
 use Rattle.kql_syntax.specs.declared.query.RowOp.{RowOp}
 use Rattle.kql_syntax.specs.declared.query.RowOp.TheVariants as row
+use Rattle.kql_syntax.specs.declared.query.Source.{Source, fold-Source}
+use Rattle.kql_syntax.specs.declared.query.TableArg.{TableArg, fold-TableArg}
+use Rattle.kql_syntax.specs.declared.query.TableOp.{TableOp, fold-TableOp}
+use Rattle.kql_syntax.specs.declared.query.Union.{Union, fold-Union}
 use Rattle.bind_expr.specs.Outcome.{Outcome}
 use Rattle.bind_operators.specs.declared.bound.BoundOp.{BoundOp}
+use Rattle.bind_operators.specs.declared.bound.BoundPlan.{BoundPlan}
+use Rattle.bind_query.specs.declared.bound.BoundOps.{BoundOps}
 use Rattle.bind_operators.specs.declared.known.Known.{Known}
 use Rattle.bind_operators.specs.declared.shape.Shape.{Shape}
 use Rattle.bind_operators.specs.Extend.{extend_bound, serialize_bound}
@@ -21,7 +29,7 @@ use Rattle.bind_groups.specs.MakeSeries.{make_series_bound}
 use Rattle.bind_groups.specs.MvExpand.{mv_expand_bound}
 use Rattle.bind_groups.specs.Parse.{parse_bound}
 use Rattle.bind_query.specs.Partition.{partition_bound}
-use Rattle.bind_query.specs.Pipes.{BindsArg, BindsOp, BindsPlan, UnionParts, piped}
+use Rattle.bind_query.specs.Pipes.{BindsArg, BindsOp, BindsPlan, UnionParts, next_op, no_ops, piped}
 use Rattle.bind_operators.specs.Places.{name_place}
 use Rattle.bind_operators.specs.Project.{project_away_bound, project_bound, project_keep_bound, project_rename_bound}
 use Rattle.bind_query.specs.Scan.{scan_bound}
@@ -109,3 +117,33 @@ op_bound = fold-Op BindsOp BindsPlan BindsArg BindsOp BindsJoin BindsPartition B
 -- A pipe.
 unfoldable pub pipe_bound : Pipe → BindsPlan
 pipe_bound = fold-Pipe BindsOp BindsPlan BindsArg BindsOp BindsJoin BindsPartition BindsPlan UnionParts op_step source_step table_arg_step table_op_step join_step partition_step pipe_step union_step
+
+-- The parts of pipes.
+
+unfoldable pub source_bound : Source → BindsPlan
+source_bound = fold-Source BindsOp BindsPlan BindsArg BindsOp BindsJoin BindsPartition BindsPlan UnionParts op_step source_step table_arg_step table_op_step join_step partition_step pipe_step union_step
+
+unfoldable pub arg_read : TableArg → BindsArg
+arg_read = fold-TableArg BindsOp BindsPlan BindsArg BindsOp BindsJoin BindsPartition BindsPlan UnionParts op_step source_step table_arg_step table_op_step join_step partition_step pipe_step union_step
+
+unfoldable pub table_op_bound : TableOp → BindsOp
+table_op_bound = fold-TableOp BindsOp BindsPlan BindsArg BindsOp BindsJoin BindsPartition BindsPlan UnionParts op_step source_step table_arg_step table_op_step join_step partition_step pipe_step union_step
+
+unfoldable pub join_read : Join → BindsJoin
+join_read = fold-Join BindsOp BindsPlan BindsArg BindsOp BindsJoin BindsPartition BindsPlan UnionParts op_step source_step table_arg_step table_op_step join_step partition_step pipe_step union_step
+
+unfoldable pub partition_read : Partition → BindsPartition
+partition_read = fold-Partition BindsOp BindsPlan BindsArg BindsOp BindsJoin BindsPartition BindsPlan UnionParts op_step source_step table_arg_step table_op_step join_step partition_step pipe_step union_step
+
+unfoldable pub union_read : Union → UnionParts
+union_read = fold-Union BindsOp BindsPlan BindsArg BindsOp BindsJoin BindsPartition BindsPlan UnionParts op_step source_step table_arg_step table_op_step join_step partition_step pipe_step union_step
+
+unfoldable pub arg_place : TableArg → Place
+arg_place a = (arg_read a).0
+
+unfoldable pub arg_bound : Known → Bool → TableArg → Outcome BoundPlan
+arg_bound known inside a = (arg_read a).1 known inside
+
+-- Operators one after another.
+unfoldable pub ops_bound : List Op → Known → Bool → Shape → Outcome BoundOps
+ops_bound ops known inside rows = fold (λ before (op : Op). next_op (op_bound op) known inside before) (Ok (no_ops rows)) ops

@@ -20,6 +20,13 @@ unfoldable pub partitioned : Place → Bool → Column → BoundOps → Outcome 
 partitioned operator inside key done =
     unless (fault_if inside 416 operator) (made (op.Partition key.name done.ops) done.after.columns false)
 
+-- The same of a key and operators that may be refused.
+unfoldable pub partitions : Place → Bool → Outcome Column → Outcome BoundOps → Outcome BoundOp
+partitions operator inside column ops = do
+  key ← column
+  done ← ops
+  partitioned operator inside key done
+
 unfoldable pub partition_bound : Place → Name → List BindsOp → Known → Bool → Shape → Outcome BoundOp
 partition_bound operator column ops known inside rows = do
   key ← distinct_column operator known rows column

@@ -35,6 +35,12 @@ next_op op known inside before = do
   b ← op known inside done.after
   Ok (with_op done b)
 
+-- What it adds to the operators before it.
+unfoldable pub op_added : List Op → Outcome BoundOp → Outcome BoundOps
+op_added ops next = do
+  b ← next
+  Ok (record { ops = ops ++ b.op ∷ []; after = b.after })
+
 unfoldable pub no_ops : Shape → BoundOps
 no_ops rows = record { ops = []; after = rows }
 
@@ -47,6 +53,12 @@ longer p ops = roll-Plan (record { source = (out-Plan p).source; ops = (out-Plan
 
 unfoldable pub with_ops : BoundPlan → BoundOps → BoundPlan
 with_ops p done = record { plan = longer p.plan done.ops; after = done.after }
+
+-- A plan, and the operators behind it.
+unfoldable pub ops_added : Plan → Outcome BoundOps → Outcome BoundPlan
+ops_added p behind = do
+  done ← behind
+  Ok (record { plan = longer p done.ops; after = done.after })
 
 -- A source, and the operators over it.
 unfoldable pub piped : Outcome BoundPlan → List BindsOp → Known → Bool → Outcome BoundPlan

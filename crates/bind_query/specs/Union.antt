@@ -32,10 +32,14 @@ columns_behind p = p.after.columns
 abbrev pub plan_of : BoundPlan → Plan
 plan_of p = p.plan
 
+-- Whether columns of the answer have their types behind a plan, where it has them.
+abbrev pub stand_behind : List Column → BoundPlan → Bool
+stand_behind columns p = list_all (λ (c : Column). is_of_type_in c p.after.columns) columns
+
 -- 415 at each table that has a column of the answer in another type.
 unfoldable pub table_clashes : List Column → List Place → List BoundPlan → List BindFault
 table_clashes columns (place ∷ places) (p ∷ ps) =
-    fault_if (not (list_all (λ (c : Column). is_of_type_in c p.after.columns) columns)) 415 place ++ table_clashes columns places ps
+    fault_if (not (stand_behind columns p)) 415 place ++ table_clashes columns places ps
 table_clashes columns _ _ = []
 
 abbrev pub union_answer : Place → Bool → Bool → List Place → List BoundPlan → List Column → Outcome BoundOp
@@ -46,6 +50,10 @@ union_answer operator inside inner places others columns =
 unfoldable pub united : Place → Bool → Bool → Shape → List Place → List BoundPlan → Outcome BoundOp
 united operator inside inner rows places others =
     union_answer operator inside inner places others (union_columns inner rows.columns (map columns_behind others))
+
+-- The same of tables that may be refused.
+unfoldable pub unites : Place → Bool → Bool → Shape → List Place → Outcome (List BoundPlan) → Outcome BoundOp
+unites operator inside inner rows places others = others >>= united operator inside inner rows places
 
 -- The tables of a union, in their order.
 unfoldable pub tables_bound : List BindsArg → Known → Bool → Outcome (List BoundPlan)
@@ -61,6 +69,19 @@ union_bound operator u known inside rows = do
 
 unfoldable pub united_plan : BoundPlan → BoundOp → BoundPlan
 united_plan first b = with_ops first (record { ops = b.op ∷ []; after = b.after })
+
+-- The first table, with the rows of the others behind its own.
+unfoldable pub united_behind : Place → Bool → Bool → List Place → BoundPlan → List BoundPlan → Outcome BoundPlan
+united_behind operator inside inner places first others = do
+  b ← united operator inside inner first.after places others
+  Ok (united_plan first b)
+
+-- The same of tables that may be refused.
+unfoldable pub unites_behind : Place → Bool → Bool → List Place → Outcome BoundPlan → Outcome (List BoundPlan) → Outcome BoundPlan
+unites_behind operator inside inner places table tables = do
+  first ← table
+  others ← tables
+  united_behind operator inside inner places first others
 
 abbrev pub union_of : Place → Bool → List BindsArg → Known → Bool → Outcome BoundPlan
 union_of operator inner [] known inside = Err (fault.Refused 419 operator)

@@ -5,5 +5,16 @@
 #![tactic(auto)]
 
 mod bound;
+mod join;
+mod lets;
+mod operators;
+mod ops;
+mod partition;
+mod pipes;
+mod query;
+mod stand_ins;
+mod tables_read;
+mod union;
 
 pub use bound::{BoundOps, BoundStatements};
+pub use query::bind;
