@@ -11,12 +11,14 @@ use std::{env, io};
 const HELP: &str = "\
 kql: answers a query of the Kusto Query Language over tables in CSV files.
 
-    kql run QUERY NAME=PATH ..
+    kql run [--workers N] [--now T] QUERY NAME=PATH ..
 
 QUERY is the path of a file with the query, and each NAME=PATH gives the CSV file
 of a table. The answer is CSV on standard output. A query or file that is refused
 is told in one line on standard error, with its place.
 
+    --now T           the datetime that now() is, as 2024-03-01 or 2024-03-01T10:00
+    --workers N       how many workers share the work, 1 to 64; without effect yet
     kql --help        this text
     kql --version     the version
 

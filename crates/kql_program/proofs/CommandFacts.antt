@@ -38,25 +38,25 @@ pub names-more : (words : List (String Global)) (i : ℕ) (d : String Global) �
     → map name_in (texts (take (i + 1) words)) ≡ map name_in (texts (take i words)) ++ name_in (string_bytes (get_or words i d)) ∷ []
 names-more words i d lt = rw (take_more words i d lt, map-append string_bytes (take i words) (get_or words i d ∷ []), map-append name_in (texts (take i words)) (string_bytes (get_or words i d) ∷ [])) refl
 
-faults-here : (words : List (String Global)) (i : ℕ) (d : String Global) → i < length words
-    → tables_faults (i + 2) (map name_in (texts (take i words))) (drop i (texts words))
-    ≡ table_faults (i + 2) (map name_in (texts (take i words))) (string_bytes (get_or words i d)) ++ tables_faults (i + 1 + 2) (map name_in (texts (take (i + 1) words))) (drop (i + 1) (texts words))
-faults-here words i d lt =
-    let next : i + 2 + 1 ≡ i + 1 + 2 = omega arith in
+faults-here : (words : List (String Global)) (first i : ℕ) (d : String Global) → i < length words
+    → tables_faults (i + first) (map name_in (texts (take i words))) (drop i (texts words))
+    ≡ table_faults (i + first) (map name_in (texts (take i words))) (string_bytes (get_or words i d)) ++ tables_faults (i + 1 + first) (map name_in (texts (take (i + 1) words))) (drop (i + 1) (texts words))
+faults-here words first i d lt =
+    let next : i + first + 1 ≡ i + 1 + first = omega arith in
     rw (words-at words i d lt, names-more words i d lt, next) refl
 
 -- a word without a fault
-pub check-next : (words : List (String Global)) (i : ℕ) (d : String Global) (word : List ℕ) (all : Answer (Unit {0})) → i < length words → word ≡ string_bytes (get_or words i d)
-    → Ok tt ≡ unless (table_faults (i + 2) (map name_in (texts (take i words))) word) (tt {0})
-    → unless (tables_faults (i + 2) (map name_in (texts (take i words))) (drop i (texts words))) (tt {0}) ≡ all
-    → unless (tables_faults (i + 1 + 2) (map name_in (texts (take (i + 1) words))) (drop (i + 1) (texts words))) (tt {0}) ≡ all
-check-next words i d word all lt w e h =
-    sym (unless-none (table_faults (i + 2) (map name_in (texts (take i words))) (string_bytes (get_or words i d))) _ (tt {0}) (tt {0}) (sym (rw w at e))) ∙ (rw (← faults-here words i d lt) h)
+pub check-next : (words : List (String Global)) (first i : ℕ) (d : String Global) (word : List ℕ) (all : Answer (Unit {0})) → i < length words → word ≡ string_bytes (get_or words i d)
+    → Ok tt ≡ unless (table_faults (i + first) (map name_in (texts (take i words))) word) (tt {0})
+    → unless (tables_faults (i + first) (map name_in (texts (take i words))) (drop i (texts words))) (tt {0}) ≡ all
+    → unless (tables_faults (i + 1 + first) (map name_in (texts (take (i + 1) words))) (drop (i + 1) (texts words))) (tt {0}) ≡ all
+check-next words first i d word all lt w e h =
+    sym (unless-none (table_faults (i + first) (map name_in (texts (take i words))) (string_bytes (get_or words i d))) _ (tt {0}) (tt {0}) (sym (rw w at e))) ∙ (rw (← faults-here words first i d lt) h)
 
 -- the first word with a fault
-pub check-fault : (words : List (String Global)) (i : ℕ) (d : String Global) (word : List ℕ) (r : Refusal) (all : Answer (Unit {0})) → i < length words → word ≡ string_bytes (get_or words i d)
-    → Err r ≡ unless (table_faults (i + 2) (map name_in (texts (take i words))) word) (tt {0})
-    → unless (tables_faults (i + 2) (map name_in (texts (take i words))) (drop i (texts words))) (tt {0}) ≡ all
+pub check-fault : (words : List (String Global)) (first i : ℕ) (d : String Global) (word : List ℕ) (r : Refusal) (all : Answer (Unit {0})) → i < length words → word ≡ string_bytes (get_or words i d)
+    → Err r ≡ unless (table_faults (i + first) (map name_in (texts (take i words))) word) (tt {0})
+    → unless (tables_faults (i + first) (map name_in (texts (take i words))) (drop i (texts words))) (tt {0}) ≡ all
     → Err r ≡ all
-check-fault words i d word r all lt w e h =
-    sym (unless-some (table_faults (i + 2) (map name_in (texts (take i words))) (string_bytes (get_or words i d))) (tables_faults (i + 1 + 2) (map name_in (texts (take (i + 1) words))) (drop (i + 1) (texts words))) (tt {0}) (tt {0}) r (sym (rw w at e))) ∙ (rw (← faults-here words i d lt) h)
+check-fault words first i d word r all lt w e h =
+    sym (unless-some (table_faults (i + first) (map name_in (texts (take i words))) (string_bytes (get_or words i d))) (tables_faults (i + 1 + first) (map name_in (texts (take (i + 1) words))) (drop (i + 1) (texts words))) (tt {0}) (tt {0}) r (sym (rw w at e))) ∙ (rw (← faults-here words first i d lt) h)

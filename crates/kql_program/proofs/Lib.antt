@@ -3,7 +3,8 @@ pub mod CommandFacts
 pub mod FileFacts
 pub mod MemoryFacts
 pub mod OutcomeFacts
-pub mod RowFacts
+pub mod RunFacts
+pub mod StepFacts
 pub mod TableFacts
 pub mod TopFacts
 pub mod VerdictFacts

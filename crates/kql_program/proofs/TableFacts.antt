@@ -12,7 +12,7 @@ use Rattle.std.proofs.lemmas.Slice.Eq.{bytes_eq-Decides}
 use Rattle.kql_cells.specs.Catalogues.{table_name}
 use Rattle.kql_cells.specs.Named.{IsAbsent}
 use Rattle.kql_cells.specs.Catalogues.{Named}
-use Rattle.kql_program.specs.Command.{name_in, names_table, path_in, table_faults, tables_faults, texts}
+use Rattle.kql_program.specs.Command.{AreTables, name_in, names_table, path_in, table_faults, tables_faults, texts}
 use Rattle.kql_program.specs.Files.{AddsTable, Files, file_bytes, named_as, table_in, tables_from}
 use Rattle.kql_program.specs.Refusals.{Answer, Computes, ◌>>=◌, after, with_first}
 use Rattle.kql_program.specs.declared.refusal.Refusal.{Refusal}
@@ -20,10 +20,7 @@ use Rattle.kql_program.specs.declared.refusal.Stop.{Stop}
 use Rattle.kql_program.specs.declared.refusal.Stop.TheVariants as stop
 use Rattle.kql_program.proofs.AnswerFacts.{after-first}
 use Rattle.kql_program.proofs.CommandFacts.{words-at}
-
-both-empty : {X : Type 0} (a b : List X) → a ++ b ≡ [] → (a ≡ []) × (b ≡ [])
-both-empty [] b e = (refl, e)
-both-empty (x ∷ xs) b e = cc
+use Rattle.kql_program.proofs.RunFacts.{both-empty}
 
 -- words without faults: the word of a place has none behind those before it
 clean-at : (number : ℕ) (names words : List (List ℕ)) (i : ℕ) → tables_faults number names words ≡ [] → i < length words
@@ -65,19 +62,19 @@ pub record IsCleanWord (words : List (String Global)) (i : ℕ) (word : List ℕ
   pub fresh : list_any (bytes_eq (name_in word)) (map name_in (texts (take i words))) ≡ false
   pub few : i < 64
 
-pub clean : (words : List (String Global)) (i : ℕ) (d : String Global) (word : List ℕ) → tables_faults 2 [] (texts words) ≡ [] → i < length words → word ≡ string_bytes (get_or words i d) → IsCleanWord words i word
+pub clean : (words : List (String Global)) (i : ℕ) (d : String Global) (word : List ℕ) → AreTables (texts words) → i < length words → word ≡ string_bytes (get_or words i d) → IsCleanWord words i word
 clean words i d word e lt w =
     let size = length-map words string_bytes in
     let within : i < length (texts words) = omega arith in
     let front : take i (texts words) ≡ texts (take i words) = take-map string_bytes i words in
     let read : get_or (texts words) i [] ≡ word = get_or-map string_bytes words i d [] lt ∙ sym w in
-    let none = clean-at 2 [] (texts words) i e within in
-    let here : table_faults (2 + i) (map name_in (texts (take i words))) word ≡ [] = rw (front, read) at none in
-    let (named, fresh, few) = clean-word (2 + i) (map name_in (texts (take i words))) word here in
+    let none = clean-at 0 [] (texts words) i e within in
+    let here : table_faults (0 + i) (map name_in (texts (take i words))) word ≡ [] = rw (front, read) at none in
+    let (named, fresh, few) = clean-word (0 + i) (map name_in (texts (take i words))) word here in
     let count : length (map name_in (texts (take i words))) ≡ i = length-names words i lt in
     record { names = named; fresh = fresh; few = omega arith }
 
-pub few-words : (words : List (String Global)) (i : ℕ) → tables_faults 2 [] (texts words) ≡ [] → i < length words → i < 64
+pub few-words : (words : List (String Global)) (i : ℕ) → AreTables (texts words) → i < length words → i < 64
 few-words [] i e lt = absurd (omega arith)
 few-words (w ∷ ws) i e lt = (clean (w ∷ ws) i w (string_bytes (get_or (w ∷ ws) i w)) e lt refl).few
 

@@ -1,32 +1,23 @@
 -- The verdict on the tokens of a query, of which there is one.
 use Rattle.std.proofs.Common.{◌≡◌, ◌∙◌, ℕ, List, ap, refl, sym}
-use Rattle.std.specs.Prelude.{Option, Some, None, IfSome, IfOk, IsErrAnd, Result, Ok, Err}
+use Rattle.std.specs.Prelude.{Option, Some, None, IfSome, IfOk, Ok, Err}
 use Rattle.kql_lexer.specs.declared.token.Token.{Token}
-use Rattle.kql_parser.specs.Parsing.{Parses}
 use Rattle.kql_parser.proofs.ResultLaws.{not-refused, one-refusal}
-use Rattle.kql_syntax.specs.declared.parse.SyntaxFault.{SyntaxFault}
-use Rattle.kql_syntax.specs.declared.parse.SyntaxFault.TheVariants as syntax
-use Rattle.kql_program.specs.Answer.{HasOneAnswer, answer, query_rows, tokens_read}
+use Rattle.kql_parser.proofs.TreeLaws.{one_parsed}
+use Rattle.kql_program.specs.Answer.{HasOneAnswer, answer, tokens_read}
 use Rattle.kql_program.specs.Files.{Files}
 use Rattle.kql_program.specs.Refusals.{Answer}
-use Rattle.kql_program.specs.Stops.{syntax_stop}
-use Rattle.kql_program.specs.Syntax.{IsVerdict, Judges, Verdict}
+use Rattle.kql_program.specs.Syntax.{IsVerdict, Verdict}
 use Rattle.kql_program.specs.declared.refusal.Refusal.TheVariants as refusal
-use Rattle.kql_program.specs.declared.refusal.Stop.{Stop}
-
--- a refusal of the parser
-pub judged-fault : (tokens : List Token) (fault : SyntaxFault) (r : Result (Unit {0}) Stop) → Parses tokens (Err fault) → IsErrAnd r (λ e. e ≡ syntax_stop fault) → Judges tokens r
-judged-fault tokens fault (Ok u) h i = absurd i
-judged-fault tokens (syntax.Refused code place) (Err s) h i = rw i h
-judged-fault tokens syntax.OutOfMemory (Err s) h i = rw i tt
+use Rattle.kql_program.proofs.StepFacts.{rows-untokened}
 
 -- there is one verdict on tokens
 pub one-verdict : (s : List Token) (u v : Verdict) → IsVerdict s u → IsVerdict s v → u ≡ v
-one-verdict s (Ok a) (Ok b) h k = refl
-one-verdict s (Ok a) (Err (refusal.Query code place)) h k = absurd (not-refused s h.0 code place h.1 k)
+one-verdict s (Ok a) (Ok b) h k = ap Ok (one_parsed s a b h k)
+one-verdict s (Ok a) (Err (refusal.Query code place)) h k = absurd (not-refused s a code place h k)
 one-verdict s (Ok a) (Err (refusal.Usage word code)) h k = absurd k
 one-verdict s (Ok a) (Err (refusal.Data file code row column)) h k = absurd k
-one-verdict s (Err (refusal.Query code place)) (Ok b) h k = absurd (not-refused s k.0 code place k.1 h)
+one-verdict s (Err (refusal.Query code place)) (Ok b) h k = absurd (not-refused s b code place k h)
 one-verdict s (Err (refusal.Query code place)) (Err (refusal.Query d p)) h k =
     let one = one-refusal s code d place p h k in
     rw (one.0, one.1) refl
@@ -38,9 +29,9 @@ one-verdict s (Err (refusal.Data file code row column)) v h k = absurd h
 -- of what follows from the verdict on these tokens
 one-of : (words : List (List ℕ)) (files : Files) (read : Answer (List Token)) (u v : Verdict) → tokens_read words files ≡ read → IfOk read (λ tokens. IsVerdict tokens u) → IfOk read (λ tokens. IsVerdict tokens v)
     → answer words files u ≡ answer words files v
-unfolding answer query_rows
+unfolding answer
 one-of words files (Ok tokens) u v e h k = ap (answer words files) (one-verdict tokens u v h k)
-one-of words files (Err r) u v e h k = rw e refl
+one-of words files (Err r) u v e h k = rw (rows-untokened words files u r e, rows-untokened words files v r e) refl
 
 -- there is one answer to words and files
 pub one-answer : (words : List (List ℕ)) (files : Files) → HasOneAnswer words files

@@ -1,11 +1,14 @@
--- The words of the command: `run QUERY NAME=PATH ..`.
-use Rattle.std.specs.Prelude.{ℕ, ◌+◌, ◌==◌, ◌&&◌, not, nat_eq, nat_le, Bool, List, [], ◌∷◌, ◌++◌, String, string_bytes, length, map, codes, if◌then◌else◌}
+-- The words of the command: `run`, its options, QUERY, and then NAME=PATH ..
+use Rattle.std.specs.Prelude.{◌≡◌, ℕ, ◌+◌, ◌==◌, ◌&&◌, not, nat_le, Bool, List, [], ◌∷◌, ◌++◌, String, string_bytes, Err, drop, length, map, slice_index_or, codes, if◌then◌else◌}
 use Rattle.std.specs.Global.{Global}
-use Rattle.std.specs.List.{after_first, before_first, list_any, starts_with}
+use Rattle.std.specs.List.{after_first, before_first, list_any}
 use Rattle.std.specs.Str.{bytes_eq}
 use Rattle.kql_lexer.specs.Words.{is_reserved, is_word}
+use Rattle.kql_program.specs.declared.command.Command.{Command}
 use Rattle.kql_program.specs.declared.refusal.Refusal.{Refusal}
 use Rattle.kql_program.specs.declared.refusal.Refusal.TheVariants.{Usage}
+use Rattle.kql_program.specs.Options.{command_from, no_options}
+use Rattle.kql_program.specs.Refusals.{Answer, ◌>>=◌, unless}
 
 abbrev pub is_equals : ℕ → Bool
 is_equals b = b == 61
@@ -44,15 +47,24 @@ abbrev pub tables_faults : ℕ → List (List ℕ) → List (List ℕ) → List 
 tables_faults number names [] = []
 tables_faults number names (word ∷ words) = table_faults number names word ++ tables_faults (number + 1) (names ++ name_in word ∷ []) words
 
-abbrev pub is_option : List ℕ → Bool
-is_option word = starts_with nat_eq word (codes "--")
+-- these words name tables: each one, no name twice, and no more than a command may
+abbrev pub AreTables : List (List ℕ) → Type 0
+AreTables words = tables_faults 0 [] words ≡ []
 
--- the faults of what follows `run`
-abbrev pub run_faults : List (List ℕ) → List Refusal
-run_faults [] = Usage 1 606 ∷ []
-run_faults (query ∷ tables) = if is_option query then Usage 1 603 ∷ [] else tables_faults 2 [] tables
+-- the command of the words behind `run`: options, QUERY, and words that name tables
+unfoldable pub run_of : List (List ℕ) → Answer Command
+run_of words = do
+  command ← command_from 1 no_options words
+  unless (tables_faults (command.query + 1) [] (drop command.query words)) command
 
--- all faults of the words, in their order
-abbrev pub words_faults : List (List ℕ) → List Refusal
-words_faults [] = Usage 0 601 ∷ []
-words_faults (command ∷ words) = if bytes_eq command (codes "run") then run_faults words else Usage 0 602 ∷ []
+-- the command that the words are, or their first fault
+unfoldable pub command_of : List (List ℕ) → Answer Command
+command_of [] = Err (Usage 0 601)
+command_of (word ∷ words) = if bytes_eq word (codes "run") then run_of words else Err (Usage 0 602)
+
+-- of the words of a command, the path of the query file, and the words that name tables
+abbrev pub query_path : List (List ℕ) → Command → List ℕ
+query_path words command = slice_index_or words command.query []
+
+abbrev pub table_words : List (List ℕ) → Command → List (List ℕ)
+table_words words command = drop (command.query + 1) words

@@ -1,12 +1,12 @@
 pub mod Answer
-pub mod Binding
 pub mod Command
 pub mod Endings
 pub mod Files
-pub mod Form
 pub mod InMemory
 pub mod Lines
+pub mod Options
 pub mod Outcomes
 pub mod Refusals
+pub mod Steps
 pub mod Stops
 pub mod Syntax

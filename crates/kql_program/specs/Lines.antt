@@ -1,12 +1,12 @@
 -- The line that an ending writes for errors.
-use Rattle.std.specs.Prelude.{ℕ, ◌==◌, List, [], ◌∷◌, ◌++◌, codes, if◌then◌else◌}
+use Rattle.std.specs.Prelude.{ℕ, ◌==◌, nat_lt, List, [], ◌∷◌, ◌++◌, codes, if◌then◌else◌}
 use Rattle.std.specs.Fmt.{decimal}
 use Rattle.kql_program.specs.declared.refusal.Refusal.{Refusal}
 use Rattle.kql_program.specs.declared.refusal.Refusal.TheVariants.{Query, Usage, Data}
 
--- the name of a code of a refused query
-abbrev pub query_name : ℕ → List ℕ
-query_name code =
+-- the name of a code of tokens and syntax
+abbrev pub text_name : ℕ → List ℕ
+text_name code =
     if code == 101 then codes "BadCharacter"
     else if code == 102 then codes "OpenText"
     else if code == 103 then codes "BadNumber"
@@ -16,10 +16,40 @@ query_name code =
     else if code == 202 then codes "TooDeep"
     else if code == 203 then codes "TooManyOperators"
     else if code == 204 then codes "NotBuilt"
-    else if code == 401 then codes "UnknownColumn"
+    else []
+
+-- the names of the codes of binding, 401 to 410
+abbrev pub bind_name : ℕ → List ℕ
+bind_name code =
+    if code == 401 then codes "UnknownColumn"
+    else if code == 402 then codes "UnknownFunction"
+    else if code == 403 then codes "WrongArguments"
     else if code == 404 then codes "WrongType"
+    else if code == 405 then codes "UnsupportedType"
+    else if code == 406 then codes "UnsupportedFunction"
+    else if code == 407 then codes "NotSerialised"
+    else if code == 408 then codes "WindowHere"
+    else if code == 409 then codes "NoMoment"
     else if code == 410 then codes "UnknownTable"
     else []
+
+-- and 411 to 419
+abbrev pub operator_name : ℕ → List ℕ
+operator_name code =
+    if code == 411 then codes "ColumnTwice"
+    else if code == 412 then codes "TooManyColumns"
+    else if code == 413 then codes "BadStep"
+    else if code == 414 then codes "BadRange"
+    else if code == 415 then codes "TypeClash"
+    else if code == 416 then codes "NotInPartition"
+    else if code == 417 then codes "NameTwice"
+    else if code == 418 then codes "BadLiteral"
+    else if code == 419 then codes "NoColumns"
+    else []
+
+-- the name of a code of a refused query: of its tokens and syntax, or of binding
+abbrev pub query_name : ℕ → List ℕ
+query_name code = if nat_lt code 401 then text_name code else if nat_lt code 411 then bind_name code else operator_name code
 
 -- the name of a code of a refused word
 abbrev pub usage_name : ℕ → List ℕ
@@ -27,6 +57,8 @@ usage_name code =
     if code == 601 then codes "NoCommand"
     else if code == 602 then codes "UnknownCommand"
     else if code == 603 then codes "UnknownOption"
+    else if code == 604 then codes "OptionTwice"
+    else if code == 605 then codes "OptionValue"
     else if code == 606 then codes "NoQuery"
     else if code == 607 then codes "BadTable"
     else if code == 608 then codes "TableTwice"

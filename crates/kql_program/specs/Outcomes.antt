@@ -9,16 +9,16 @@ use Rattle.kql_program.specs.declared.refusal.Refusal.TheVariants as refusal
 use Rattle.kql_program.specs.declared.refusal.Stop.{Stop}
 use Rattle.kql_program.specs.declared.refusal.Stop.TheVariants as stop
 use Rattle.kql_program.specs.Answer.{Answers}
-use Rattle.kql_program.specs.Command.{words_faults}
+use Rattle.kql_program.specs.Command.{command_of}
 use Rattle.kql_program.specs.Endings.{IsQuiet, ending_of, refused_as}
 use Rattle.kql_program.specs.Files.{Files}
 use Rattle.kql_program.specs.Lines.{line_of, memory_line, read_fault_line}
-use Rattle.kql_program.specs.Refusals.{Answer, unless}
+use Rattle.kql_program.specs.Refusals.{Answer}
 
 -- the answer refuses a word exactly where it is the first fault of the words
 pub record RefusesWords (words : List (List ℕ)) (a : Answer (List ℕ)) : Type 0 where
-  pub first : (r : Refusal) → unless (words_faults words) (tt {0}) ≡ Err r → a ≡ Err r
-  pub no_other : (word code : ℕ) → a ≡ Err (refusal.Usage word code) → unless (words_faults words) (tt {0}) ≡ Err (refusal.Usage word code)
+  pub first : (r : Refusal) → command_of words ≡ Err r → a ≡ Err r
+  pub no_other : (word code : ℕ) → a ≡ Err (refusal.Usage word code) → command_of words ≡ Err (refusal.Usage word code)
 
 -- what an answer is
 abbrev pub OfAnswers : Type 1
@@ -36,8 +36,8 @@ RefusesNoWord result = (word code : ℕ) → result ≡ Err (stop.Refused (refus
 
 -- the work stops at a word exactly where it is the first fault of the words
 pub record MeetsFaults {X : Type 0} (words : List (List ℕ)) (result : Result X Stop) : Type 0 where
-  pub first : (r : Refusal) → unless (words_faults words) (tt {0}) ≡ Err r → result ≡ Err (stop.Refused r)
-  pub no_other : (word code : ℕ) → result ≡ Err (stop.Refused (refusal.Usage word code)) → unless (words_faults words) (tt {0}) ≡ Err (refusal.Usage word code)
+  pub first : (r : Refusal) → command_of words ≡ Err r → result ≡ Err (stop.Refused r)
+  pub no_other : (word code : ℕ) → result ≡ Err (stop.Refused (refusal.Usage word code)) → command_of words ≡ Err (refusal.Usage word code)
 
 -- a sink at one moment: what it holds and how much more it takes, where that is told, and its count of faults
 pub record SinkNow : Type 0 where

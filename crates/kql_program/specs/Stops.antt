@@ -1,4 +1,6 @@
 -- How an error of a lower room stops the work.
+use Rattle.bind_expr.specs.declared.fault.BindFault.{BindFault}
+use Rattle.bind_expr.specs.declared.fault.BindFault.TheVariants as bind
 use Rattle.kql_outside.specs.declared.transfers.ReadError.{ReadError}
 use Rattle.kql_outside.specs.declared.transfers.ReadError.TheVariants as read
 use Rattle.kql_lexer.specs.declared.lexer.LexFault.{LexFault}
@@ -20,3 +22,7 @@ lex_stop lex.OutOfMemory = stop.OutOfMemory
 abbrev pub syntax_stop : SyntaxFault → Stop
 syntax_stop (syntax.Refused code place) = stop.Refused (refusal.Query code place)
 syntax_stop syntax.OutOfMemory = stop.OutOfMemory
+
+abbrev pub bind_stop : BindFault → Stop
+bind_stop (bind.Refused code place) = stop.Refused (refusal.Query code place)
+bind_stop bind.OutOfMemory = stop.OutOfMemory

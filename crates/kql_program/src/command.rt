@@ -1,24 +1,41 @@
-ghost use Rattle.std.specs.Prelude.{◌≡◌, ◌<◌, [], true, false, length, map, MatchOption, OnOk};
+ghost use Rattle.std.specs.Prelude.{◌≡◌, ◌≤◌, ◌<◌, ◌+◌, [], true, false, drop, length, map, IfOk, IfSome, MatchOption, OnOk};
 ghost use Rattle.std.specs.List.{list_any};
 ghost use Rattle.std.specs.Str.{bytes_eq};
-ghost use Rattle.kql_program.specs.Command.{is_option, name_in, names_table, path_in, run_faults, table_faults, tables_faults, texts, words_faults};
+ghost use Rattle.kql_cells.specs.Values.{IsMoment};
+ghost use Rattle.kql_program.specs.Command.{AreTables, command_of, name_in, names_table, path_in, run_of, table_faults, tables_faults, texts};
 ghost use Rattle.kql_program.specs.Refusals.{unless};
 
+use crate::options::read_options;
 use crate::refusal::Refusal;
 use kql_lexer::{is_reserved, is_word};
 
 /// How many tables a command may name.
 const TABLES_TOP: usize = 64;
 
-/// Refuses the first fault of the words `run QUERY NAME=PATH ..`.
-pub(crate) fn check_words(words: &[String]) -> Result<(), Refusal>
-    ensures checked { result ≡ unless (words_faults (texts words.now)) tt }
+/// The words of a command that has no fault.
+#[derive(Clone, Copy, Debug)]
+pub(crate) struct Command {
+    /// The number of the word QUERY, from 0; the words behind it name tables.
+    pub query: usize,
+    /// How many workers are asked for, 1 to 64.
+    pub workers: u32,
+    /// The moment that `now()` stands for, in ticks and in the range of a datetime, where one is given.
+    pub moment: Option<i64>,
+}
+
+/// The command that the words are, or their first fault.
+#[tactic(auto, unfolding(crate::specs::Command::command_of))]
+pub(crate) fn read_command(words: &[String]) -> Result<Command, Refusal>
+    ensures read { result ≡ command_of (texts words.now) }
+    ensures within { IfOk result (λ c. c.query < length words.now) }
+    ensures tables { IfOk result (λ c. AreTables (texts (drop (c.query + 1) words.now))) }
+    ensures moment { IfOk result (λ c. IfSome c.moment IsMoment) }
 {
     match words {
         [] => Err(Refusal::Usage { word: 0, code: 601 }),
         [command, rest @ ..] => {
             if command.as_str() == "run" {
-                check_run(rest)
+                read_run(rest)
             } else {
                 Err(Refusal::Usage { word: 0, code: 602 })
             }
@@ -26,34 +43,26 @@ pub(crate) fn check_words(words: &[String]) -> Result<(), Refusal>
     }
 }
 
-// What follows `run`.
-fn check_run(words: &[String]) -> Result<(), Refusal>
-    ensures { result ≡ unless (run_faults (texts words.now)) tt }
+// The command of the words behind `run`.
+#[tactic(auto, unfolding(crate::specs::Command::run_of))]
+fn read_run(words: &[String]) -> Result<Command, Refusal>
+    ensures read { result ≡ run_of (texts words.now) }
+    ensures within { IfOk result (λ c. c.query ≤ length words.now) }
+    ensures tables { IfOk result (λ c. AreTables (texts (drop c.query words.now))) }
+    ensures moment { IfOk result (λ c. IfSome c.moment IsMoment) }
 {
-    match words {
-        [] => Err(Refusal::Usage { word: 1, code: 606 }),
-        [query, tables @ ..] => {
-            if is_option(query.as_str()) {
-                Err(Refusal::Usage { word: 1, code: 603 })
-            } else {
-                check_tables(tables)
-            }
-        }
-    }
+    let command = read_options(words)?;
+    check_tables(&words[command.query..], command.query as u32 + 1)?;
+    Ok(command)
 }
 
-fn is_option(word: &str) -> bool
-    ensures { result ≡ is_option word.now }
-{
-    word.as_bytes().starts_with(b"--")
-}
-
-// The words NAME=PATH, of which the first has the number 2.
-fn check_tables(words: &[String]) -> Result<(), Refusal>
-    ensures { result ≡ unless (tables_faults 2 [] (texts words.now)) tt }
+// The words NAME=PATH, of which the first has this number.
+fn check_tables(words: &[String], first: u32) -> Result<(), Refusal>
+    requires { first ≤ 6 }
+    ensures checked { result ≡ unless (tables_faults first [] (texts words.now)) tt }
 {
     for i in 0..words.len() {
-        check_table(&words[..i], words[i].as_str(), i as u32 + 2)?;
+        check_table(&words[..i], words[i].as_str(), i as u32 + first)?;
     }
     Ok(())
 }

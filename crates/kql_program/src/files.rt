@@ -2,7 +2,7 @@ ghost use Rattle.std.specs.Prelude.{◌≡◌, ◌≤◌, ◌+◌, ◌++◌, ◌
 ghost use Rattle.kql_outside.specs.Causes.{Rose};
 ghost use Rattle.kql_cells.specs.Named.{IsAbsent};
 ghost use Rattle.kql_cells.specs.Catalogues.{table_name};
-ghost use Rattle.kql_program.specs.Command.{name_in, names_table, tables_faults, texts};
+ghost use Rattle.kql_program.specs.Command.{AreTables, name_in, names_table, texts};
 ghost use Rattle.kql_program.specs.Files.{AddsTable, ReadsFront, ReadsTable, bytes_top, file_bytes, file_tokens, loaded_as, query_tokens, tables_from};
 ghost use Rattle.kql_program.specs.Outcomes.{RefusesNoWord};
 ghost use Rattle.kql_program.specs.Refusals.{Computes, Gives};
@@ -73,7 +73,7 @@ pub(crate) fn read_tables<F: Shelf>(
     shelf: &mut F,
     words: &[String],
 ) -> Result<Catalogue, Stop>
-    requires { tables_faults 2 [] (texts words.now) ≡ [] }
+    requires { AreTables (texts words.now) }
     ensures files { F.files shelf.new ≡ F.files shelf.old }
     ensures later { F.faults shelf.old ≤ F.faults shelf.new }
     ensures failed { result ≡ Err stop.ReadFault → Rose (F.faults shelf.old) (F.faults shelf.new) }

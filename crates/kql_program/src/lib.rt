@@ -3,13 +3,13 @@
 
 mod command;
 mod ended;
+mod evaluate;
 mod files;
 mod lines;
 mod memory;
-mod query;
+mod options;
 mod refusal;
-mod rows;
-mod syntax;
+mod steps;
 mod top;
 
 pub use ended::{Ended, status};

@@ -1,5 +1,5 @@
 ghost use Rattle.std.specs.Prelude.{◌≡◌, IfOk, string_bytes};
-ghost use Rattle.kql_program.specs.Lines.{data_line, data_name, line_of, query_line, query_name, usage_line, usage_name};
+ghost use Rattle.kql_program.specs.Lines.{data_line, data_name, line_of, bind_name, operator_name, query_line, query_name, text_name, usage_line, usage_name};
 
 use crate::refusal::Refusal;
 use std::alloc::{AllocError, Global};
@@ -47,8 +47,21 @@ fn data_line(
     format!(in alloc; "kql: file {file}: {code} {name} at {row}:{column}\n")
 }
 
+// The name of a code of a refused query: of its tokens and syntax, or of binding.
 fn query_name(code: u32) -> &'static str
     ensures { result.now ≡ query_name code }
+{
+    if code < 401 {
+        text_name(code)
+    } else if code < 411 {
+        bind_name(code)
+    } else {
+        operator_name(code)
+    }
+}
+
+fn text_name(code: u32) -> &'static str
+    ensures { result.now ≡ text_name code }
 {
     match code {
         101 => "BadCharacter",
@@ -60,9 +73,41 @@ fn query_name(code: u32) -> &'static str
         202 => "TooDeep",
         203 => "TooManyOperators",
         204 => "NotBuilt",
+        _ => "",
+    }
+}
+
+fn bind_name(code: u32) -> &'static str
+    ensures { result.now ≡ bind_name code }
+{
+    match code {
         401 => "UnknownColumn",
+        402 => "UnknownFunction",
+        403 => "WrongArguments",
         404 => "WrongType",
+        405 => "UnsupportedType",
+        406 => "UnsupportedFunction",
+        407 => "NotSerialised",
+        408 => "WindowHere",
+        409 => "NoMoment",
         410 => "UnknownTable",
+        _ => "",
+    }
+}
+
+fn operator_name(code: u32) -> &'static str
+    ensures { result.now ≡ operator_name code }
+{
+    match code {
+        411 => "ColumnTwice",
+        412 => "TooManyColumns",
+        413 => "BadStep",
+        414 => "BadRange",
+        415 => "TypeClash",
+        416 => "NotInPartition",
+        417 => "NameTwice",
+        418 => "BadLiteral",
+        419 => "NoColumns",
         _ => "",
     }
 }
@@ -74,6 +119,8 @@ fn usage_name(code: u32) -> &'static str
         601 => "NoCommand",
         602 => "UnknownCommand",
         603 => "UnknownOption",
+        604 => "OptionTwice",
+        605 => "OptionValue",
         606 => "NoQuery",
         607 => "BadTable",
         608 => "TableTwice",

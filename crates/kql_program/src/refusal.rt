@@ -1,3 +1,4 @@
+use bind_expr::BindFault;
 use kql_lexer::{LexFault, Place};
 use kql_outside::{Failed, ReadError};
 use kql_syntax::SyntaxFault;
@@ -107,6 +108,20 @@ impl From<SyntaxFault> for Stop {
         match fault {
             SyntaxFault::Refused { code, place } => Stop::Refused(Refusal::Query { code, place }),
             SyntaxFault::OutOfMemory => Stop::OutOfMemory,
+        }
+    }
+}
+
+impl From<BindFault> for Stop {
+    ghost use Rattle.std.specs.Prelude.{◌≡◌};
+    ghost use Rattle.kql_program.specs.Stops.{bind_stop};
+
+    ghost from_gives = { λ fault e. e ≡ bind_stop fault };
+
+    fn from(fault: BindFault) -> Stop {
+        match fault {
+            BindFault::Refused { code, place } => Stop::Refused(Refusal::Query { code, place }),
+            BindFault::OutOfMemory => Stop::OutOfMemory,
         }
     }
 }

@@ -1,23 +1,14 @@
-ghost use Rattle.std.specs.Prelude.{◌≡◌, ◌≤◌, Err, IfSome};
-ghost use Rattle.kql_outside.specs.Causes.{Rose};
-ghost use Rattle.kql_program.specs.Answer.{Answers, AreRows, HasOneAnswer};
+ghost use Rattle.std.specs.Prelude.{◌≡◌, IfSome};
+ghost use Rattle.kql_program.specs.Answer.{HasOneAnswer};
 ghost use Rattle.kql_program.specs.Command.{texts};
-ghost use Rattle.kql_program.specs.Outcomes.{HasOutcome, MeetsFaults, SinkNow, Writes, WritesStop, outside, sink_now};
-ghost use Rattle.kql_program.specs.Refusals.{Reaches};
+ghost use Rattle.kql_program.specs.Outcomes.{HasOutcome, SinkNow, Writes, WritesStop, outside, sink_now};
 ghost use Rattle.kql_program.specs.declared.refusal.Stop.TheVariants as stop;
 
-use crate::command::check_words;
 use crate::ended::{Ended, ending_of};
-use crate::files::{read_query, read_tables};
 use crate::lines::line_of;
-use crate::query::read_request;
 use crate::refusal::{Refusal, Stop};
-use crate::rows::request_rows;
-use crate::syntax::check_syntax;
-use csv_io::table_text;
-use kql_cells::Bytes;
+use crate::steps::query_text;
 use kql_outside::{Gate, Shelf, Sink, write_all};
-use kql_values::Table;
 use std::alloc::Global;
 use std::thread::Threads;
 
@@ -25,39 +16,14 @@ const READ_FAULT_LINE: &str = "kql: read fault\n";
 
 const MEMORY_LINE: &str = "kql: out of memory\n";
 
-// The rows that the words ask for.
-fn query_rows<F: Shelf>(alloc: Global, words: &[String], shelf: &mut F) -> Result<Table, Stop>
-    ensures files { F.files shelf.new ≡ F.files shelf.old }
-    ensures later { F.faults shelf.old ≤ F.faults shelf.new }
-    ensures failed { result ≡ Err stop.ReadFault → Rose (F.faults shelf.old) (F.faults shelf.new) }
-    ensures rows { IfSome (F.files shelf.old) (λ files. Reaches (AreRows (texts words.now) files) result) }
-    ensures usage { MeetsFaults (texts words.now) result }
-{
-    check_words(words)?;
-    let tokens = read_query(alloc, shelf, words[1].as_str())?;
-    check_syntax(alloc, &tokens)?;
-    let request = read_request(alloc, tokens.as_slice())?;
-    let catalogue = read_tables(alloc, shelf, &words[2..])?;
-    request_rows(alloc, &request, &catalogue)
-}
-
-// The text of the table that the words ask for.
-fn query_text<F: Shelf>(alloc: Global, words: &[String], shelf: &mut F) -> Result<Bytes, Stop>
-    ensures files { F.files shelf.new ≡ F.files shelf.old }
-    ensures later { F.faults shelf.old ≤ F.faults shelf.new }
-    ensures failed { result ≡ Err stop.ReadFault → Rose (F.faults shelf.old) (F.faults shelf.new) }
-    ensures text { IfSome (F.files shelf.old) (λ files. Reaches (Answers (texts words.now) files) result) }
-    ensures usage { MeetsFaults (texts words.now) result }
-{
-    let rows = query_rows(alloc, words, shelf)?;
-    Ok(table_text(alloc, &rows)?)
-}
-
 /// Answers the words of a command: reads the query file and the table files from `shelf`, evaluates the query, and
 /// writes the text of its table to `out`, or one line for a refusal to `err`.
 ///
-/// The words are `run QUERY NAME=PATH ..`, without the program's name. The text is made whole before its first byte
-/// is written. No result depends on the runtime or on `gate`: no worker is started yet, and no gate entered.
+/// The words, without the program's name, are `run`, then `--workers N` and `--now T` in any order, each at most once, then QUERY,
+/// the path of the query file, and then up to 64 words NAME=PATH. N is 1 to 64 in digits, and T the datetime that `now()` stands for.
+///
+/// The text is made whole before its first byte is written. No result depends on the runtime, on N or on `gate`: no worker is started
+/// yet, and no gate entered.
 pub fn kql<R: Threads + Sync, F: Shelf, O: Sink, E: Sink, G: Gate + Sync>(
     _rt: &R,
     alloc: Global,

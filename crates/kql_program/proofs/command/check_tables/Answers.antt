@@ -11,8 +11,8 @@ returns-in_err-check_table c =
     let i = c.loop-i.i in
     let lt : i < length words = grind (arith, common_steps) in
     let word = c.as_str.ensures.value ∙ ap string_bytes c.index-words-i.is in
-    let fault = check-fault words i c.index-words-i.result c.as_str.result.now c.in_err-check_table.field-0.0 _ lt word c.in_err-check_table.ensures.checked c.loop-i.invariant.left in
-    raised-refusal _ c.from_residual.result c.in_err-check_table.field-0.0 c.from_residual.ensures.1 (sym fault)
+    let fault = check-fault words c.args.first i c.index-words-i.result c.as_str.result.now c.in_err-check_table.field-0.0 _ lt word c.in_err-check_table.ensures.checked c.loop-i.invariant.left in
+    record { checked = raised-refusal _ c.from_residual.result c.in_err-check_table.field-0.0 c.from_residual.ensures.1 (sym fault) }
 
 pub loop-i-preserved : goal.loop-i-preserved
 loop-i-preserved c =
@@ -22,5 +22,5 @@ loop-i-preserved c =
     let word = c.as_str.ensures.value ∙ ap string_bytes c.index-words-i.is in
     record {
       few = grind (arith, common_steps);
-      left = check-next words i c.index-words-i.result c.as_str.result.now _ lt word c.in_ok-check_table.ensures.checked c.loop-i.invariant.left;
+      left = check-next words c.args.first i c.index-words-i.result c.as_str.result.now _ lt word c.in_ok-check_table.ensures.checked c.loop-i.invariant.left;
     }

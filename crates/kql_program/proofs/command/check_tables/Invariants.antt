@@ -6,5 +6,5 @@ use Rattle.kql_program.proofs.command.check_tables.Given as goal
 abbrev pub invariant-loop-i : goal.invariant-loop-i
 invariant-loop-i l = record {
   few : l.i ≤ 64;
-  left : unless (tables_faults (l.i + 2) (map name_in (texts (take l.i l.words))) (drop l.i (texts l.words))) (tt {0}) ≡ unless (tables_faults 2 [] (texts l.words)) (tt {0});
+  left : unless (tables_faults (l.i + l.first) (map name_in (texts (take l.i l.words))) (drop l.i (texts l.words))) (tt {0}) ≡ unless (tables_faults l.first [] (texts l.words)) (tt {0});
 }

@@ -1,6 +1,6 @@
 use Rattle.kql_program.specs.Command.{texts}
 use Rattle.kql_program.proofs.TopFacts.{meets-on, meets-past, text-ok, text-stop}
-use Rattle.kql_program.proofs.top.query_text.Goals as goal
+use Rattle.kql_program.proofs.steps.query_text.Goals as goal
 
 pub returns-in_err-rows-clause-text : goal.returns-in_err-rows-clause-text
 returns-in_err-rows-clause-text g c = text-stop _ _ _ _ c.in_err-rows.ensures.rows c.from_residual.ensures.1
