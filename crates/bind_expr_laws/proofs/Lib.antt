@@ -1,0 +1,15 @@
+pub mod Aggregates
+pub mod Arguments
+pub mod BoundLaws
+pub mod Calls
+pub mod Chains
+pub mod Comparisons
+pub mod Constants
+pub mod Logic
+pub mod Outcomes
+pub mod Parts
+pub mod Paths
+pub mod Shapes
+pub mod StandingSteps
+pub mod Terms
+pub mod Windows
