@@ -233,9 +233,9 @@ call-bound scope spot f star es ks k h takes form one e =
     record {
       kind = kind-Aggregate f es scope.schema ∙ q.0;
       fits = λ s.
-        let counted = counted-by spot.position f es takes (sym (stands-Aggregate spot.position f es) ∙ s) in
-        let fit = aggregate-checked f es (read_scope scope) spot.position ∙ and_from _ _ takes (and_from _ _ (all-fit scope es ks h) (q.1 counted)) in
-        whole-fits spot.alone f es (read_scope scope) spot.position fit one;
+          let counted = counted-by spot.position f es takes (sym (stands-Aggregate spot.position f es) ∙ s) in
+          let fit = aggregate-checked f es (read_scope scope) spot.position ∙ and_from _ _ takes (and_from _ _ (all-fit scope es ks h) (q.1 counted)) in
+          whole-fits spot.alone f es (read_scope scope) spot.position fit one;
     }
 
 turned : (b : Bool) → not b ≡ true → b ≡ false

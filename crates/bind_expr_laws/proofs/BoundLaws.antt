@@ -238,9 +238,9 @@ in-bound scope spot s sign es h each =
     let all : Outcome (List Typed) = fold (λ (before : Outcome (List Typed)) (e : Binds). before >>= λ ts. e scope at >>= λ t. Ok (ts ++ t ∷ [])) start es in
     gives-then (AreOperands scope spot.position) (IsBound scope spot) all (λ ts. listed sign ts)
     (gives-fold (IsBound scope at) (AreOperands scope spot.position) (λ (e : Binds) (ts : List Typed) (t : Typed). Ok (ts ++ t ∷ [])) (λ (e : Binds). e scope at)
-      (λ e ts t q b. record { holds = operands-push scope spot.position ts t q (bound-part scope spot.position t b) }) start
-      (gives-then (IsBound scope at) (AreOperands scope spot.position) s (λ t. Ok (t ∷ [])) h (λ t b. record { holds = (bound-part scope spot.position t b, tt) }))
-      es each)
+    (λ e ts t q b. record { holds = operands-push scope spot.position ts t q (bound-part scope spot.position t b) }) start
+    (gives-then (IsBound scope at) (AreOperands scope spot.position) s (λ t. Ok (t ∷ [])) h (λ t b. record { holds = (bound-part scope spot.position t b, tt) }))
+    es each)
     (λ ts q. listed-bound scope spot sign ts q)
 
 of-cmp : (y : Cmp-F GivenAccess GivenArg GivenCmp GivenSign GivenTerm GivenAnd GivenExpr GivenPost GivenProd GivenSum) → BoundCmp (roll-Cmp (map-Cmp GivenAccess GivenArg GivenCmp GivenSign GivenTerm GivenAnd GivenExpr GivenPost GivenProd GivenSum Access Arg Cmp Sign Term And Expr Post Prod Sum bare_access bare_arg bare_cmp bare_sign bare_term bare_and bare_expr bare_post bare_prod bare_sum y))
@@ -408,11 +408,11 @@ bound-sound e scope t sound is =
       fits = b.fits;
       one = λ n s. single-fits t.expr (read_scope scope) scope.position (λ g args same takes. one-result scope.position g args n takes) (b.fits s);
       constant = λ l c.
-        let part : IsPart scope scope.position t.expr t.kind = record {
-          kind = b.kind;
-          fits = λ s. single-fits t.expr (read_scope scope) scope.position (constant-single t.expr scope.position (constant-is t l c)) (b.fits s);
-        } in
-        constant-given scope scope.position t l sound.names part c;
+          let part : IsPart scope scope.position t.expr t.kind = record {
+            kind = b.kind;
+            fits = λ s. single-fits t.expr (read_scope scope) scope.position (constant-single t.expr scope.position (constant-is t l c)) (b.fits s);
+          } in
+          constant-given scope scope.position t l sound.names part c;
     }
 
 pub ruleset bound_laws = (bound-sound)

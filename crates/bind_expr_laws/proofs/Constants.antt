@@ -131,33 +131,33 @@ of-layer (BExpr-F.Step c) = subst IsFree (sym (V.rolls-Step c)) (record {
 of-layer (BExpr-F.Call f args) = subst IsFree (sym (V.rolls-Call f (map bare args))) (record {
   in_columns = λ at e. stands-Call at f (map bare args) ∙ all-open args at e;
   steady = λ c.
-    let h = all-steady args (sym (constant-Call f (map bare args)) ∙ c) in
-    record {
-      standing = λ at. stands-Call at f (map bare args) ∙ steady-stand (map bare args) at h;
-      value = λ t u i j r s. val-Call f (map bare args) t i r ∙ (ap (applied f) (steady-values (map bare args) h t u i j r s) ∙ sym (val-Call f (map bare args) u j s));
-    };
+      let h = all-steady args (sym (constant-Call f (map bare args)) ∙ c) in
+      record {
+        standing = λ at. stands-Call at f (map bare args) ∙ steady-stand (map bare args) at h;
+        value = λ t u i j r s. val-Call f (map bare args) t i r ∙ (ap (applied f) (steady-values (map bare args) h t u i j r s) ∙ sym (val-Call f (map bare args) u j s));
+      };
 })
 of-layer (BExpr-F.Chain first links) = subst IsFree (sym (V.rolls-Chain first.0 (map bare_link links))) (record {
   in_columns = λ at e. stands-Chain at first.0 (map bare_link links) ∙ and_from _ _ (first.1.in_columns at e) (links-open links at e);
   steady = λ c.
-    let both = and_parts _ _ (sym (constant-Chain first.0 (map bare_link links)) ∙ c) in
-    let h = first.1.steady both.0 in
-    let k = links-steady links both.1 in
-    record {
-      standing = λ at. stands-Chain at first.0 (map bare_link links) ∙ and_from _ _ (h.standing at) (steady-links (map bare_link links) at k);
-      value = λ t u i j r s. val-Chain first.0 (map bare_link links) t i r ∙ (ap₂ chain_value (h.value t u i j r s) (steady-signs (map bare_link links) k t u i j r s) ∙ sym (val-Chain first.0 (map bare_link links) u j s));
-    };
+      let both = and_parts _ _ (sym (constant-Chain first.0 (map bare_link links)) ∙ c) in
+      let h = first.1.steady both.0 in
+      let k = links-steady links both.1 in
+      record {
+        standing = λ at. stands-Chain at first.0 (map bare_link links) ∙ and_from _ _ (h.standing at) (steady-links (map bare_link links) at k);
+        value = λ t u i j r s. val-Chain first.0 (map bare_link links) t i r ∙ (ap₂ chain_value (h.value t u i j r s) (steady-signs (map bare_link links) k t u i j r s) ∙ sym (val-Chain first.0 (map bare_link links) u j s));
+      };
 })
 of-layer (BExpr-F.Path whole steps) = subst IsFree (sym (V.rolls-Path whole.0 (map bare steps))) (record {
   in_columns = λ at e. stands-Path at whole.0 (map bare steps) ∙ and_from _ _ (whole.1.in_columns at e) (all-open steps at e);
   steady = λ c.
-    let both = and_parts _ _ (sym (constant-Path whole.0 (map bare steps)) ∙ c) in
-    let h = whole.1.steady both.0 in
-    let k = all-steady steps both.1 in
-    record {
-      standing = λ at. stands-Path at whole.0 (map bare steps) ∙ and_from _ _ (h.standing at) (steady-stand (map bare steps) at k);
-      value = λ t u i j r s. val-Path whole.0 (map bare steps) t i r ∙ (ap₂ path_value (h.value t u i j r s) (steady-values (map bare steps) k t u i j r s) ∙ sym (val-Path whole.0 (map bare steps) u j s));
-    };
+      let both = and_parts _ _ (sym (constant-Path whole.0 (map bare steps)) ∙ c) in
+      let h = whole.1.steady both.0 in
+      let k = all-steady steps both.1 in
+      record {
+        standing = λ at. stands-Path at whole.0 (map bare steps) ∙ and_from _ _ (h.standing at) (steady-stand (map bare steps) at k);
+        value = λ t u i j r s. val-Path whole.0 (map bare steps) t i r ∙ (ap₂ path_value (h.value t u i j r s) (steady-values (map bare steps) k t u i j r s) ∙ sym (val-Path whole.0 (map bare steps) u j s));
+      };
 })
 of-layer (BExpr-F.Window f args) = subst IsFree (sym (V.rolls-Window f (map bare args))) (record {
   in_columns = λ at e. stands-Window at f (map bare args);

@@ -11,10 +11,13 @@ use crate::join::join_bound;
 use crate::operators::{bind_column_op, bind_group_op, bind_row_op};
 use crate::ops::{no_ops, op_added, ops_added};
 use crate::partition::partitions;
-use crate::stand_ins::{bind_print, bind_range, bind_scan, distinct_column};
+use crate::stand_ins::bind_scan;
 use crate::union::{is_inner, unites, unites_behind};
 use bind_expr::BindFault;
-use bind_operators::{BoundOp, BoundPlan, Known, Shape, bind_table, with_next};
+use bind_groups::distinct_column;
+use bind_operators::{
+    BoundOp, BoundPlan, Known, Shape, bind_print, bind_range, bind_table, with_next,
+};
 use kql_items::Items;
 use kql_lexer::Place;
 use kql_syntax::{Join, Op, Partition, Pipe, Source, TableArg, TableOp, Union};
