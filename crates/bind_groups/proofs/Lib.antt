@@ -1,4 +1,6 @@
 pub mod FormSteps
 pub mod GroupNames
 pub mod GroupSteps
+pub mod SeriesNames
+pub mod SeriesSteps
 pub mod TwiceLaws

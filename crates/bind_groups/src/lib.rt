@@ -7,10 +7,13 @@
 mod distinct;
 mod forms;
 mod groups;
+mod make_series;
 mod names;
 mod part;
+mod series_items;
 mod summarize;
 
 pub use distinct::{bind_distinct, distinct_column};
+pub use make_series::bind_make_series;
 pub use part::{ExpandPart, NamedExpands, NamedSeries, SeriesPart};
 pub use summarize::bind_summarize;
