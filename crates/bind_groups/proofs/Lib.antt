@@ -5,4 +5,6 @@ pub mod GroupNames
 pub mod GroupSteps
 pub mod NameSteps
 mod ParseLaws
+pub mod SeriesNames
+pub mod SeriesSteps
 pub mod TwiceLaws

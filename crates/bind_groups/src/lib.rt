@@ -8,15 +8,18 @@ mod distinct;
 mod forms;
 mod groups;
 mod kinds;
+mod make_series;
 mod mv_expand;
 mod names;
 mod parse;
 mod part;
+mod series_items;
 mod summarize;
 mod written_names;
 
 pub use distinct::{bind_distinct, distinct_column};
 pub use kinds::{bind_kind, bind_kind_or};
+pub use make_series::bind_make_series;
 pub use mv_expand::bind_mv_expand;
 pub use parse::bind_parse;
 pub use part::{ExpandPart, NamedExpands, NamedSeries, SeriesPart};
