@@ -179,7 +179,7 @@ args-taken scope p q one more (a ∷ ts) sound slots each =
     let start : Outcome Args = arg_link scope one (Ok no_args) (a scope one.position) in
     gives-map (AreTaken scope p q) (HasArgs scope p q) (fold (λ (before : Outcome Args) (arg : Takes). arg_link scope more before (arg scope more.position)) start ts)
     (gives-fold (IsArg scope q) (AreTaken scope p q) (λ (t : Takes) (b : Args) (o : Option Typed). Ok (taken scope more b o)) (λ (t : Takes). t scope more.position)
-      (λ t b o h k. record { holds = next-taken scope p q one more b o sound slots h k }) start
-      (gives-then (IsArg scope p) (AreTaken scope p q) (a scope one.position) (λ o. Ok (taken scope one no_args o)) (subst (λ (r : Position). Gives (IsArg scope p) (a scope r)) (sym slots.one_at) (each p).0) (λ o h. record { holds = first-taken scope p q one more o sound slots h }))
-      ts (subst (λ (r : Position). Each (IsArg scope q) (λ (t : Takes). t scope r) ts) (sym slots.more_at) (each q).1))
+    (λ t b o h k. record { holds = next-taken scope p q one more b o sound slots h k }) start
+    (gives-then (IsArg scope p) (AreTaken scope p q) (a scope one.position) (λ o. Ok (taken scope one no_args o)) (subst (λ (r : Position). Gives (IsArg scope p) (a scope r)) (sym slots.one_at) (each p).0) (λ o h. record { holds = first-taken scope p q one more o sound slots h }))
+    ts (subst (λ (r : Position). Each (IsArg scope q) (λ (t : Takes). t scope r) ts) (sym slots.more_at) (each q).1))
     (λ x h. h.parts)

@@ -27,7 +27,7 @@ use Rattle.bind_expr.specs.Outcome.{Outcome, ◌>>=◌}
 use Rattle.bind_expr.specs.declared.scope.Scope.{Scope}
 use Rattle.bind_expr.specs.declared.typed.Typed.{Typed}
 use Rattle.bind_expr_laws.specs.Scopes.{read_scope}
-use Rattle.bind_expr_laws.specs.Standing.{stands}
+use Rattle.bind_expr_laws.proofs.Standing.{stands}
 use Rattle.bind_expr_laws.proofs.Outcomes.{Each, Gives, gives-fold, gives-ok, gives-then}
 use Rattle.bind_expr_laws.proofs.Parts.{IsBound, IsPart, beside-part, part-bound}
 use Rattle.bind_expr_laws.proofs.Shapes.{Chained, Spot}
@@ -91,10 +91,10 @@ chain-push scope at first links k s r j given h part is = record {
   kind = along-push links scope.schema (kind_of first scope.schema) s r ∙ (two-kind (sign_func s) _ _ k j h.kind part.kind ∙ is);
   start = h.start;
   rest = λ e.
-    let fits = λ (l : ChainSign × BExpr). expr_fits l.1 (read_scope scope) at in
-    let both = and_parts _ _ (sym (links-push links (λ (l : ChainSign × BExpr). stands at l.1) (s, r)) ∙ e) in
-    let last = and_parts _ _ both.1 in
-    links-push links fits (s, r) ∙ and_from _ _ (h.rest both.0) (and_from _ _ (part.fits last.0) refl);
+      let fits = λ (l : ChainSign × BExpr). expr_fits l.1 (read_scope scope) at in
+      let both = and_parts _ _ (sym (links-push links (λ (l : ChainSign × BExpr). stands at l.1) (s, r)) ∙ e) in
+      let last = and_parts _ _ both.1 in
+      links-push links fits (s, r) ∙ and_from _ _ (h.rest both.0) (and_from _ _ (part.fits last.0) refl);
   end = inr (known-as _ given is (sign-known s (k ∷ j ∷ [])));
 }
 
@@ -155,8 +155,8 @@ pub chain-part : (scope : Scope) (at : Position) (first : BExpr) (links : List (
 chain-part scope at first links k h = record {
   kind = kind-Chain first links scope.schema ∙ h.kind;
   fits = λ s.
-    let both = and_parts _ _ (sym (stands-Chain at first links) ∙ s) in
-    fits-Chain first links (read_scope scope) at ∙ and_from _ _ (h.start both.0) (and_from _ _ (h.rest both.1) (some-is _ k h.kind));
+      let both = and_parts _ _ (sym (stands-Chain at first links) ∙ s) in
+      fits-Chain first links (read_scope scope) at ∙ and_from _ _ (h.start both.0) (and_from _ _ (h.rest both.1) (some-is _ k h.kind));
 }
 
 whole-part : (scope : Scope) (at : Position) (first : BExpr) (links : List (ChainSign × BExpr)) (k : Kind) → IsChain scope at first links k → IsPart scope at (whole first links) k
@@ -179,7 +179,7 @@ chain-bound {L = L} scope spot first s place part (m ∷ ms) h each =
     let start : Outcome Chained = first at >>= λ t. Ok (chained_from t) in
     gives-then (IsChained scope spot.position) (IsBound scope spot) (fold (λ (before : Outcome Chained) (l : L). before >>= λ b. part l >>= λ t. linked (s l) (place l) b t) start (m ∷ ms)) (λ c. Ok (chain_whole c))
     (gives-fold (IsBound scope at) (IsChained scope spot.position) (λ (l : L) (b : Chained) (t : Typed). linked (s l) (place l) b t) part
-      (λ l b t q p. link-bound scope spot.position (s l) (place l) b t q (record { kind = p.kind; fits = p.fits })) start
-      (gives-then (IsBound scope at) (IsChained scope spot.position) (first at) (λ t. Ok (chained_from t)) (h at) (λ t p. record { holds = chain-first scope spot.position t.expr t.kind (record { kind = p.kind; fits = p.fits }) }))
-      (m ∷ ms) each)
+    (λ l b t q p. link-bound scope spot.position (s l) (place l) b t q (record { kind = p.kind; fits = p.fits })) start
+    (gives-then (IsBound scope at) (IsChained scope spot.position) (first at) (λ t. Ok (chained_from t)) (h at) (λ t p. record { holds = chain-first scope spot.position t.expr t.kind (record { kind = p.kind; fits = p.fits }) }))
+    (m ∷ ms) each)
     (λ c q. closed-bound scope spot c q)

@@ -122,8 +122,8 @@ term-bound scope at f joins place left right h part =
     let r : Typed = beside right left.kind in
     term-as scope at place l.expr left.others r.expr (result_kind (func.Logic f) (l.kind ∷ r.kind ∷ []))
     (λ k e.
-      let bools = both-bool l.kind r.kind k (sym (joins (l.kind ∷ r.kind ∷ [])) ∙ e) in
-      terms-push scope at left.first left.others left.kind r.kind k r.expr right.kind h (beside-part scope at right left.kind part) bools.0 bools.1 bools.2)
+    let bools = both-bool l.kind r.kind k (sym (joins (l.kind ∷ r.kind ∷ [])) ∙ e) in
+    terms-push scope at left.first left.others left.kind r.kind k r.expr right.kind h (beside-part scope at right left.kind part) bools.0 bools.1 bools.2)
 
 closed-bound : (scope : Scope) (spot : Spot) (f : LogicFunc) → Joins f → (j : Joined) → AreJoined scope spot.position j → Gives (IsBound scope spot) (Ok (terms_whole f j))
 unfolding terms_whole
@@ -141,7 +141,7 @@ terms-bound {L = L} scope spot f joins first place part (m ∷ ms) h each =
     let start : Outcome Joined = first at >>= λ t. Ok (joined_from t) in
     gives-then (AreJoined scope spot.position) (IsBound scope spot) (fold (λ (before : Outcome Joined) (l : L). before >>= λ b. part l >>= λ t. with_term f (place l) b t) start (m ∷ ms)) (λ j. Ok (terms_whole f j))
     (gives-fold (IsBound scope at) (AreJoined scope spot.position) (λ (l : L) (b : Joined) (t : Typed). with_term f (place l) b t) part
-      (λ l b t q p. term-bound scope spot.position f joins (place l) b t q (record { kind = p.kind; fits = p.fits })) start
-      (gives-then (IsBound scope at) (AreJoined scope spot.position) (first at) (λ t. Ok (joined_from t)) (h at) (λ t p. record { holds = record { kind = p.kind; fits = p.fits } }))
-      (m ∷ ms) each)
+    (λ l b t q p. term-bound scope spot.position f joins (place l) b t q (record { kind = p.kind; fits = p.fits })) start
+    (gives-then (IsBound scope at) (AreJoined scope spot.position) (first at) (λ t. Ok (joined_from t)) (h at) (λ t p. record { holds = record { kind = p.kind; fits = p.fits } }))
+    (m ∷ ms) each)
     (λ j q. closed-bound scope spot f joins j q)

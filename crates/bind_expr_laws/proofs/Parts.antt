@@ -26,7 +26,7 @@ use Rattle.bind_expr.specs.declared.scope.Scope.{Scope}
 use Rattle.bind_expr_laws.proofs.Shapes.{Spot}
 use Rattle.bind_expr.specs.declared.typed.Typed.{Typed}
 use Rattle.bind_expr_laws.specs.Scopes.{read_scope}
-use Rattle.bind_expr_laws.specs.Standing.{stands}
+use Rattle.bind_expr_laws.proofs.Standing.{stands}
 use Rattle.bind_expr_laws.proofs.Outcomes.{Gives, gives-typed}
 use Rattle.bind_expr_laws.proofs.StandingSteps.{stands-Call}
 
@@ -106,8 +106,8 @@ call-part scope at f es ks k h callable part given =
     record {
       kind = kind-Call f es scope.schema ∙ known;
       fits = λ s.
-        let fit = parts-fit scope at es ks h (sym (stands-Call at f es) ∙ s) in
-        fits-Call f es (read_scope scope) at ∙ and_from _ _ callable (and_from _ _ fit (and_from _ _ part (some-is _ k known)));
+          let fit = parts-fit scope at es ks h (sym (stands-Call at f es) ∙ s) in
+          fits-Call f es (read_scope scope) at ∙ and_from _ _ callable (and_from _ _ fit (and_from _ _ part (some-is _ k known)));
     }
 
 -- Functions that are called by any expression and know no words of parts.

@@ -21,7 +21,7 @@ use Rattle.bind_expr.specs.Paths.{look_link, looked_as, looked_from, looked_whol
 use Rattle.bind_expr.specs.declared.scope.Scope.{Scope}
 use Rattle.bind_expr.specs.declared.typed.Typed.{Typed}
 use Rattle.bind_expr_laws.specs.Scopes.{read_scope}
-use Rattle.bind_expr_laws.specs.Standing.{stands}
+use Rattle.bind_expr_laws.proofs.Standing.{stands}
 use Rattle.bind_expr_laws.proofs.Outcomes.{Each, Gives, gives-fold, gives-ok, gives-then}
 use Rattle.bind_expr_laws.proofs.Parts.{IsBound, IsPart, part-bound}
 use Rattle.bind_expr_laws.proofs.Shapes.{Looked, Spot}
@@ -47,9 +47,9 @@ path-push scope at whole steps k key j given h part is = record {
   kind = down-push steps scope.schema (kind_of whole scope.schema) key ∙ (two-kind _ _ k j h.kind part.kind ∙ is);
   start = h.start;
   rest = λ e.
-    let both = and_parts _ _ (sym (list_all-append (stands at) steps (key ∷ [])) ∙ e) in
-    let last = and_parts _ _ both.1 in
-    list_all-append (λ e. expr_fits e (read_scope scope) at) steps (key ∷ []) ∙ and_from _ _ (h.rest both.0) (and_from _ _ (part.fits last.0) refl);
+      let both = and_parts _ _ (sym (list_all-append (stands at) steps (key ∷ [])) ∙ e) in
+      let last = and_parts _ _ both.1 in
+      list_all-append (λ e. expr_fits e (read_scope scope) at) steps (key ∷ []) ∙ and_from _ _ (h.rest both.0) (and_from _ _ (part.fits last.0) refl);
 }
 
 abbrev IsLooked : Scope → Position → Looked → Type 0
@@ -81,8 +81,8 @@ path-part : (scope : Scope) (at : Position) (whole : BExpr) (steps : List BExpr)
 path-part scope at whole steps k h = record {
   kind = kind-Path whole steps scope.schema ∙ h.kind;
   fits = λ s.
-    let both = and_parts _ _ (sym (stands-Path at whole steps) ∙ s) in
-    fits-Path whole steps (read_scope scope) at ∙ and_from _ _ (h.start both.0) (and_from _ _ (h.rest both.1) (some-is _ k h.kind));
+      let both = and_parts _ _ (sym (stands-Path at whole steps) ∙ s) in
+      fits-Path whole steps (read_scope scope) at ∙ and_from _ _ (h.start both.0) (and_from _ _ (h.rest both.1) (some-is _ k h.kind));
 }
 
 whole-part : (scope : Scope) (at : Position) (whole : BExpr) (steps : List BExpr) (k : Kind) → IsPath scope at whole steps k → IsPart scope at (path_whole whole steps) k
@@ -101,7 +101,7 @@ path-bound scope spot first looks h each =
     let start : Outcome Looked = first >>= λ t. Ok (looked_from t) in
     gives-then (IsLooked scope spot.position) (IsBound scope spot) (fold (λ (before : Outcome Looked) (l : Look). before >>= λ p. l.key scope spot.position >>= λ k. with_look l.place p k) start looks) (λ l. Ok (looked_whole l))
     (gives-fold (IsBound scope at) (IsLooked scope spot.position) (λ (l : Look) (p : Looked) (k : Typed). with_look l.place p k) (λ (l : Look). l.key scope spot.position)
-      (λ l p k q b. look-bound scope spot.position l.place p k q (record { kind = b.kind; fits = b.fits })) start
-      (gives-then (IsBound scope at) (IsLooked scope spot.position) first (λ t. Ok (looked_from t)) h (λ t b. record { holds = path-first scope spot.position t.expr t.kind (record { kind = b.kind; fits = b.fits }) }))
-      looks each)
+    (λ l p k q b. look-bound scope spot.position l.place p k q (record { kind = b.kind; fits = b.fits })) start
+    (gives-then (IsBound scope at) (IsLooked scope spot.position) first (λ t. Ok (looked_from t)) h (λ t b. record { holds = path-first scope spot.position t.expr t.kind (record { kind = b.kind; fits = b.fits }) }))
+    looks each)
     (λ l q. closed-bound scope spot l q)

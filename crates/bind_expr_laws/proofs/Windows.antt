@@ -139,11 +139,10 @@ look-part scope (c ∷ n ∷ d ∷ []) (j ∷ m ∷ o ∷ []) k t h e =
     let form = and_parts (is_column c) (is_distance n && is_literal d) t in
     let more = and_parts (is_distance n) (is_literal d) form.1 in
     let q = if-kind (same_kind m kind.Long && same_kind o j) j k e in
-    let types = and_parts (same_kind m kind.Long) (same_kind o j) q.0 in
-    (
+    let types = and_parts (same_kind m kind.Long) (same_kind o j) q.0 in (
       first-known scope position.Plain c (n ∷ d ∷ []) j k h.0 q.1,
       and_from _ _ (plain-column scope c j h.0 form.0) (and_from _ _ (count-there scope n m h.1.0 more.0 types.0)
-      (rw h.0.kind (constant-there scope position.Plain d o j h.1.1.0 more.1 types.1))),
+          (rw h.0.kind (constant-there scope position.Plain d o j h.1.1.0 more.1 types.1))),
     )
 look-part scope (c ∷ n ∷ d ∷ []) (j ∷ m ∷ o ∷ p ∷ ks) k t h e = absurd h.1.1.1
 look-part scope (c ∷ n ∷ d ∷ x ∷ es) ks k t h e = absurd cc
@@ -219,11 +218,11 @@ typed-as scope spot place f a true h takes e =
     let form = and_parts (not a.has_stray) (window_forms f a.exprs) e in
     gives-typed (IsBound scope spot) place (V.Window f a.exprs) (window_given f a.kinds)
     (λ k given.
-      let q = window-args scope f a.exprs a.kinds k form.1 (h (turned a.has_stray form.0)) given in
-      part-bound scope spot (record { expr = V.Window f a.exprs; kind = k }) (record {
-        kind = kind-Window f a.exprs scope.schema ∙ q.0;
-        fits = λ s. fits-Window f a.exprs (read_scope scope) spot.position ∙ and_from _ _ takes q.1;
-      }))
+    let q = window-args scope f a.exprs a.kinds k form.1 (h (turned a.has_stray form.0)) given in
+    part-bound scope spot (record { expr = V.Window f a.exprs; kind = k }) (record {
+      kind = kind-Window f a.exprs scope.schema ∙ q.0;
+      fits = λ s. fits-Window f a.exprs (read_scope scope) spot.position ∙ and_from _ _ takes q.1;
+    }))
 
 serial-as : (scope : Scope) (spot : Spot) (place : Place) (f : Window) (a : Args) (b : Bool) → HasArgs scope (window_first f).position (window_next f).position a → takes_window spot.position f ≡ true → Gives (IsBound scope spot) (window_serial place f a b)
 serial-as scope spot place f a true h takes = typed-as scope spot place f a (not a.has_stray && window_forms f a.exprs) h takes refl
