@@ -25,8 +25,9 @@ use Rattle.bind_expr.specs.Forms.{is_column}
 use Rattle.bind_expr.specs.KindTests.{kind_if, meets}
 use Rattle.bind_expr.specs.declared.scope.Scope.{Scope}
 use Rattle.bind_expr.specs.declared.typed.Typed.{Typed}
+use Rattle.bind_expr_laws.specs.Refused.{counts_badly, is_bad_count}
 use Rattle.bind_expr_laws.specs.Scopes.{read_scope}
-use Rattle.bind_expr_laws.specs.Standing.{counts_well, is_count_behind, is_counted, stands}
+use Rattle.bind_expr_laws.proofs.Standing.{counts_well, stands}
 use Rattle.bind_expr_laws.proofs.Arguments.{HasArgs, args-parts}
 use Rattle.bind_expr_laws.proofs.Constants.{open-fits}
 use Rattle.bind_expr_laws.proofs.Outcomes.{Gives, gives-typed}
@@ -115,7 +116,11 @@ kept-if scope t (x ∷ y ∷ z ∷ es) (j ∷ m ∷ o ∷ ks) k h e test imp = a
 some-kind : (scope : Scope) (e : BExpr) (k : Kind) → IsPart scope position.Plain e k → is_some (kind_of e scope.schema) ≡ true
 some-kind scope e k h = rw h.kind refl
 
-listed : (scope : Scope) (es : List BExpr) (ks : List Kind) (k : Kind) → ArePlain scope es ks → list_given ks ≡ Some k → (kind.Dynamic ≡ k) × (is_count_behind es ≡ true → one_or_first_of es scope.schema ≡ true)
+undone : (b : Bool) → not b ≡ false → b ≡ true
+undone true e = refl
+undone false e = absurd cc
+
+listed : (scope : Scope) (es : List BExpr) (ks : List Kind) (k : Kind) → ArePlain scope es ks → list_given ks ≡ Some k → (kind.Dynamic ≡ k) × (is_bad_count es ≡ false → one_or_first_of es scope.schema ≡ true)
 unfolding list_given one_or_first_of
 listed scope [] [] k h e = absurd cc
 listed scope [] (j ∷ ks) k h e = absurd h
@@ -123,7 +128,7 @@ listed scope (x ∷ es) [] k h e = absurd h
 listed scope (x ∷ []) (j ∷ []) k h e = (some-same kind.Dynamic k e, λ c. some-kind scope x j h.0)
 listed scope (x ∷ []) (j ∷ m ∷ ks) k h e = absurd h.1
 listed scope (x ∷ y ∷ es) (j ∷ []) k h e = absurd h.1
-listed scope (x ∷ y ∷ []) (j ∷ m ∷ []) k h e = ((if-kind (same_kind m kind.Long) kind.Dynamic k e).1, λ c. and_from _ _ (some-kind scope x j h.0) c)
+listed scope (x ∷ y ∷ []) (j ∷ m ∷ []) k h e = ((if-kind (same_kind m kind.Long) kind.Dynamic k e).1, λ c. and_from _ _ (some-kind scope x j h.0) (undone (is_count y) c))
 listed scope (x ∷ y ∷ []) (j ∷ m ∷ o ∷ ks) k h e = absurd h.1.1
 listed scope (x ∷ y ∷ z ∷ es) (j ∷ m ∷ []) k h e = absurd h.1.1
 listed scope (x ∷ y ∷ z ∷ es) (j ∷ m ∷ o ∷ ks) k h e = absurd cc
@@ -163,12 +168,12 @@ any-kept scope t (x ∷ es) (j ∷ ks) k h form e =
 -- Any of them.
 
 abbrev Takes : Scope → Aggregate → List BExpr → Kind → Type 0
-Takes scope f es k = (aggregate_kind f (kinds_in es scope.schema) ≡ Some k) × (is_counted f es ≡ true → aggregate_takes f es scope.schema ≡ true)
+Takes scope f es k = (aggregate_kind f (kinds_in es scope.schema) ≡ Some k) × (counts_badly f es ≡ false → aggregate_takes f es scope.schema ≡ true)
 
-given-takes : (scope : Scope) (f : Aggregate) (es : List BExpr) (given k : Kind) (b : Bool) → (given ≡ k) × (b ≡ true) → (Some given ≡ Some k) × (is_counted f es ≡ true → b ≡ true)
+given-takes : (scope : Scope) (f : Aggregate) (es : List BExpr) (given k : Kind) (b : Bool) → (given ≡ k) × (b ≡ true) → (Some given ≡ Some k) × (counts_badly f es ≡ false → b ≡ true)
 given-takes scope f es given k b q = (ap (λ (x : Kind). Some x) q.0, λ c. q.1)
 
-kept-takes : (f : Aggregate) (es : List BExpr) (o : Option Kind) (k : Kind) (b : Bool) → (o ≡ Some k) × (b ≡ true) → (o ≡ Some k) × (is_counted f es ≡ true → b ≡ true)
+kept-takes : (f : Aggregate) (es : List BExpr) (o : Option Kind) (k : Kind) (b : Bool) → (o ≡ Some k) × (b ≡ true) → (o ≡ Some k) × (counts_badly f es ≡ false → b ≡ true)
 kept-takes f es o k b q = (q.0, λ c. q.1)
 
 by-bool : (k : Kind) → same_kind k kind.Bool ≡ true → same_kind kind.Bool k ≡ true
@@ -208,10 +213,14 @@ all-fit scope [] ks h = refl
 all-fit scope (e ∷ es) [] h = absurd h
 all-fit scope (e ∷ es) (k ∷ ks) h = and_from (expr_fits e (read_scope scope) position.Plain) (list_all (λ e. expr_fits e (read_scope scope) position.Plain) es) (open-fits scope position.Plain e k h.0 refl) (all-fit scope es ks h.1)
 
+turned : (b : Bool) → not b ≡ true → b ≡ false
+turned true e = absurd cc
+turned false e = refl
+
 -- Lists and sets stand in `Group` alone.
-counted-by : (at : Position) (f : Aggregate) (es : List BExpr) → takes_aggregate at f ≡ true → counts_well at f es ≡ true → is_counted f es ≡ true
+counted-by : (at : Position) (f : Aggregate) (es : List BExpr) → takes_aggregate at f ≡ true → counts_well at f es ≡ true → counts_badly f es ≡ false
 unfolding takes_aggregate is_of_series
-counted-by position.Group f es takes c = c
+counted-by position.Group f es takes c = turned (counts_badly f es) c
 counted-by position.Series aggregate.MakeList es takes c = absurd cc
 counted-by position.Series aggregate.MakeSet es takes c = absurd cc
 counted-by position.Series _ es takes c = refl
@@ -237,10 +246,6 @@ call-bound scope spot f star es ks k h takes form one e =
           let fit = aggregate-checked f es (read_scope scope) spot.position ∙ and_from _ _ takes (and_from _ _ (all-fit scope es ks h) (q.1 counted)) in
           whole-fits spot.alone f es (read_scope scope) spot.position fit one;
     }
-
-turned : (b : Bool) → not b ≡ true → b ≡ false
-turned true e = absurd cc
-turned false e = refl
 
 inner-plain : (scope : Scope) (f : Aggregate) (at : Position) (a : Args) → takes_aggregate at f ≡ true → HasArgs scope (aggregate_position f at) (aggregate_position f at) a → a.has_stray ≡ false → ArePlain scope a.exprs a.kinds
 unfolding aggregate_position

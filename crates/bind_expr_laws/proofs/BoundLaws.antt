@@ -15,7 +15,7 @@ use Rattle.kql_bound.specs.declared.expr.BExpr.{BExpr, out-BExpr, out-roll-BExpr
 use Rattle.kql_bound.specs.declared.expr.BExpr.TheOpen.{BExpr-F}
 use Rattle.kql_bound.specs.declared.expr.BExpr.TheVariants as V
 use Rattle.kql_bound.specs.declared.expr.ChainSign.{ChainSign}
-use Rattle.kql_meaning.specs.FittingExpressions.{Scope as ReadScope, call_or_expr_fits, call_or_expr_fits_step, expr_fits, is_of_series, takes_aggregate}
+use Rattle.kql_meaning.specs.FittingExpressions.{Scope as ReadScope, call_or_expr_fits, call_or_expr_fits_step, expr_fits, is_aggregate_call, is_aggregate_call_step, is_of_series, takes_aggregate, takes_columns}
 use Rattle.kql_meaning.specs.Results.{has_one_result}
 use Rattle.kql_meaning.specs.declared.position.Position.{Position}
 use Rattle.kql_meaning.specs.declared.position.Position.TheVariants as position
@@ -39,11 +39,12 @@ use Rattle.bind_expr.specs.Arguments.{aggregate_position, first_slot, next_slot,
 use Rattle.bind_expr.specs.Bound.{Binds, Look, Named, Takes, access_read, access_step, and_bound, and_step, arg_bound, arg_step, args_taken, bound_expr, call_bound, cmp_bound, cmp_step, entry_key, expr_bound, expr_step, found_call, inside, negated, operand_link, path_from, post_bound, post_of, post_step, prod_bound, prod_sign, prod_step, sign_bound, sign_step, sum_bound, sum_sign, sum_step, term_read, term_step}
 use Rattle.bind_expr.specs.Comparisons.{bounded, compared, in_node, listed}
 use Rattle.bind_expr.specs.Constants.{constant_of, is_constant}
+use Rattle.bind_expr.specs.Names.{name_bound}
 use Rattle.bind_expr.specs.Outcome.{Outcome, ◌>>=◌}
 use Rattle.bind_expr.specs.Paths.{step_bound, step_named}
 use Rattle.bind_expr.specs.declared.scope.Scope.{Scope}
 use Rattle.bind_expr.specs.declared.typed.Typed.{Typed}
-use Rattle.bind_expr_laws.specs.Laws.{BoundIsSound, IsSound}
+use Rattle.bind_expr_laws.specs.Laws.{BoundIsSound, IsSound, NameIsSound}
 use Rattle.bind_expr_laws.specs.Scopes.{IsSoundScope, read_scope}
 use Rattle.bind_expr_laws.proofs.Aggregates.{aggregate-bound}
 use Rattle.bind_expr_laws.proofs.Arguments.{HasArgs, IsArg, aggregate-slots, args-taken, scalar-slots, window-slots}
@@ -51,12 +52,14 @@ use Rattle.bind_expr_laws.proofs.Calls.{scalar-bound}
 use Rattle.bind_expr_laws.proofs.Chains.{chain-bound}
 use Rattle.bind_expr_laws.proofs.Comparisons.{bounded-bound, compared-bound, listed-bound, negated-bound}
 use Rattle.bind_expr.proofs.ConstantSteps.{constant-Aggregate}
-use Rattle.bind_expr_laws.proofs.Constants.{constant-given, constant-is, literal-part, value-literal}
+use Rattle.bind_expr_laws.proofs.Constants.{constant-given, constant-is, every-free, literal-part, value-literal}
 use Rattle.bind_expr_laws.proofs.Logic.{and-joins, or-joins, terms-bound}
 use Rattle.bind_expr_laws.proofs.Outcomes.{Each, Gives, gives-fold, gives-map, gives-then, given}
 use Rattle.bind_expr_laws.proofs.Parts.{AreOperands, IsBound, IsPart, part-bound}
 use Rattle.bind_expr_laws.proofs.Paths.{path-bound}
 use Rattle.bind_expr_laws.proofs.Shapes.{Args, Spot}
+use Rattle.bind_expr_laws.proofs.Standing.{stands}
+use Rattle.bind_expr_laws.proofs.StandingSteps.{stands-Aggregate}
 use Rattle.bind_expr_laws.proofs.Terms.{literal-bound, name-bound, step-bound}
 use Rattle.bind_expr_laws.proofs.Windows.{window-bound}
 
@@ -398,15 +401,44 @@ never false e f = absurd cc
 constant-single : (e : BExpr) (at : Position) → is_constant e ≡ true → IsSingle e at
 constant-single e at c g args is takes = never (is_constant (V.Aggregate g args)) (constant-Aggregate g args) (subst (λ (x : BExpr). is_constant x ≡ true) is c)
 
-pub bound-sound : BoundIsSound
-unfolding bound_expr
-bound-sound e scope t sound is =
-    let spot : Spot = record { position = scope.position; alone = true } in
-    let b : IsBound scope spot t = given (IsBound scope spot) (expr_bound e scope spot) t (every-expr e scope sound spot) is in
+-- A call of an aggregate stands rightly as an item of `make-series`.
+call-roll : (f : BExpr-F BExpr) → is_aggregate_call_step f ≡ true → stands position.Series (roll-BExpr f) ≡ true
+call-roll (BExpr-F.Aggregate f args) e = ap (stands position.Series) (V.rolls-Aggregate f args) ∙ stands-Aggregate position.Series f args
+call-roll (BExpr-F.Literal l) e = absurd cc
+call-roll (BExpr-F.Column n) e = absurd cc
+call-roll (BExpr-F.Step c) e = absurd cc
+call-roll (BExpr-F.Call f args) e = absurd cc
+call-roll (BExpr-F.Chain first links) e = absurd cc
+call-roll (BExpr-F.Path whole steps) e = absurd cc
+call-roll (BExpr-F.Window f args) e = absurd cc
+
+call-stands : (e : BExpr) → is_aggregate_call e ≡ true → stands position.Series e ≡ true
+unfolding is_aggregate_call
+call-stands e call = ap (stands position.Series) (sym (roll-out-BExpr e)) ∙ call-roll (out-BExpr e) call
+
+no-group : (at : Position) → takes_columns at ≡ true → at ≢ position.Group
+unfolding takes_columns
+no-group position.Plain e f = cc
+no-group position.Window e f = cc
+no-group position.Term e f = cc
+no-group position.Group e f = absurd cc
+no-group position.Series e f = absurd cc
+no-group position.Constant e f = absurd cc
+
+no-series : position.Series ≢ position.Group
+no-series e = cc
+
+whole-fits : (scope : Scope) (t : Typed) (at : Position) → IsBound scope (record { position = at; alone = true }) t → at ≢ position.Group → stands at t.expr ≡ true → expr_fits t.expr (read_scope scope) at ≡ true
+whole-fits scope t at b n s = single-fits t.expr (read_scope scope) at (λ g args same takes. one-result at g args n takes) (b.fits s)
+
+whole-sound : (scope : Scope) (t : Typed) → IsSoundScope scope → IsBound scope (record { position = scope.position; alone = true }) t → IsSound scope t
+whole-sound scope t sound b =
+    let at : (p : Position) → scope.position ≡ p → IsBound scope (record { position = p; alone = true }) t = λ p e. subst (λ (q : Position). IsBound scope (record { position = q; alone = true }) t) e b in
     record {
       kind = b.kind;
-      fits = b.fits;
-      one = λ n s. single-fits t.expr (read_scope scope) scope.position (λ g args same takes. one-result scope.position g args n takes) (b.fits s);
+      fits = λ free. whole-fits scope t scope.position b (no-group scope.position free) ((every-free t.expr).in_columns scope.position free);
+      group = λ e columns counts. (at position.Group e).fits ((every-free t.expr).grouped columns counts);
+      series = λ e call. whole-fits scope t position.Series (at position.Series e) no-series (call-stands t.expr call);
       constant = λ l c.
           let part : IsPart scope scope.position t.expr t.kind = record {
             kind = b.kind;
@@ -415,4 +447,15 @@ bound-sound e scope t sound is =
           constant-given scope scope.position t l sound.names part c;
     }
 
-pub ruleset bound_laws = (bound-sound)
+pub bound-sound : BoundIsSound
+unfolding bound_expr
+bound-sound e scope t sound is =
+    let spot : Spot = record { position = scope.position; alone = true } in
+    whole-sound scope t sound (given (IsBound scope spot) (expr_bound e scope spot) t (every-expr e scope sound spot) is)
+
+pub name-sound : NameIsSound
+name-sound n scope t sound is =
+    let spot : Spot = record { position = scope.position; alone = true } in
+    whole-sound scope t sound (given (IsBound scope spot) (name_bound n scope) t (name-bound scope spot n sound) is)
+
+pub ruleset bound_laws = (bound-sound, name-sound)

@@ -27,7 +27,7 @@ use Rattle.bind_expr.specs.Outcome.{Outcome, ◌>>=◌}
 use Rattle.bind_expr.specs.declared.scope.Scope.{Scope}
 use Rattle.bind_expr.specs.declared.typed.Typed.{Typed}
 use Rattle.bind_expr_laws.specs.Scopes.{read_scope}
-use Rattle.bind_expr_laws.specs.Standing.{stands}
+use Rattle.bind_expr_laws.proofs.Standing.{stands}
 use Rattle.bind_expr_laws.proofs.Outcomes.{Each, Gives, gives-fold, gives-ok, gives-then}
 use Rattle.bind_expr_laws.proofs.Parts.{IsBound, IsPart, beside-part, part-bound}
 use Rattle.bind_expr_laws.proofs.Shapes.{Chained, Spot}

@@ -1,8 +1,8 @@
 -- Constants: they stand rightly everywhere, and have one value, whose literal fits. Where columns may stand, so does every expression.
 use Rattle.std.proofs.Common.{◌≡◌, ◌<◌, ℕ, Bool, true, false, List, [], ◌∷◌, map, refl, sym, ap, ap₂, ◌∙◌, subst, arith}
-use Rattle.std.specs.Prelude.{◌&&◌, if◌then◌else◌, Option, None, Some}
-use Rattle.std.specs.List.{list_all}
-use Rattle.std.proofs.lemmas.Bool.{and_parts, and_from}
+use Rattle.std.specs.Prelude.{◌&&◌, ◌||◌, not, if◌then◌else◌, Option, None, Some}
+use Rattle.std.specs.List.{list_all, list_any}
+use Rattle.std.proofs.lemmas.Bool.{and_parts, and_from, or_parts}
 use Rattle.std.proofs.lemmas.List.Elements.{All-from_recursion}
 use Rattle.kql_cells.specs.Named.{HasDistinctNames, column_name}
 use Rattle.kql_cells.specs.Table.{Grid, RowFits}
@@ -36,9 +36,11 @@ use Rattle.bind_expr.specs.Constants.{bare_row, constant_of, constant_value, is_
 use Rattle.bind_expr.proofs.ConstantSteps.{constant-Aggregate, constant-Call, constant-Chain, constant-Column, constant-Path, constant-Step, constant-Window}
 use Rattle.bind_expr.specs.declared.scope.Scope.{Scope}
 use Rattle.bind_expr.specs.declared.typed.Typed.{Typed}
-use Rattle.bind_expr_laws.specs.Standing.{counts_well, stands}
+use Rattle.bind_expr_laws.proofs.Standing.{counts_well, stands}
 use Rattle.bind_expr_laws.specs.Scopes.{IsSoundScope, read_scope}
+use Rattle.bind_expr_laws.specs.Refused.{has_bad_count, has_bare_column}
 use Rattle.bind_expr_laws.proofs.Parts.{IsPart}
+use Rattle.bind_expr_laws.proofs.RefusedSteps.{bad-Aggregate, bad-Call, bad-Chain, bad-Path, bare-Call, bare-Chain, bare-Column, bare-Path, bare-Step}
 use Rattle.bind_expr_laws.proofs.StandingSteps.{stands-Aggregate, stands-Call, stands-Chain, stands-Column, stands-Literal, stands-Path, stands-Step, stands-Window}
 
 -- By induction over expressions.
@@ -50,6 +52,7 @@ pub record IsSteady (e : BExpr) : Type 0 where
 pub record IsFree (e : BExpr) : Type 0 where
   pub in_columns : (at : Position) → takes_columns at ≡ true → stands at e ≡ true
   pub steady : is_constant e ≡ true → IsSteady e
+  pub grouped : has_bare_column e ≡ false → has_bad_count e ≡ false → stands position.Group e ≡ true
 
 abbrev Given : Type 0
 Given = (e : BExpr) × IsFree e
@@ -101,6 +104,20 @@ steady-signs : (ls : List (ChainSign × BExpr)) → AreLinksSteady ls → (t u :
 steady-signs [] h t u i j r s = refl
 steady-signs (l ∷ ls) h t u i j r s = ap₂ (λ (v : Value) (vs : List (ChainSign × Value)). (l.0, v) ∷ vs) (h.0.value t u i j r s) (steady-signs ls h.1 t u i j r s)
 
+all-grouped : (gs : List Given) → list_any has_bare_column (map bare gs) ≡ false → list_any has_bad_count (map bare gs) ≡ false → list_all (stands position.Group) (map bare gs) ≡ true
+all-grouped [] e f = refl
+all-grouped (g ∷ gs) e f =
+    let columns = or_parts (has_bare_column g.0) (list_any has_bare_column (map bare gs)) e in
+    let counts = or_parts (has_bad_count g.0) (list_any has_bad_count (map bare gs)) f in
+    and_from (stands position.Group g.0) (list_all (stands position.Group) (map bare gs)) (g.1.grouped columns.0 counts.0) (all-grouped gs columns.1 counts.1)
+
+links-grouped : (ls : List (ChainSign × Given)) → list_any (λ (l : ChainSign × BExpr). has_bare_column l.1) (map bare_link ls) ≡ false → list_any (λ (l : ChainSign × BExpr). has_bad_count l.1) (map bare_link ls) ≡ false → list_all (λ (l : ChainSign × BExpr). stands position.Group l.1) (map bare_link ls) ≡ true
+links-grouped [] e f = refl
+links-grouped (l ∷ ls) e f =
+    let columns = or_parts (has_bare_column l.1.0) (list_any (λ (l : ChainSign × BExpr). has_bare_column l.1) (map bare_link ls)) e in
+    let counts = or_parts (has_bad_count l.1.0) (list_any (λ (l : ChainSign × BExpr). has_bad_count l.1) (map bare_link ls)) f in
+    and_from (stands position.Group l.1.0) (list_all (λ (l : ChainSign × BExpr). stands position.Group l.1) (map bare_link ls)) (l.1.1.grouped columns.0 counts.0) (links-grouped ls columns.1 counts.1)
+
 counts-open : (at : Position) (f : Aggregate) (args : List BExpr) → takes_columns at ≡ true → counts_well at f args ≡ true
 unfolding takes_columns
 counts-open position.Plain f args e = refl
@@ -119,14 +136,17 @@ unfolding value_along value_down
 of-layer (BExpr-F.Literal l) = subst IsFree (sym (V.rolls-Literal l)) (record {
   in_columns = λ at e. stands-Literal at l;
   steady = λ c. record { standing = λ at. stands-Literal at l; value = λ t u i j r s. val-Literal l t i r ∙ sym (val-Literal l u j s) };
+  grouped = λ a b. stands-Literal position.Group l;
 })
 of-layer (BExpr-F.Column n) = subst IsFree (sym (V.rolls-Column n)) (record {
   in_columns = λ at e. stands-Column at n ∙ e;
   steady = λ c. never (is_constant (V.Column n)) (constant-Column n) c;
+  grouped = λ a b. never (has_bare_column (V.Column n)) a (bare-Column n);
 })
 of-layer (BExpr-F.Step c) = subst IsFree (sym (V.rolls-Step c)) (record {
   in_columns = λ at e. stands-Step at c ∙ e;
   steady = λ k. never (is_constant (V.Step c)) (constant-Step c) k;
+  grouped = λ a b. never (has_bare_column (V.Step c)) a (bare-Step c);
 })
 of-layer (BExpr-F.Call f args) = subst IsFree (sym (V.rolls-Call f (map bare args))) (record {
   in_columns = λ at e. stands-Call at f (map bare args) ∙ all-open args at e;
@@ -136,6 +156,10 @@ of-layer (BExpr-F.Call f args) = subst IsFree (sym (V.rolls-Call f (map bare arg
         standing = λ at. stands-Call at f (map bare args) ∙ steady-stand (map bare args) at h;
         value = λ t u i j r s. val-Call f (map bare args) t i r ∙ (ap (applied f) (steady-values (map bare args) h t u i j r s) ∙ sym (val-Call f (map bare args) u j s));
       };
+<<<<<<< HEAD
+=======
+  grouped = λ a b. stands-Call position.Group f (map bare args) ∙ all-grouped args (sym (bare-Call f (map bare args)) ∙ a) (sym (bad-Call f (map bare args)) ∙ b);
+>>>>>>> a15b65d65d355affdca78d3afae199bf87240fa5
 })
 of-layer (BExpr-F.Chain first links) = subst IsFree (sym (V.rolls-Chain first.0 (map bare_link links))) (record {
   in_columns = λ at e. stands-Chain at first.0 (map bare_link links) ∙ and_from _ _ (first.1.in_columns at e) (links-open links at e);
@@ -147,6 +171,13 @@ of-layer (BExpr-F.Chain first links) = subst IsFree (sym (V.rolls-Chain first.0 
         standing = λ at. stands-Chain at first.0 (map bare_link links) ∙ and_from _ _ (h.standing at) (steady-links (map bare_link links) at k);
         value = λ t u i j r s. val-Chain first.0 (map bare_link links) t i r ∙ (ap₂ chain_value (h.value t u i j r s) (steady-signs (map bare_link links) k t u i j r s) ∙ sym (val-Chain first.0 (map bare_link links) u j s));
       };
+<<<<<<< HEAD
+=======
+  grouped = λ a b.
+    let columns = or_parts _ _ (sym (bare-Chain first.0 (map bare_link links)) ∙ a) in
+    let counts = or_parts _ _ (sym (bad-Chain first.0 (map bare_link links)) ∙ b) in
+    stands-Chain position.Group first.0 (map bare_link links) ∙ and_from _ _ (first.1.grouped columns.0 counts.0) (links-grouped links columns.1 counts.1);
+>>>>>>> a15b65d65d355affdca78d3afae199bf87240fa5
 })
 of-layer (BExpr-F.Path whole steps) = subst IsFree (sym (V.rolls-Path whole.0 (map bare steps))) (record {
   in_columns = λ at e. stands-Path at whole.0 (map bare steps) ∙ and_from _ _ (whole.1.in_columns at e) (all-open steps at e);
@@ -158,14 +189,23 @@ of-layer (BExpr-F.Path whole steps) = subst IsFree (sym (V.rolls-Path whole.0 (m
         standing = λ at. stands-Path at whole.0 (map bare steps) ∙ and_from _ _ (h.standing at) (steady-stand (map bare steps) at k);
         value = λ t u i j r s. val-Path whole.0 (map bare steps) t i r ∙ (ap₂ path_value (h.value t u i j r s) (steady-values (map bare steps) k t u i j r s) ∙ sym (val-Path whole.0 (map bare steps) u j s));
       };
+<<<<<<< HEAD
+=======
+  grouped = λ a b.
+    let columns = or_parts _ _ (sym (bare-Path whole.0 (map bare steps)) ∙ a) in
+    let counts = or_parts _ _ (sym (bad-Path whole.0 (map bare steps)) ∙ b) in
+    stands-Path position.Group whole.0 (map bare steps) ∙ and_from _ _ (whole.1.grouped columns.0 counts.0) (all-grouped steps columns.1 counts.1);
+>>>>>>> a15b65d65d355affdca78d3afae199bf87240fa5
 })
 of-layer (BExpr-F.Window f args) = subst IsFree (sym (V.rolls-Window f (map bare args))) (record {
   in_columns = λ at e. stands-Window at f (map bare args);
   steady = λ c. never (is_constant (V.Window f (map bare args))) (constant-Window f (map bare args)) c;
+  grouped = λ a b. stands-Window position.Group f (map bare args);
 })
 of-layer (BExpr-F.Aggregate f args) = subst IsFree (sym (V.rolls-Aggregate f (map bare args))) (record {
   in_columns = λ at e. stands-Aggregate at f (map bare args) ∙ counts-open at f (map bare args) e;
   steady = λ c. never (is_constant (V.Aggregate f (map bare args))) (constant-Aggregate f (map bare args)) c;
+  grouped = λ a b. stands-Aggregate position.Group f (map bare args) ∙ ap not (sym (bad-Aggregate f (map bare args)) ∙ b);
 })
 
 pub every-free : (e : BExpr) → IsFree e

@@ -9,7 +9,9 @@ pub mod Logic
 pub mod Outcomes
 pub mod Parts
 pub mod Paths
+pub mod RefusedSteps
 pub mod Shapes
+pub mod Standing
 pub mod StandingSteps
 pub mod Terms
 pub mod Windows

@@ -26,7 +26,7 @@ use Rattle.bind_expr.specs.declared.scope.Scope.{Scope}
 use Rattle.bind_expr_laws.proofs.Shapes.{Spot}
 use Rattle.bind_expr.specs.declared.typed.Typed.{Typed}
 use Rattle.bind_expr_laws.specs.Scopes.{read_scope}
-use Rattle.bind_expr_laws.specs.Standing.{stands}
+use Rattle.bind_expr_laws.proofs.Standing.{stands}
 use Rattle.bind_expr_laws.proofs.Outcomes.{Gives, gives-typed}
 use Rattle.bind_expr_laws.proofs.StandingSteps.{stands-Call}
 

@@ -21,7 +21,7 @@ use Rattle.bind_expr.specs.Paths.{look_link, looked_as, looked_from, looked_whol
 use Rattle.bind_expr.specs.declared.scope.Scope.{Scope}
 use Rattle.bind_expr.specs.declared.typed.Typed.{Typed}
 use Rattle.bind_expr_laws.specs.Scopes.{read_scope}
-use Rattle.bind_expr_laws.specs.Standing.{stands}
+use Rattle.bind_expr_laws.proofs.Standing.{stands}
 use Rattle.bind_expr_laws.proofs.Outcomes.{Each, Gives, gives-fold, gives-ok, gives-then}
 use Rattle.bind_expr_laws.proofs.Parts.{IsBound, IsPart, part-bound}
 use Rattle.bind_expr_laws.proofs.Shapes.{Looked, Spot}

@@ -13,7 +13,7 @@ use Rattle.kql_bound.specs.declared.expr.StepColumn.{StepColumn}
 use Rattle.kql_bound.specs.declared.literal.Lit.{Lit}
 use Rattle.kql_meaning.specs.declared.position.Position.{Position}
 use Rattle.kql_meaning.specs.FittingExpressions.{takes_columns}
-use Rattle.bind_expr_laws.specs.Standing.{Tried, counts_well, is_right, part_of, stands, stands_step}
+use Rattle.bind_expr_laws.proofs.Standing.{Tried, counts_well, is_right, part_of, stands, stands_step}
 
 abbrev tried : Position → BExpr → Tried
 tried at e = (e, stands at e)

@@ -1,3 +1,3 @@
 pub mod Laws
+pub mod Refused
 pub mod Scopes
-pub mod Standing

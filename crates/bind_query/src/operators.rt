@@ -2,9 +2,8 @@
 ghost use Rattle.bind_expr.specs.Outcome.{Answers};
 ghost use Rattle.bind_query.specs.Operators.{column_op_bound, group_op_bound, row_op_bound};
 
-use crate::stand_ins::bind_make_series;
 use bind_expr::BindFault;
-use bind_groups::{bind_distinct, bind_mv_expand, bind_parse, bind_summarize};
+use bind_groups::{bind_distinct, bind_make_series, bind_mv_expand, bind_parse, bind_summarize};
 use bind_operators::{
     BoundOp, Known, Shape, bind_count, bind_extend, bind_project, bind_project_away,
     bind_project_keep, bind_project_rename, bind_serialize, bind_sort, bind_take, bind_top,

@@ -1,28 +1,18 @@
--- What an expression that is bound leaves to its operator to refuse.
-use Rattle.std.specs.Prelude.{ℕ, Bool, true, ◌&&◌, List, [], ◌∷◌, map}
+-- When an expression stands rightly in a position, but for what its types say.
+use Rattle.std.specs.Prelude.{Bool, true, not, ◌&&◌, List, map}
 use Rattle.std.specs.List.{list_all}
 use Rattle.kql_functions.specs.declared.aggregate.Aggregate.{Aggregate}
-use Rattle.kql_functions.specs.declared.aggregate.Aggregate.TheVariants as aggregate
 use Rattle.kql_bound.specs.declared.expr.BExpr.{BExpr, para-BExpr}
 use Rattle.kql_bound.specs.declared.expr.BExpr.TheOpen.{BExpr-F}
 use Rattle.kql_bound.specs.declared.expr.ChainSign.{ChainSign}
-use Rattle.kql_meaning.specs.FittingExpressions.{is_count, takes_columns}
+use Rattle.kql_meaning.specs.FittingExpressions.{takes_columns}
 use Rattle.kql_meaning.specs.declared.position.Position.{Position}
 use Rattle.kql_meaning.specs.declared.position.Position.TheVariants as position
-
--- Whether the number of elements behind the first argument, where there is one, is a long of 0 or more.
-abbrev pub is_count_behind : List BExpr → Bool
-is_count_behind (x ∷ n ∷ []) = is_count n
-is_count_behind _ = true
-
-abbrev pub is_counted : Aggregate → List BExpr → Bool
-is_counted aggregate.MakeList args = is_count_behind args
-is_counted aggregate.MakeSet args = is_count_behind args
-is_counted _ args = true
+use Rattle.bind_expr_laws.specs.Refused.{counts_badly}
 
 -- Whether a call of an aggregate in a position counts rightly: lists and sets stand in `Group` alone.
 abbrev pub counts_well : Position → Aggregate → List BExpr → Bool
-counts_well position.Group f args = is_counted f args
+counts_well position.Group f args = not (counts_badly f args)
 counts_well _ f args = true
 
 -- A part, and whether it stands rightly.
