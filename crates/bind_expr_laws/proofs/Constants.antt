@@ -156,10 +156,7 @@ of-layer (BExpr-F.Call f args) = subst IsFree (sym (V.rolls-Call f (map bare arg
         standing = λ at. stands-Call at f (map bare args) ∙ steady-stand (map bare args) at h;
         value = λ t u i j r s. val-Call f (map bare args) t i r ∙ (ap (applied f) (steady-values (map bare args) h t u i j r s) ∙ sym (val-Call f (map bare args) u j s));
       };
-<<<<<<< HEAD
-=======
   grouped = λ a b. stands-Call position.Group f (map bare args) ∙ all-grouped args (sym (bare-Call f (map bare args)) ∙ a) (sym (bad-Call f (map bare args)) ∙ b);
->>>>>>> a15b65d65d355affdca78d3afae199bf87240fa5
 })
 of-layer (BExpr-F.Chain first links) = subst IsFree (sym (V.rolls-Chain first.0 (map bare_link links))) (record {
   in_columns = λ at e. stands-Chain at first.0 (map bare_link links) ∙ and_from _ _ (first.1.in_columns at e) (links-open links at e);
@@ -171,13 +168,10 @@ of-layer (BExpr-F.Chain first links) = subst IsFree (sym (V.rolls-Chain first.0 
         standing = λ at. stands-Chain at first.0 (map bare_link links) ∙ and_from _ _ (h.standing at) (steady-links (map bare_link links) at k);
         value = λ t u i j r s. val-Chain first.0 (map bare_link links) t i r ∙ (ap₂ chain_value (h.value t u i j r s) (steady-signs (map bare_link links) k t u i j r s) ∙ sym (val-Chain first.0 (map bare_link links) u j s));
       };
-<<<<<<< HEAD
-=======
   grouped = λ a b.
-    let columns = or_parts _ _ (sym (bare-Chain first.0 (map bare_link links)) ∙ a) in
-    let counts = or_parts _ _ (sym (bad-Chain first.0 (map bare_link links)) ∙ b) in
-    stands-Chain position.Group first.0 (map bare_link links) ∙ and_from _ _ (first.1.grouped columns.0 counts.0) (links-grouped links columns.1 counts.1);
->>>>>>> a15b65d65d355affdca78d3afae199bf87240fa5
+      let columns = or_parts _ _ (sym (bare-Chain first.0 (map bare_link links)) ∙ a) in
+      let counts = or_parts _ _ (sym (bad-Chain first.0 (map bare_link links)) ∙ b) in
+      stands-Chain position.Group first.0 (map bare_link links) ∙ and_from _ _ (first.1.grouped columns.0 counts.0) (links-grouped links columns.1 counts.1);
 })
 of-layer (BExpr-F.Path whole steps) = subst IsFree (sym (V.rolls-Path whole.0 (map bare steps))) (record {
   in_columns = λ at e. stands-Path at whole.0 (map bare steps) ∙ and_from _ _ (whole.1.in_columns at e) (all-open steps at e);
@@ -189,13 +183,10 @@ of-layer (BExpr-F.Path whole steps) = subst IsFree (sym (V.rolls-Path whole.0 (m
         standing = λ at. stands-Path at whole.0 (map bare steps) ∙ and_from _ _ (h.standing at) (steady-stand (map bare steps) at k);
         value = λ t u i j r s. val-Path whole.0 (map bare steps) t i r ∙ (ap₂ path_value (h.value t u i j r s) (steady-values (map bare steps) k t u i j r s) ∙ sym (val-Path whole.0 (map bare steps) u j s));
       };
-<<<<<<< HEAD
-=======
   grouped = λ a b.
-    let columns = or_parts _ _ (sym (bare-Path whole.0 (map bare steps)) ∙ a) in
-    let counts = or_parts _ _ (sym (bad-Path whole.0 (map bare steps)) ∙ b) in
-    stands-Path position.Group whole.0 (map bare steps) ∙ and_from _ _ (whole.1.grouped columns.0 counts.0) (all-grouped steps columns.1 counts.1);
->>>>>>> a15b65d65d355affdca78d3afae199bf87240fa5
+      let columns = or_parts _ _ (sym (bare-Path whole.0 (map bare steps)) ∙ a) in
+      let counts = or_parts _ _ (sym (bad-Path whole.0 (map bare steps)) ∙ b) in
+      stands-Path position.Group whole.0 (map bare steps) ∙ and_from _ _ (whole.1.grouped columns.0 counts.0) (all-grouped steps columns.1 counts.1);
 })
 of-layer (BExpr-F.Window f args) = subst IsFree (sym (V.rolls-Window f (map bare args))) (record {
   in_columns = λ at e. stands-Window at f (map bare args);
