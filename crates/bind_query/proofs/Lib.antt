@@ -1,6 +1,8 @@
 pub mod BindSteps
+pub mod CodeLaws
 pub mod JoinSteps
 pub mod LetSteps
+pub mod OperatorCodes
 pub mod PipeSteps
 pub mod ReadSteps
 pub mod UnionSteps

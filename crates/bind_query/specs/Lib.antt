@@ -1,5 +1,6 @@
 pub mod Bound
 pub mod Join
+pub mod Laws
 pub mod Lets
 pub mod Operators
 pub mod Partition

@@ -6,6 +6,7 @@
 
 mod bound;
 mod join;
+mod laws;
 mod lets;
 mod operators;
 mod ops;
@@ -17,4 +18,5 @@ mod tables_read;
 mod union;
 
 pub use bound::{BoundOps, BoundStatements};
+pub use laws::law_of_codes;
 pub use query::bind;
