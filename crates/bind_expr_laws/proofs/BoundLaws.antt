@@ -62,6 +62,7 @@ use Rattle.bind_expr_laws.proofs.Standing.{stands}
 use Rattle.bind_expr_laws.proofs.StandingSteps.{stands-Aggregate}
 use Rattle.bind_expr_laws.proofs.Terms.{literal-bound, name-bound, step-bound}
 use Rattle.bind_expr_laws.proofs.Windows.{window-bound}
+use Rattle.bind_expr_laws.proofs.Facts.{never}
 
 -- Each level.
 
@@ -393,10 +394,6 @@ single-fits e scope at single h =
     let same = roll-out-BExpr e in
     subst (λ (x : BExpr). expr_fits x scope at ≡ true) same
     (layer-one (out-BExpr e) scope at (λ g args is takes. single g args (sym same ∙ is) takes) (subst (λ (x : BExpr). call_or_expr_fits x scope at ≡ true) (sym same) h))
-
-never : {A : Type 0} (b : Bool) → b ≡ false → b ≡ true → A
-never true e f = absurd cc
-never false e f = absurd cc
 
 constant-single : (e : BExpr) (at : Position) → is_constant e ≡ true → IsSingle e at
 constant-single e at c g args is takes = never (is_constant (V.Aggregate g args)) (constant-Aggregate g args) (subst (λ (x : BExpr). is_constant x ≡ true) is c)

@@ -29,9 +29,10 @@ use Rattle.bind_expr.specs.declared.typed.Typed.{Typed}
 use Rattle.bind_expr_laws.specs.Scopes.{read_scope}
 use Rattle.bind_expr_laws.proofs.Standing.{stands}
 use Rattle.bind_expr_laws.proofs.Outcomes.{Each, Gives, gives-fold, gives-ok, gives-then}
-use Rattle.bind_expr_laws.proofs.Parts.{IsBound, IsPart, beside-part, part-bound}
+use Rattle.bind_expr_laws.proofs.Parts.{IsBound, IsPart, beside-part, part-bound, two-kind}
 use Rattle.bind_expr_laws.proofs.Shapes.{Chained, Spot}
 use Rattle.bind_expr_laws.proofs.StandingSteps.{stands-Chain}
+use Rattle.bind_expr_laws.proofs.Facts.{some-is}
 
 -- No sign gives a dynamic value.
 
@@ -77,10 +78,6 @@ along-push : (links : List (ChainSign × BExpr)) (columns : List Column) (k : Op
 unfolding kind_along chain_kind
 along-push [] columns k s e = refl
 along-push (l ∷ ls) columns k s e = along-push ls columns (call_kind (sign_func l.0) (k ∷ kind_of l.1 columns ∷ [])) s e
-
-two-kind : (f : Func) (a b : Option Kind) (j k : Kind) → a ≡ Some j → b ≡ Some k → call_kind f (a ∷ b ∷ []) ≡ result_kind f (j ∷ k ∷ [])
-unfolding call_kind all_known
-two-kind f a b j k e h = rw (e, h) refl
 
 links-push : (links : List (ChainSign × BExpr)) (p : ChainSign × BExpr → Bool) (l : ChainSign × BExpr) → list_all p (links ++ l ∷ []) ≡ (list_all p links && (p l && true))
 links-push links p l = list_all-append p links (l ∷ [])
@@ -147,9 +144,6 @@ link-bound scope at s place left right h part =
     (λ k e. chain-push scope at l.expr left.links l.kind s r.expr r.kind k (left-beside scope at left.first left.links left.kind right.kind h) (beside-part scope at right left.kind part) e)
 
 -- The whole.
-
-some-is : {A : Type 0} (o : Option A) (a : A) → o ≡ Some a → is_some o ≡ true
-some-is o a e = rw e refl
 
 pub chain-part : (scope : Scope) (at : Position) (first : BExpr) (links : List (ChainSign × BExpr)) (k : Kind) → IsChain scope at first links k → IsPart scope at (V.Chain first links) k
 chain-part scope at first links k h = record {

@@ -25,6 +25,7 @@ use Rattle.bind_expr.specs.declared.typed.Typed.{Typed}
 use Rattle.bind_expr_laws.proofs.Outcomes.{Each, Gives, gives-fold, gives-ok, gives-then}
 use Rattle.bind_expr_laws.proofs.Parts.{AreParts, IsBound, IsPart, IsPlain, beside-part, call-part, part-bound}
 use Rattle.bind_expr_laws.proofs.Shapes.{Joined, Spot}
+use Rattle.bind_expr_laws.proofs.Facts.{if-some}
 
 -- `and` and `or` join bools.
 abbrev pub Joins : LogicFunc → Type 0
@@ -37,10 +38,6 @@ and-joins ks = refl
 pub or-joins : Joins logic.Or
 unfolding result_kind logic_kind
 or-joins ks = refl
-
-if-some : {A : Type 0} (b : Bool) (a c : A) → (if b then Some a else None) ≡ Some c → (b ≡ true) × (a ≡ c)
-if-some true a c e = (refl, cc)
-if-some false a c e = absurd cc
 
 both-bool : (j k given : Kind) → several_of 2 kind.Bool kind.Bool (j ∷ k ∷ []) ≡ Some given → (j ≡ kind.Bool) × (k ≡ kind.Bool) × (given ≡ kind.Bool)
 unfolding several_of all_same

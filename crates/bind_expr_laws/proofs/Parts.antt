@@ -29,6 +29,7 @@ use Rattle.bind_expr_laws.specs.Scopes.{read_scope}
 use Rattle.bind_expr_laws.proofs.Standing.{stands}
 use Rattle.bind_expr_laws.proofs.Outcomes.{Gives, gives-typed}
 use Rattle.bind_expr_laws.proofs.StandingSteps.{stands-Call}
+use Rattle.bind_expr_laws.proofs.Facts.{some-is}
 
 -- A part has its type, and fits where it stands rightly.
 pub record IsPart (scope : Scope) (at : Position) (e : BExpr) (k : Kind) : Type 0 where
@@ -97,8 +98,9 @@ pub call-kind : (scope : Scope) (at : Position) (f : Func) (es : List BExpr) (ks
 unfolding call_kind
 call-kind scope at f es ks h = rw (parts-known scope at es ks h) refl
 
-some-is : {A : Type 0} (o : Option A) (a : A) → o ≡ Some a → is_some o ≡ true
-some-is o a e = rw e refl
+pub two-kind : (f : Func) (a b : Option Kind) (j k : Kind) → a ≡ Some j → b ≡ Some k → call_kind f (a ∷ b ∷ []) ≡ result_kind f (j ∷ k ∷ [])
+unfolding call_kind all_known
+two-kind f a b j k e h = rw (e, h) refl
 
 pub call-part : (scope : Scope) (at : Position) (f : Func) (es : List BExpr) (ks : List Kind) (k : Kind) → AreParts scope at es ks → is_callable f ≡ true → part_fits f es ≡ true → result_kind f ks ≡ Some k → IsPart scope at (V.Call f es) k
 call-part scope at f es ks k h callable part given =

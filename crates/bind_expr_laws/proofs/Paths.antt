@@ -23,9 +23,10 @@ use Rattle.bind_expr.specs.declared.typed.Typed.{Typed}
 use Rattle.bind_expr_laws.specs.Scopes.{read_scope}
 use Rattle.bind_expr_laws.proofs.Standing.{stands}
 use Rattle.bind_expr_laws.proofs.Outcomes.{Each, Gives, gives-fold, gives-ok, gives-then}
-use Rattle.bind_expr_laws.proofs.Parts.{IsBound, IsPart, part-bound}
+use Rattle.bind_expr_laws.proofs.Parts.{IsBound, IsPart, part-bound, two-kind}
 use Rattle.bind_expr_laws.proofs.Shapes.{Looked, Spot}
 use Rattle.bind_expr_laws.proofs.StandingSteps.{stands-Path}
+use Rattle.bind_expr_laws.proofs.Facts.{some-is}
 
 -- A path so far has its type, and its parts fit where they stand rightly.
 pub record IsPath (scope : Scope) (at : Position) (whole : BExpr) (steps : List BExpr) (k : Kind) : Type 0 where
@@ -38,13 +39,9 @@ unfolding kind_down path_kind kinds_in
 down-push [] columns k e = refl
 down-push (s ∷ ss) columns k e = down-push ss columns (call_kind look (k ∷ kind_of s columns ∷ [])) e
 
-two-kind : (a b : Option Kind) (j k : Kind) → a ≡ Some j → b ≡ Some k → call_kind look (a ∷ b ∷ []) ≡ result_kind look (j ∷ k ∷ [])
-unfolding call_kind all_known
-two-kind a b j k e h = rw (e, h) refl
-
 path-push : (scope : Scope) (at : Position) (whole : BExpr) (steps : List BExpr) (k : Kind) (key : BExpr) (j given : Kind) → IsPath scope at whole steps k → IsPart scope at key j → result_kind look (k ∷ j ∷ []) ≡ Some given → IsPath scope at whole (steps ++ key ∷ []) given
 path-push scope at whole steps k key j given h part is = record {
-  kind = down-push steps scope.schema (kind_of whole scope.schema) key ∙ (two-kind _ _ k j h.kind part.kind ∙ is);
+  kind = down-push steps scope.schema (kind_of whole scope.schema) key ∙ (two-kind look _ _ k j h.kind part.kind ∙ is);
   start = h.start;
   rest = λ e.
       let both = and_parts _ _ (sym (list_all-append (stands at) steps (key ∷ [])) ∙ e) in
@@ -69,9 +66,6 @@ unfolding kind_down path_kind kinds_in
 path-first scope at e k h = record { kind = h.kind; start = h.fits; rest = λ s. refl }
 
 -- The whole.
-
-some-is : {A : Type 0} (o : Option A) (a : A) → o ≡ Some a → is_some o ≡ true
-some-is o a e = rw e refl
 
 first-path : (scope : Scope) (at : Position) (e : BExpr) (k : Kind) → IsPath scope at e [] k → IsPart scope at e k
 unfolding kind_down path_kind kinds_in

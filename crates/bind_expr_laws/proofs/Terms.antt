@@ -54,12 +54,9 @@ use Rattle.bind_expr_laws.proofs.Outcomes.{Gives}
 use Rattle.bind_expr_laws.proofs.Parts.{IsBound, IsPart, part-bound}
 use Rattle.bind_expr_laws.proofs.Shapes.{Spot}
 use Rattle.bind_expr_laws.proofs.StandingSteps.{stands-Column, stands-Step}
+use Rattle.bind_expr_laws.proofs.Facts.{map-parts}
 
 -- Literals.
-
-map-parts : {A B : Type 0} (f : A → B) (o : Option A) (b : B) → option_map f o ≡ Some b → (a : A) × (o ≡ Some a) × (f a ≡ b)
-map-parts f None b e = absurd cc
-map-parts f (Some a) b e = (a, refl, cc)
 
 -- The types of typed literals: there are none of strings.
 abbrev IsTyped : Kind → Type 0

@@ -1,7 +1,8 @@
 -- Calls of window functions.
 use Rattle.std.proofs.Common.{◌≡◌, ℕ, ℤ, pos, negsuc, Bool, true, false, List, [], ◌∷◌, refl, sym, ap, ◌∙◌, subst}
 use Rattle.std.specs.Prelude.{◌&&◌, not, if◌then◌else◌, int_le, Option, None, Some, Ok, Err, is_some}
-use Rattle.std.proofs.lemmas.Bool.{and_parts, and_from}
+use Rattle.std.proofs.lemmas.Bool.{and_parts, and_from, not-true}
+use Rattle.std.proofs.lemmas.Option.{same_Some}
 use Rattle.kql_cells.specs.Values.{IsOfKind}
 use Rattle.kql_cells.specs.declared.value.Kind.{Kind}
 use Rattle.kql_cells.specs.declared.value.Kind.TheVariants as kind
@@ -112,21 +113,18 @@ if-kind false a k e = absurd cc
 
 -- `prev` and `next`.
 
-first-known : (scope : Scope) (at : Position) (e : BExpr) (es : List BExpr) (j k : Kind) → IsPart scope at e j → j ≡ k → first_kind (kinds_in (e ∷ es) scope.schema) ≡ Some k
+pub first-known : (scope : Scope) (at : Position) (e : BExpr) (es : List BExpr) (j k : Kind) → IsPart scope at e j → j ≡ k → first_kind (kinds_in (e ∷ es) scope.schema) ≡ Some k
 unfolding first_kind kinds_in
 first-known scope at e es j k h same = h.kind ∙ ap (λ (x : Kind). Some x) same
 
 abbrev LooksWell : Scope → List BExpr → Kind → Type 0
 LooksWell scope es k = (first_kind (kinds_in es scope.schema) ≡ Some k) × (look_fits es (read_scope scope) ≡ true)
 
-some-same : (a b : Kind) → Some a ≡ Some b → a ≡ b
-some-same a b e = cc
-
 look-part : (scope : Scope) (es : List BExpr) (ks : List Kind) (k : Kind) → look_forms es ≡ true → AreArgs scope position.Plain position.Plain es ks → look_given ks ≡ Some k → LooksWell scope es k
 unfolding look_forms look_given look_fits
 look-part scope [] ks k t h e = absurd cc
 look-part scope (c ∷ es) [] k t h e = absurd h
-look-part scope (c ∷ []) (j ∷ []) k t h e = (first-known scope position.Plain c [] j k h.0 (some-same j k e), plain-column scope c j h.0 t)
+look-part scope (c ∷ []) (j ∷ []) k t h e = (first-known scope position.Plain c [] j k h.0 (same_Some j k e), plain-column scope c j h.0 t)
 look-part scope (c ∷ []) (j ∷ m ∷ ks) k t h e = absurd h.1
 look-part scope (c ∷ n ∷ es) (j ∷ []) k t h e = absurd h.1
 look-part scope (c ∷ n ∷ []) (j ∷ m ∷ []) k t h e =
@@ -180,7 +178,7 @@ running-part scope (c ∷ r ∷ x ∷ es) (j ∷ m ∷ o ∷ ks) k h e = absurd 
 
 number-part : (scope : Scope) (es : List BExpr) (ks : List Kind) (k : Kind) → number_forms es ≡ true → AreArgs scope position.Plain position.Term es ks → number_given ks ≡ Some k → (kind.Long ≡ k) × (row_number_fits (checked_args es) (read_scope scope) ≡ true)
 unfolding number_forms number_given row_number_fits checked_args
-number-part scope [] [] k t h e = (some-same kind.Long k e, refl)
+number-part scope [] [] k t h e = (same_Some kind.Long k e, refl)
 number-part scope [] (j ∷ ks) k t h e = absurd h
 number-part scope (c ∷ es) [] k t h e = absurd h
 number-part scope (c ∷ []) (j ∷ []) k t h e =
@@ -208,17 +206,13 @@ window-args scope window.Next es ks k t h e = let q = look-part scope es ks k t 
 window-args scope window.RowCumsum es ks k t h e = running-part scope es ks k h e
 window-args scope window.RowNumber es ks k t h e = let q = number-part scope es ks k t h e in (ap (λ (x : Kind). Some x) q.0, q.1)
 
-turned : (b : Bool) → not b ≡ true → b ≡ false
-turned true e = absurd cc
-turned false e = refl
-
 typed-as : (scope : Scope) (spot : Spot) (place : Place) (f : Window) (a : Args) (b : Bool) → HasArgs scope (window_first f).position (window_next f).position a → takes_window spot.position f ≡ true → (not a.has_stray && window_forms f a.exprs) ≡ b → Gives (IsBound scope spot) (window_typed place f a b)
 typed-as scope spot place f a false h takes e = record { holds = tt }
 typed-as scope spot place f a true h takes e =
     let form = and_parts (not a.has_stray) (window_forms f a.exprs) e in
     gives-typed (IsBound scope spot) place (V.Window f a.exprs) (window_given f a.kinds)
     (λ k given.
-    let q = window-args scope f a.exprs a.kinds k form.1 (h (turned a.has_stray form.0)) given in
+    let q = window-args scope f a.exprs a.kinds k form.1 (h (not-true a.has_stray form.0)) given in
     part-bound scope spot (record { expr = V.Window f a.exprs; kind = k }) (record {
       kind = kind-Window f a.exprs scope.schema ∙ q.0;
       fits = λ s. fits-Window f a.exprs (read_scope scope) spot.position ∙ and_from _ _ takes q.1;
