@@ -1,6 +1,6 @@
 -- Calls of aggregates.
-use Rattle.std.proofs.Common.{◌≡◌, ℕ, Bool, true, false, List, [], ◌∷◌, length, refl, sym, ap, ◌∙◌, subst}
-use Rattle.std.specs.Prelude.{◌&&◌, ◌||◌, ◌==◌, not, Option, None, Some, Ok, Err, is_some}
+use Rattle.std.proofs.Common.{◌≡◌, Bool, true, false, List, [], ◌∷◌, length, refl, sym, ap, ◌∙◌, subst}
+use Rattle.std.specs.Prelude.{◌&&◌, ◌||◌, ◌==◌, not, Option, Some, is_some}
 use Rattle.std.specs.List.{list_all}
 use Rattle.std.proofs.lemmas.Bool.{and_parts, and_from, not-false, not-true}
 use Rattle.std.proofs.lemmas.Option.{same_Some}
@@ -23,12 +23,11 @@ use Rattle.kql_meaning.proofs.KindLaws.{kind-Aggregate}
 use Rattle.bind_expr.specs.AggregateCalls.{aggregate_call, aggregate_forms, aggregate_given, aggregate_stands, aggregate_taken, aggregate_typed, best_forms, column_forms, first_kept, list_given, one_given, one_given_if, one_kept, one_kept_if}
 use Rattle.bind_expr.specs.Arguments.{aggregate_position, inner_position}
 use Rattle.bind_expr.specs.Forms.{is_column}
-use Rattle.bind_expr.specs.KindTests.{kind_if, meets}
+use Rattle.bind_expr.specs.KindTests.{meets}
 use Rattle.bind_expr.specs.declared.scope.Scope.{Scope}
-use Rattle.bind_expr.specs.declared.typed.Typed.{Typed}
 use Rattle.bind_expr_laws.specs.Refused.{counts_badly, is_bad_count}
 use Rattle.bind_expr_laws.specs.Scopes.{read_scope}
-use Rattle.bind_expr_laws.proofs.Standing.{counts_well, stands}
+use Rattle.bind_expr_laws.proofs.Standing.{counts_well}
 use Rattle.bind_expr_laws.proofs.Arguments.{HasArgs, args-parts}
 use Rattle.bind_expr_laws.proofs.Constants.{open-fits}
 use Rattle.bind_expr_laws.proofs.Outcomes.{Gives, gives-typed}

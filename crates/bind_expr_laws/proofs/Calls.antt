@@ -1,18 +1,18 @@
 -- Calls of scalar functions.
 use Rattle.std.proofs.Common.{◌≡◌, ℕ, ℤ, Bool, true, false, List, [], ◌∷◌, length, refl, sym, ap, ◌∙◌, subst}
-use Rattle.std.specs.Prelude.{◌&&◌, not, if◌then◌else◌, Option, None, Some, IfSome, Ok, Err, is_some}
-use Rattle.std.proofs.lemmas.Bool.{and_parts, and_from, not-true}
+use Rattle.std.specs.Prelude.{◌&&◌, not, if◌then◌else◌, Option, None, Some, IfSome}
+use Rattle.std.proofs.lemmas.Bool.{and_parts, not-true}
 use Rattle.std.proofs.lemmas.Option.{same_Some}
 use Rattle.kql_cells.specs.Values.{IsMoment, IsOfKind}
 use Rattle.kql_cells.specs.declared.value.Kind.{Kind}
 use Rattle.kql_cells.specs.declared.value.Kind.TheVariants as kind
 use Rattle.kql_cells.specs.declared.value.Value.{Value}
 use Rattle.kql_cells.specs.declared.value.Value.TheVariants as value
-use Rattle.kql_functions.specs.Kinds.{arithmetic_kind, either, result_kind, row, same_kind, same_kinds, time_kind}
+use Rattle.kql_functions.specs.Kinds.{arithmetic_kind, either, result_kind, row, same_kinds, time_kind}
 use Rattle.kql_functions.specs.declared.func.Func.{Func}
 use Rattle.kql_functions.specs.declared.func.Func.TheVariants as func
 use Rattle.kql_functions.specs.declared.func.TimeFunc.TheVariants as time
-use Rattle.kql_scalar_fns.proofs.KindLaws.{same-kind, same-kinds}
+use Rattle.kql_scalar_fns.proofs.KindLaws.{same-kinds}
 use Rattle.kql_lexer.specs.declared.place.Place.{Place}
 use Rattle.kql_scalar_fns.specs.Time.{field_named, period_named}
 use Rattle.kql_bound.specs.Signs.{sign_func}
@@ -23,7 +23,6 @@ use Rattle.kql_bound.specs.declared.expr.ChainSign.{ChainSign}
 use Rattle.kql_bound.specs.declared.expr.ChainSign.TheVariants as sign
 use Rattle.kql_bound.specs.declared.literal.Lit.{Lit}
 use Rattle.kql_meaning.specs.declared.position.Position.{Position}
-use Rattle.kql_meaning.specs.Expressions.{kind_of}
 use Rattle.kql_meaning.specs.FittingExpressions.{first_is_part, first_word, is_callable, literal_of, literal_step, names_part, part_fits, word_in, word_of}
 use Rattle.kql_meaning.specs.Literals.{is_of_kind, is_well_formed, literal_fits}
 use Rattle.kql_meaning.proofs.ExpressionFitLaws.{fits-Literal}
@@ -33,7 +32,6 @@ use Rattle.bind_expr.specs.Calls.{from_moment, has_part, is_part, is_part_litera
 use Rattle.bind_expr.specs.Counts.{count_of, is_count}
 use Rattle.bind_expr.specs.Operands.{typed_call}
 use Rattle.bind_expr.specs.declared.scope.Scope.{Scope}
-use Rattle.bind_expr.specs.declared.typed.Typed.{Typed}
 use Rattle.bind_expr_laws.specs.Scopes.{read_scope}
 use Rattle.bind_expr_laws.proofs.Arguments.{HasArgs, args-parts}
 use Rattle.bind_expr_laws.proofs.Chains.{chain-first, chain-part, chain-push}
@@ -47,13 +45,7 @@ use Rattle.bind_expr_laws.proofs.StandingSteps.{stands-Literal}
 
 literal-roll : (f : BExpr-F BExpr) (l : Lit) → literal_step f ≡ Some l → roll-BExpr f ≡ V.Literal l
 literal-roll (BExpr-F.Literal m) l e = let same : m ≡ l = cc in V.rolls-Literal m ∙ ap V.Literal same
-literal-roll (BExpr-F.Column n) l e = absurd cc
-literal-roll (BExpr-F.Step c) l e = absurd cc
-literal-roll (BExpr-F.Call f args) l e = absurd cc
-literal-roll (BExpr-F.Chain first links) l e = absurd cc
-literal-roll (BExpr-F.Path whole steps) l e = absurd cc
-literal-roll (BExpr-F.Window f args) l e = absurd cc
-literal-roll (BExpr-F.Aggregate f args) l e = absurd cc
+literal-roll _ l e = absurd cc
 
 literal-is : (e : BExpr) (l : Lit) → literal_of e ≡ Some l → e ≡ V.Literal l
 unfolding literal_of

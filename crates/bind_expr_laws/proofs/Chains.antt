@@ -1,13 +1,12 @@
 -- Chains of `+ - * / %`.
-use Rattle.std.proofs.Common.{◌≡◌, ◌⊎◌, inl, inr, Bool, true, false, List, [], ◌∷◌, ◌++◌, map, refl, sym, ap, ◌∙◌, subst}
-use Rattle.std.specs.Prelude.{◌&&◌, if◌then◌else◌, Option, None, Some, IfSome, Ok, Err, fold, is_some}
+use Rattle.std.proofs.Common.{◌≡◌, ◌⊎◌, inl, inr, Bool, true, false, List, [], ◌∷◌, ◌++◌, refl, sym, ◌∙◌, subst}
+use Rattle.std.specs.Prelude.{◌&&◌, if◌then◌else◌, Option, None, Some, IfSome, Ok, fold}
 use Rattle.std.specs.List.{list_all}
 use Rattle.std.proofs.lemmas.Bool.{and_parts, and_from}
 use Rattle.std.proofs.lemmas.List.Folds.{list_all-append}
 use Rattle.kql_cells.specs.declared.value.Kind.{Kind}
 use Rattle.kql_cells.specs.declared.value.Kind.TheVariants as kind
 use Rattle.kql_functions.specs.Kinds.{arithmetic_kind, either, is_dynamic, result_kind, row, same_kinds}
-use Rattle.kql_functions.specs.declared.func.Func.{Func}
 use Rattle.kql_lexer.specs.declared.place.Place.{Place}
 use Rattle.kql_bound.specs.Signs.{sign_func}
 use Rattle.kql_bound.specs.declared.expr.BExpr.{BExpr}
@@ -16,7 +15,7 @@ use Rattle.kql_bound.specs.declared.expr.ChainSign.{ChainSign}
 use Rattle.kql_bound.specs.declared.expr.ChainSign.TheVariants as sign
 use Rattle.kql_cells.specs.declared.schema.Column.{Column}
 use Rattle.kql_meaning.specs.declared.position.Position.{Position}
-use Rattle.kql_meaning.specs.Expressions.{all_known, call_kind, chain_kind, kind_along, kind_of}
+use Rattle.kql_meaning.specs.Expressions.{call_kind, chain_kind, kind_along, kind_of}
 use Rattle.kql_meaning.specs.FittingExpressions.{expr_fits, links_fit}
 use Rattle.kql_meaning.proofs.KindLaws.{kind-Chain}
 use Rattle.kql_meaning.proofs.ExpressionFitLaws.{fits-Chain}

@@ -1,6 +1,6 @@
 -- Constants: they stand rightly everywhere, and have one value, whose literal fits. Where columns may stand, so does every expression.
-use Rattle.std.proofs.Common.{◌≡◌, ◌<◌, ℕ, Bool, true, false, List, [], ◌∷◌, map, refl, sym, ap, ap₂, ◌∙◌, subst, arith}
-use Rattle.std.specs.Prelude.{◌&&◌, ◌||◌, not, if◌then◌else◌, Option, None, Some}
+use Rattle.std.proofs.Common.{◌≡◌, ℕ, true, false, List, [], ◌∷◌, map, refl, sym, ap, ap₂, ◌∙◌, subst, arith}
+use Rattle.std.specs.Prelude.{◌&&◌, not, Option, None, Some}
 use Rattle.std.specs.List.{list_all, list_any}
 use Rattle.std.proofs.lemmas.Bool.{and_parts, and_from, or_parts}
 use Rattle.std.proofs.lemmas.List.Elements.{All-from_recursion}
@@ -37,7 +37,7 @@ use Rattle.bind_expr.proofs.ConstantSteps.{constant-Aggregate, constant-Call, co
 use Rattle.bind_expr.specs.declared.scope.Scope.{Scope}
 use Rattle.bind_expr.specs.declared.typed.Typed.{Typed}
 use Rattle.bind_expr_laws.proofs.Standing.{counts_well, stands}
-use Rattle.bind_expr_laws.specs.Scopes.{IsSoundScope, read_scope}
+use Rattle.bind_expr_laws.specs.Scopes.{read_scope}
 use Rattle.bind_expr_laws.specs.Refused.{has_bad_count, has_bare_column}
 use Rattle.bind_expr_laws.proofs.Parts.{IsPart}
 use Rattle.bind_expr_laws.proofs.RefusedSteps.{bad-Aggregate, bad-Call, bad-Chain, bad-Path, bare-Call, bare-Chain, bare-Column, bare-Path, bare-Step}
@@ -166,9 +166,9 @@ of-layer (BExpr-F.Chain first links) = subst IsFree (sym (V.rolls-Chain first.0 
         value = λ t u i j r s. val-Chain first.0 (map bare_link links) t i r ∙ (ap₂ chain_value (h.value t u i j r s) (steady-signs (map bare_link links) k t u i j r s) ∙ sym (val-Chain first.0 (map bare_link links) u j s));
       };
   grouped = λ a b.
-    let columns = or_parts _ _ (sym (bare-Chain first.0 (map bare_link links)) ∙ a) in
-    let counts = or_parts _ _ (sym (bad-Chain first.0 (map bare_link links)) ∙ b) in
-    stands-Chain position.Group first.0 (map bare_link links) ∙ and_from _ _ (first.1.grouped columns.0 counts.0) (links-grouped links columns.1 counts.1);
+      let columns = or_parts _ _ (sym (bare-Chain first.0 (map bare_link links)) ∙ a) in
+      let counts = or_parts _ _ (sym (bad-Chain first.0 (map bare_link links)) ∙ b) in
+      stands-Chain position.Group first.0 (map bare_link links) ∙ and_from _ _ (first.1.grouped columns.0 counts.0) (links-grouped links columns.1 counts.1);
 })
 of-layer (BExpr-F.Path whole steps) = subst IsFree (sym (V.rolls-Path whole.0 (map bare steps))) (record {
   in_columns = λ at e. stands-Path at whole.0 (map bare steps) ∙ and_from _ _ (whole.1.in_columns at e) (all-open steps at e);
@@ -181,9 +181,9 @@ of-layer (BExpr-F.Path whole steps) = subst IsFree (sym (V.rolls-Path whole.0 (m
         value = λ t u i j r s. val-Path whole.0 (map bare steps) t i r ∙ (ap₂ path_value (h.value t u i j r s) (steady-values (map bare steps) k t u i j r s) ∙ sym (val-Path whole.0 (map bare steps) u j s));
       };
   grouped = λ a b.
-    let columns = or_parts _ _ (sym (bare-Path whole.0 (map bare steps)) ∙ a) in
-    let counts = or_parts _ _ (sym (bad-Path whole.0 (map bare steps)) ∙ b) in
-    stands-Path position.Group whole.0 (map bare steps) ∙ and_from _ _ (whole.1.grouped columns.0 counts.0) (all-grouped steps columns.1 counts.1);
+      let columns = or_parts _ _ (sym (bare-Path whole.0 (map bare steps)) ∙ a) in
+      let counts = or_parts _ _ (sym (bad-Path whole.0 (map bare steps)) ∙ b) in
+      stands-Path position.Group whole.0 (map bare steps) ∙ and_from _ _ (whole.1.grouped columns.0 counts.0) (all-grouped steps columns.1 counts.1);
 })
 of-layer (BExpr-F.Window f args) = subst IsFree (sym (V.rolls-Window f (map bare args))) (record {
   in_columns = λ at e. stands-Window at f (map bare args);

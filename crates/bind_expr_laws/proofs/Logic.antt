@@ -1,12 +1,10 @@
 -- Terms joined by `and` or by `or`.
-use Rattle.std.proofs.Common.{◌≡◌, Bool, true, false, nat_le, List, [], ◌∷◌, ◌++◌, length, refl, ap, sym, ◌∙◌, subst, arith}
-use Rattle.std.specs.Prelude.{◌&&◌, if◌then◌else◌, Option, None, Some, Ok, Err, fold}
-use Rattle.std.specs.List.{list_all}
-use Rattle.std.proofs.lemmas.Bool.{and_parts, and_from, le-leb}
+use Rattle.std.proofs.Common.{◌≡◌, true, nat_le, List, [], ◌∷◌, ◌++◌, length, refl, sym, ◌∙◌, subst, arith}
+use Rattle.std.specs.Prelude.{◌&&◌, Option, None, Some, Ok, fold}
+use Rattle.std.proofs.lemmas.Bool.{and_parts, le-leb}
 use Rattle.kql_cells.specs.declared.value.Kind.{Kind}
 use Rattle.kql_cells.specs.declared.value.Kind.TheVariants as kind
 use Rattle.kql_functions.specs.Kinds.{all_same, logic_kind, result_kind, same_kind, several_of}
-use Rattle.kql_functions.specs.declared.func.Func.{Func}
 use Rattle.kql_functions.specs.declared.func.Func.TheVariants as func
 use Rattle.kql_functions.specs.declared.func.LogicFunc.{LogicFunc}
 use Rattle.kql_functions.specs.declared.func.LogicFunc.TheVariants as logic

@@ -1,6 +1,6 @@
 -- Looks into dynamic values.
-use Rattle.std.proofs.Common.{◌≡◌, Bool, true, false, List, [], ◌∷◌, ◌++◌, refl, sym, ap, ◌∙◌}
-use Rattle.std.specs.Prelude.{◌&&◌, Option, None, Some, Ok, Err, fold, is_some}
+use Rattle.std.proofs.Common.{◌≡◌, true, List, [], ◌∷◌, ◌++◌, refl, sym, ◌∙◌}
+use Rattle.std.specs.Prelude.{Option, None, Some, Ok, fold}
 use Rattle.std.specs.List.{list_all}
 use Rattle.std.proofs.lemmas.Bool.{and_parts, and_from}
 use Rattle.std.proofs.lemmas.List.Folds.{list_all-append}
@@ -11,13 +11,13 @@ use Rattle.kql_lexer.specs.declared.place.Place.{Place}
 use Rattle.kql_bound.specs.declared.expr.BExpr.{BExpr}
 use Rattle.kql_bound.specs.declared.expr.BExpr.TheVariants as V
 use Rattle.kql_meaning.specs.declared.position.Position.{Position}
-use Rattle.kql_meaning.specs.Expressions.{all_known, call_kind, kind_down, kind_of, kinds_in, look, path_kind}
+use Rattle.kql_meaning.specs.Expressions.{call_kind, kind_down, kind_of, kinds_in, look, path_kind}
 use Rattle.kql_meaning.specs.FittingExpressions.{expr_fits}
 use Rattle.kql_meaning.proofs.KindLaws.{kind-Path}
 use Rattle.kql_meaning.proofs.ExpressionFitLaws.{fits-Path}
 use Rattle.bind_expr.specs.Bound.{Look, inside, path_of}
 use Rattle.bind_expr.specs.Outcome.{Outcome, ◌>>=◌}
-use Rattle.bind_expr.specs.Paths.{look_link, looked_as, looked_from, looked_whole, path_closed, path_opened, path_whole, with_look}
+use Rattle.bind_expr.specs.Paths.{looked_as, looked_from, looked_whole, path_closed, path_opened, path_whole, with_look}
 use Rattle.bind_expr.specs.declared.scope.Scope.{Scope}
 use Rattle.bind_expr.specs.declared.typed.Typed.{Typed}
 use Rattle.bind_expr_laws.specs.Scopes.{read_scope}

@@ -1,6 +1,6 @@
 -- Calls of window functions.
-use Rattle.std.proofs.Common.{◌≡◌, ℕ, ℤ, pos, negsuc, Bool, true, false, List, [], ◌∷◌, refl, sym, ap, ◌∙◌, subst}
-use Rattle.std.specs.Prelude.{◌&&◌, not, if◌then◌else◌, int_le, Option, None, Some, Ok, Err, is_some}
+use Rattle.std.proofs.Common.{◌≡◌, ℕ, pos, negsuc, Bool, true, false, List, [], ◌∷◌, refl, sym, ap, ◌∙◌, subst}
+use Rattle.std.specs.Prelude.{◌&&◌, not, Option, None, Some, is_some}
 use Rattle.std.proofs.lemmas.Bool.{and_parts, and_from, not-true}
 use Rattle.std.proofs.lemmas.Option.{same_Some}
 use Rattle.kql_cells.specs.Values.{IsOfKind}
@@ -20,7 +20,7 @@ use Rattle.kql_bound.specs.declared.literal.Lit.{Lit}
 use Rattle.kql_meaning.specs.declared.position.Position.{Position}
 use Rattle.kql_meaning.specs.declared.position.Position.TheVariants as position
 use Rattle.kql_meaning.specs.Expressions.{first_kind, kind_of, kinds_in, window_kind}
-use Rattle.kql_meaning.specs.FittingExpressions.{Checked, checked_args, column_of, column_step, expr_fits, expr_of, has_kind, is_addable, is_constant_of, is_count, is_count_literal, is_count_value, is_fit, is_kind, is_plain_column, is_typed_literal, literal_of, look_fits, restart_fits, row_number_fits, running_sum_fits, stands_in_if_column, takes_columns, takes_window, term_fits, window_fits}
+use Rattle.kql_meaning.specs.FittingExpressions.{Checked, checked_args, column_of, column_step, expr_fits, has_kind, is_addable, is_constant_of, is_count, is_count_literal, is_count_value, is_kind, is_plain_column, is_typed_literal, literal_of, look_fits, restart_fits, row_number_fits, running_sum_fits, stands_in_if_column, takes_columns, takes_window, term_fits, window_fits}
 use Rattle.kql_meaning.specs.Literals.{literal_fits}
 use Rattle.kql_meaning.specs.Tables.{has_column}
 use Rattle.kql_meaning.proofs.ExpressionFitLaws.{exprs-checked, fits-Column, fits-Window}
@@ -28,28 +28,21 @@ use Rattle.kql_meaning.proofs.KindLaws.{kind-Window}
 use Rattle.bind_expr.specs.Arguments.{window_first, window_next}
 use Rattle.bind_expr.specs.Forms.{is_column, is_literal}
 use Rattle.bind_expr.specs.KindTests.{kind_if}
-use Rattle.bind_expr.specs.Windows.{is_distance, is_distance_literal, is_distance_value, look_forms, look_given, number_forms, number_given, running_forms, running_given, window_call, window_forms, window_given, window_serial, window_standing, window_typed}
+use Rattle.bind_expr.specs.Windows.{is_distance, is_distance_literal, is_distance_value, look_forms, look_given, number_forms, number_given, running_given, window_call, window_forms, window_given, window_serial, window_standing, window_typed}
 use Rattle.bind_expr.specs.declared.scope.Scope.{Scope}
-use Rattle.bind_expr.specs.declared.typed.Typed.{Typed}
 use Rattle.bind_expr_laws.specs.Scopes.{read_scope}
 use Rattle.bind_expr_laws.proofs.Arguments.{AreArgs, HasArgs}
 use Rattle.bind_expr_laws.proofs.Calls.{literal-known, literal-parts}
 use Rattle.bind_expr_laws.proofs.Constants.{open-fits}
 use Rattle.bind_expr_laws.proofs.Outcomes.{Gives, gives-typed}
-use Rattle.bind_expr_laws.proofs.Parts.{AreParts, IsBound, IsPart, part-bound}
+use Rattle.bind_expr_laws.proofs.Parts.{IsBound, IsPart, part-bound}
 use Rattle.bind_expr_laws.proofs.Shapes.{Args, Spot}
 
 -- Parts that are columns, and literals.
 
 column-roll : (f : BExpr-F BExpr) (n : List ℕ) → column_step f ≡ Some n → roll-BExpr f ≡ V.Column n
 column-roll (BExpr-F.Column m) n e = let same : m ≡ n = cc in V.rolls-Column m ∙ ap V.Column same
-column-roll (BExpr-F.Literal l) n e = absurd cc
-column-roll (BExpr-F.Step c) n e = absurd cc
-column-roll (BExpr-F.Call f args) n e = absurd cc
-column-roll (BExpr-F.Chain first links) n e = absurd cc
-column-roll (BExpr-F.Path whole steps) n e = absurd cc
-column-roll (BExpr-F.Window f args) n e = absurd cc
-column-roll (BExpr-F.Aggregate f args) n e = absurd cc
+column-roll _ n e = absurd cc
 
 column-is : (e : BExpr) (n : List ℕ) → column_of e ≡ Some n → e ≡ V.Column n
 unfolding column_of
