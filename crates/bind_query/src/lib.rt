@@ -5,5 +5,9 @@
 #![tactic(auto)]
 
 mod bound;
+mod scan;
+mod scan_faults;
+mod scan_records;
 
 pub use bound::{BoundOps, BoundStatements};
+pub use scan::bind_scan;
