@@ -5,4 +5,6 @@ pub mod LetSteps
 pub mod OperatorCodes
 pub mod PipeSteps
 pub mod ReadSteps
+mod RecordLaws
+mod ScanLaws
 pub mod UnionSteps

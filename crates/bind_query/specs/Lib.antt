@@ -6,5 +6,6 @@ pub mod Operators
 pub mod Partition
 pub mod Pipes
 pub mod Scan
+pub mod ScanRecords
 pub mod TablesRead
 pub mod Union

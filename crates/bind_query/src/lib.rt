@@ -13,7 +13,9 @@ mod ops;
 mod partition;
 mod pipes;
 mod query;
-mod stand_ins;
+mod scan;
+mod scan_faults;
+mod scan_records;
 mod tables_read;
 mod union;
 
