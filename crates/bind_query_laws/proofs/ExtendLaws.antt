@@ -20,11 +20,7 @@ use Rattle.bind_operators.specs.Items.{items_bound, twice_items}
 use Rattle.bind_operators.specs.Known.{scope_at}
 use Rattle.bind_operators.proofs.NameLaws.{extended-once}
 use Rattle.bind_query_laws.specs.Sound.{AreColumns, IsSoundKnown, IsSoundOp, read_known}
-use Rattle.bind_query_laws.proofs.Frame.{after-ok, answer-sound, items-sound, ok-same, places-even}
-
-window-free : takes_columns position.Window ≡ true
-unfolding takes_columns
-window-free = refl
+use Rattle.bind_query_laws.proofs.Frame.{after-ok, answer-sound, items-sound, ok-same, places-even, window-free}
 
 pub extend_sound : (operator : Place) (items : List Item) (known : Known) (rows : Shape) (b : BoundOp) → IsSoundKnown known → AreColumns rows.columns → extend_bound operator items known rows ≡ Ok b → (inside : Bool) → IsSoundOp known inside rows b
 unfolding extend_bound extended

@@ -217,6 +217,16 @@ pub scope-reads : (known : Known) (rows : Shape) (at : Position) → read_scope 
 unfolding scope_at
 scope-reads known rows at = refl
 
+-- Columns may stand in these positions.
+
+pub window-free : takes_columns position.Window ≡ true
+unfolding takes_columns
+window-free = refl
+
+pub plain-free : takes_columns position.Plain ≡ true
+unfolding takes_columns
+plain-free = refl
+
 -- Expressions of a type.
 
 of-type-ok : (want : Wanted) (place : Place) (t u : Typed) (b : Bool) → takes want t.kind ≡ b → (if b then Ok t else Err (fault.Refused 404 place)) ≡ Ok u → (b ≡ true) × (t ≡ u)

@@ -5,4 +5,5 @@ pub mod ProjectLaws
 pub mod SortLaws
 pub mod SourceLaws
 pub mod TakeAndCountLaws
+pub mod TreeLaws
 pub mod WhereLaws

@@ -31,7 +31,7 @@ use Rattle.bind_operators.specs.Project.{Renames, chosen, columns_in, columns_wa
 use Rattle.bind_operators.proofs.NameLaws.{among, chosen-once, kept-once, projected-once, without-once}
 use Rattle.bind_operators.proofs.RenameLaws.{renamed-once}
 use Rattle.bind_query_laws.specs.Sound.{AreColumns, IsSoundKnown, IsSoundOp, read_known}
-use Rattle.bind_query_laws.proofs.Frame.{after-ok, answer-sound, items-sound, one-result, places-even, single-name}
+use Rattle.bind_query_laws.proofs.Frame.{after-ok, answer-sound, items-sound, one-result, places-even, single-name, window-free}
 
 -- Items that fit, in whose columns no name stands twice where there is no fault.
 projected-sound : (operator : Place) (known : Known) (inside : Bool) (rows : Shape) (faults : List BindFault) (items : List BItem) (b : BoundOp) → items_fit items rows.columns position.Window ≡ true → (faults ≡ [] → AreColumns (items_columns items rows.columns)) → project_answer operator rows faults items ≡ Ok b → IsSoundOp known inside rows b
@@ -42,10 +42,6 @@ projected-sound operator known inside rows faults items b fits names is =
     (op-Project items (read_known known) inside rows.columns)
     (λ none. (fits, names none))
     is
-
-window-free : takes_columns position.Window ≡ true
-unfolding takes_columns
-window-free = refl
 
 pub project_sound : (operator : Place) (items : List Item) (known : Known) (rows : Shape) (b : BoundOp) → IsSoundKnown known → AreColumns rows.columns → project_bound operator items known rows ≡ Ok b → (inside : Bool) → IsSoundOp known inside rows b
 unfolding project_bound projected

@@ -50,7 +50,7 @@ use Rattle.bind_operators.specs.Wanted.{constant_bound}
 use Rattle.bind_operators.proofs.NameLaws.{projected-once, range-once}
 use Rattle.bind_operators.proofs.PrintSteps.{print-even}
 use Rattle.bind_query_laws.specs.Sound.{AreColumns, IsSoundKnown, IsSoundPlan, columns_of_let, read_known}
-use Rattle.bind_query_laws.proofs.Frame.{after-ok, answer-when, bare-scope-sound, both-none, found, items-push, no-columns, no-fault, not-false, of-all, ok-same, one-result, single-name, some-same, steps-pass, unless-ok, width-some}
+use Rattle.bind_query_laws.proofs.Frame.{after-ok, answer-when, bare-scope-sound, both-none, found, items-push, no-columns, no-fault, not-false, of-all, ok-same, one-result, plain-free, single-name, some-same, steps-pass, unless-ok, width-some}
 
 -- A plan from its source and its operators.
 pub plan-rolled : (s : Source) (ops : List Op) (k : ReadKnown) → plan_columns (roll-Plan (record { source = s; ops = ops })) k ≡ of_columns (source_columns s k) (λ cs. ops_columns ops k false cs)
@@ -141,10 +141,6 @@ range_sound operator r known p sound is =
     ranged-sound operator (text_of r.column) first.0 second.0 third.0 known p third.2
 
 -- Print.
-
-plain-free : takes_columns position.Plain ≡ true
-unfolding takes_columns
-plain-free = refl
 
 print-item : (known : Known) → IsSoundKnown known → (item : Item) (t : Typed) → item_in (scope_at known no_rows position.Plain) item ≡ Ok t → (n : List ℕ) → item_fits (scope_of []) position.Plain (record { names = n ∷ []; expr = t.expr }) ≡ true
 unfolding item_in item_fits scope_at no_rows
