@@ -1,7 +1,10 @@
 pub mod ExtendLaws
 pub mod Frame
+pub mod LetLaws
 pub mod PipeLaws
+pub mod ProgramLaws
 pub mod ProjectLaws
+pub mod ReadLaws
 pub mod SortLaws
 pub mod SourceLaws
 pub mod TakeAndCountLaws
