@@ -1,8 +1,10 @@
 -- Keys, columns that are keys, and tests of lists.
-use Rattle.std.proofs.Common.{◌≡◌, ◌≢◌, ℕ, Bool, true, false, List, [], ◌∷◌, ◌++◌, length, map, refl, sym, ap, ◌∙◌, subst, inl, inr}
-use Rattle.std.specs.Prelude.{not, ◌&&◌, ◌||◌, ◌==◌, Ok, Option, Some, None, bytes_eq, find}
+use Rattle.std.proofs.Common.{◌≡◌, ◌+◌, ℕ, Bool, true, false, List, [], ◌∷◌, ◌++◌, length, map, refl, sym, ap, ◌∙◌, subst, inl, inr}
+use Rattle.std.specs.Prelude.{not, ◌&&◌, ◌||◌, ◌==◌, Ok, Option, Some, None, bytes_eq, find, fold}
 use Rattle.std.specs.List.{AllByRecursion, list_all, list_any}
 use Rattle.std.proofs.lemmas.Bool.{and_from, and_parts, cases_Bool}
+use Rattle.std.proofs.lemmas.List.{length-append}
+use Rattle.std.proofs.lemmas.List.Folds.{list_all-append}
 use Rattle.std.proofs.lemmas.Slice.Eq.{bytes_eq-Decides}
 use Rattle.kql_cells.specs.Named.{column_name}
 use Rattle.kql_cells.specs.declared.schema.Column.{Column}
@@ -13,12 +15,14 @@ use Rattle.kql_bound.specs.declared.parts.BItem.{BItem}
 use Rattle.kql_meaning.specs.declared.position.Position.TheVariants as position
 use Rattle.kql_meaning.specs.Expressions.{column_kind, kind_of}
 use Rattle.kql_meaning.specs.FittingExpressions.{expr_fits, fits_as, has_kind, is_key, scope_of, takes_columns}
-use Rattle.kql_meaning.specs.FittingOperators.{has_its_names, key_item_fits}
+use Rattle.kql_meaning.specs.FittingOperators.{are_distinct, has_its_names, key_item_fits}
 use Rattle.kql_meaning.specs.Tables.{has_column, is_name_among, names_of}
 use Rattle.kql_meaning.proofs.ExpressionFitLaws.{fits-Column}
+use Rattle.kql_meaning.proofs.FirstLaws.{one-of-any}
 use Rattle.kql_meaning.proofs.KindLaws.{kind-Column}
+use Rattle.kql_meaning.proofs.MemberLaws.{Member, Pairwise, of-member}
 use Rattle.kql_syntax.specs.declared.query.Item.{Item}
-use Rattle.bind_expr.specs.Outcome.{Outcome}
+use Rattle.bind_expr.specs.Outcome.{Outcome, ◌>>=◌}
 use Rattle.bind_expr.specs.declared.scope.Scope.{Scope}
 use Rattle.bind_expr.specs.declared.typed.Typed.{Typed}
 use Rattle.bind_operators.specs.declared.items.NamedItems.{NamedItems}
@@ -29,10 +33,10 @@ use Rattle.bind_operators.specs.Items.{column_as, column_item, given_name, items
 use Rattle.bind_operators.specs.Known.{scope_at}
 use Rattle.bind_operators.specs.Places.{item_start}
 use Rattle.bind_operators.specs.Wanted.{takes, typed_bound}
-use Rattle.bind_operators.proofs.NameLaws.{is_even, names-even, neither, of-ok, steps-even}
+use Rattle.bind_operators.proofs.NameLaws.{apart, different, is_even, names-even, neither, of-ok, pairwise-of, steps-even}
 use Rattle.bind_groups.specs.Summarize.{group_key, group_keys_bound}
 use Rattle.bind_query_laws.specs.Sound.{AreColumns, IsSoundKnown}
-use Rattle.bind_query_laws.proofs.Frame.{fits-typed, items-pass, named-well, one-result, scope-sound, single-name, typed-sound}
+use Rattle.bind_query_laws.proofs.Frame.{after-ok, fits-typed, items-pass, named-well, ok-same, one-result, scope-sound, single-name, typed-sound}
 
 -- Tests of lists.
 
@@ -109,3 +113,56 @@ unfolding items_from no_items with_item
 even-from bind n items done is =
     of-ok (items_from bind n items) done is
     (steps-even with_item (λ d item t h. names-even d (item_start item) (names_or_own d.next (given_name item) t.expr) t.expr (number_behind d.next (given_name item) t.expr) h) bind items (Ok (no_items n)) refl)
+
+pub keys-even : (known : Known) (rows : Shape) (n : ℕ) (keys : List Item) (by : NamedItems) → group_keys_bound known rows n keys ≡ Ok by → length by.places ≡ length by.items
+unfolding group_keys_bound
+keys-even known rows n keys by is = even-from (group_key (scope_at known rows position.Plain)) n keys by is
+
+-- What is bound of parts one by one, and put together step by step.
+pub fold-keeps : {L D T : Type 0} (P : D → Type 0) (bind : L → Outcome T) (step : L → D → T → D) → ((l : L) (d : D) (t : T) → bind l ≡ Ok t → P d → P (step l d t)) → (ls : List L) (start : Outcome D) (done : D) → ((d : D) → start ≡ Ok d → P d) → fold (λ before l. before >>= λ d. bind l >>= λ t. Ok (step l d t)) start ls ≡ Ok done → P done
+fold-keeps P bind step keeps [] start done h e = h done e
+fold-keeps P bind step keeps (l ∷ ls) start done h e =
+    fold-keeps P bind step keeps ls (start >>= λ d. bind l >>= λ t. Ok (step l d t)) done
+    (λ d is.
+      let first = after-ok start (λ b. bind l >>= λ t. Ok (step l b t)) d is in
+      let next = after-ok (bind l) (λ t. Ok (step l first.0 t)) d first.2 in
+      subst P (ok-same (step l first.0 next.0) d next.2) (keeps l first.0 next.0 next.1 (h first.0 first.1)))
+    e
+
+pub all-push : {X : Type 0} (p : X → Bool) (xs : List X) (x : X) → list_all p xs ≡ true → p x ≡ true → list_all p (xs ++ x ∷ []) ≡ true
+all-push p xs x h e = list_all-append p xs (x ∷ []) ∙ and_from (list_all p xs) (list_all p (x ∷ [])) h (and_from (p x) true e refl)
+
+pub one-more : {X Y : Type 0} (xs : List X) (x : X) (ys : List Y) (y : Y) → length xs ≡ length ys → length (xs ++ x ∷ []) ≡ length (ys ++ y ∷ [])
+one-more xs x ys y e = length-append xs (x ∷ []) ∙ (ap (λ n. n + 1) e ∙ sym (length-append ys (y ∷ [])))
+
+-- Names that differ.
+among-one : (names : List (List ℕ)) (n : List ℕ) → is_name_among names n ≡ true → Member n names
+unfolding is_name_among
+among-one names n e =
+    let q = one-of-any (λ m. bytes_eq m n) names e in
+    subst (λ m. Member m names) ((bytes_eq-Decides q.0 n).0 q.2) q.1
+
+pub apart-distinct : (names : List (List ℕ)) → Pairwise apart names → are_distinct names ≡ true
+unfolding are_distinct
+apart-distinct [] h = refl
+apart-distinct (n ∷ ns) h =
+    and_from (not (is_name_among ns n)) (are_distinct ns)
+    (elim (cases_Bool (is_name_among ns n)) [
+      | inl t ↦ absurd (of-member (apart n) ns n h.0 (among-one ns n t) refl)
+      | inr f ↦ rw f refl
+    ])
+    (apart-distinct ns h.1)
+
+-- The column of a name, where no other has it.
+column-at : (cs : List Column) (c : Column) → Pairwise different cs → Member c cs → find (λ (d : Column). bytes_eq d.name c.name) cs ≡ Some c
+column-at [] c h m = absurd m
+column-at (d ∷ cs) c h (inl e) =
+    let same : bytes_eq d.name c.name ≡ true = (bytes_eq-Decides d.name c.name).1 (ap column_name e) in
+    rw same (ap (λ x. Some x) e)
+column-at (d ∷ cs) c h (inr m) = elim (cases_Bool (bytes_eq d.name c.name)) [
+  | inl t ↦ absurd (of-member (different d) cs c h.0 m ((bytes_eq-Decides d.name c.name).0 t))
+  | inr f ↦ rw f (column-at cs c h.1 m)
+]
+
+pub column-found : (cs : List Column) (c : Column) → AreColumns cs → Member c cs → find (λ (d : Column). bytes_eq d.name c.name) cs ≡ Some c
+column-found cs c h m = column-at cs c (pairwise-of different cs h) m

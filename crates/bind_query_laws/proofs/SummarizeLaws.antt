@@ -44,11 +44,11 @@ use Rattle.bind_operators.specs.Faults.{fault_if, unless}
 use Rattle.bind_operators.specs.Items.{given_name, names_of_items, names_or_own, twice}
 use Rattle.bind_operators.specs.Known.{scope_at}
 use Rattle.bind_operators.specs.Places.{expr_start}
-use Rattle.bind_groups.specs.Summarize.{group_faults, group_item, group_item_faults, group_items_bound, group_key, group_keys_bound, group_plan, group_scope, groups_bound, has_bad_count, has_bare_column, has_several_columns, several_step, summarize_bound, summarized}
+use Rattle.bind_groups.specs.Summarize.{group_faults, group_item, group_item_faults, group_items_bound, group_keys_bound, group_plan, group_scope, groups_bound, has_bad_count, has_bare_column, has_several_columns, several_step, summarize_bound, summarized}
 use Rattle.bind_groups.proofs.GroupNames.{grouped-once}
 use Rattle.bind_query_laws.specs.Sound.{AreColumns, IsSoundKnown, IsSoundOp, read_known}
 use Rattle.bind_query_laws.proofs.Frame.{after-ok, answer-sound, both-none, items-pass, no-fault, not-false, single-name, unless-ok}
-use Rattle.bind_query_laws.proofs.GroupFrame.{all-but, even-from, keys-sound, or-else}
+use Rattle.bind_query_laws.proofs.GroupFrame.{all-but, even-from, keys-even, keys-sound, or-else}
 
 -- What binding refuses is what the law of expressions asks for.
 
@@ -123,10 +123,6 @@ group-items-sound operator known rows items keys done sound names is fine =
 items-even : (operator : Place) (known : Known) (rows : Shape) (items keys : List Item) (done : NamedItems) → group_items_bound operator known rows items keys ≡ Ok done → length done.places ≡ length done.items
 unfolding group_items_bound
 items-even operator known rows items keys done is = even-from (group_item operator (group_scope known rows keys)) 1 items done is
-
-keys-even : (known : Known) (rows : Shape) (n : ℕ) (keys : List Item) (by : NamedItems) → group_keys_bound known rows n keys ≡ Ok by → length by.places ≡ length by.items
-unfolding group_keys_bound
-keys-even known rows n keys by is = even-from (group_key (scope_at known rows position.Plain)) n keys by is
 
 -- The operator.
 
