@@ -93,17 +93,17 @@ renamed-length taken [] = refl
 renamed-length taken (c ∷ cs) = ap (λ n. n + 1) (renamed-length (taken ++ free_name taken c.name ∷ []) cs)
 
 -- What is shown of the right table stands there as if it were all of it.
+all-shown : (pairs : List OnPair) (left shown : List Column) → AreColumns left → AreColumns shown → length left + length shown ≤ 256 → AreColumns (left ++ renamed (names_of left) shown)
+unfolding both_columns join_columns shown_columns
+all-shown pairs left shown a b small =
+    joined-once (record { kind = join.Inner; lookup = false; «on» = pairs }) left shown (left ++ renamed (names_of left) shown) both_names_differ a b (omega (arith, small)) refl
+
 both-once : (j : JoinPlan) (left right : List Column) → AreColumns left → AreColumns (shown_columns j right) → length (both_columns j left right) ≤ 256 → AreColumns (both_columns j left right)
 unfolding both_columns
 both-once j left right a b small =
     let shown : List Column = shown_columns j right in
     let lengths = length-append left (renamed (names_of left) shown) in
     all-shown j.on left shown a b (omega (arith, small, lengths, renamed-length (names_of left) shown))
-  where
-    all-shown : (pairs : List OnPair) (left shown : List Column) → AreColumns left → AreColumns shown → length left + length shown ≤ 256 → AreColumns (left ++ renamed (names_of left) shown)
-    unfolding both_columns join_columns shown_columns
-    all-shown pairs left shown a b small =
-        joined-once (record { kind = join.Inner; lookup = false; «on» = pairs }) left shown (left ++ renamed (names_of left) shown) both_names_differ a b (omega (arith, small)) refl
 
 shown-once : (j : JoinPlan) (right : List Column) → AreColumns right → AreColumns (shown_columns j right)
 unfolding shown_columns

@@ -62,19 +62,19 @@ type-behind : (c d : Column) (columns : List Column) → bytes_eq d.name c.name 
 unfolding is_of_type_in has_column is_name_among names_of column_kind
 type-behind c d columns f e = rw f e
 
+nothing-there : (c : Column) → is_of_type_in c [] ≡ true
+unfolding is_of_type_in has_column is_name_among names_of
+nothing-there c = refl
+
+found-here : (d c : Column) (more : List Column) → d ≡ c → find (λ (x : Column). bytes_eq x.name c.name) (d ∷ more) ≡ Some c
+found-here d c more e =
+    let same : bytes_eq d.name c.name ≡ true = (bytes_eq-Decides d.name c.name).1 (ap column_name e) in
+    rw same (ap (λ x. Some x) e)
+
 type-of-first : (first more : List Column) (c : Column) → Member c (distinct_by same_name (first ++ more)) → is_of_type_in c first ≡ true
 unfolding distinct_by same_name
-type-of-first [] more c m = none c
-  where
-    none : (c : Column) → is_of_type_in c [] ≡ true
-    unfolding is_of_type_in has_column is_name_among names_of
-    none c = refl
-type-of-first (d ∷ first) more c (inl e) = found-type c (d ∷ first) (here d c first e)
-  where
-    here : (d c : Column) (first : List Column) → d ≡ c → find (λ (x : Column). bytes_eq x.name c.name) (d ∷ first) ≡ Some c
-    here d c first e =
-        let same : bytes_eq d.name c.name ≡ true = (bytes_eq-Decides d.name c.name).1 (ap column_name e) in
-        rw same (ap (λ x. Some x) e)
+type-of-first [] more c m = nothing-there c
+type-of-first (d ∷ first) more c (inl e) = found-type c (d ∷ first) (found-here d c first e)
 type-of-first (d ∷ first) more c (inr m) =
     let q = member-of-filter (λ (y : Column). not (bytes_eq d.name y.name)) (distinct_by same_name (first ++ more)) c m in
     type-behind c d first (not-true (bytes_eq d.name c.name) q.1) (type-of-first first more c q.0)

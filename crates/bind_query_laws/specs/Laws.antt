@@ -1,5 +1,5 @@
 -- What is promised of a query that is bound.
-use Rattle.std.specs.Prelude.{◌≡◌, ℤ, true, List, Option, Ok, All, IfSome}
+use Rattle.std.specs.Prelude.{◌≡◌, All, ℤ, true, List, Option, Ok, IfSome}
 use Rattle.kql_cells.specs.Values.{IsMoment}
 use Rattle.kql_cells.specs.declared.schemas.NamedSchema.{NamedSchema}
 use Rattle.kql_bound.specs.declared.plan.Program.{Program}
