@@ -1,1 +1,20 @@
-mod QueryLaws
+pub mod DistinctLaws
+pub mod ExpandLaws
+pub mod ExtendLaws
+pub mod Frame
+pub mod GroupFrame
+pub mod JoinLaws
+pub mod LetLaws
+pub mod ParseLaws
+pub mod PipeLaws
+pub mod ProgramLaws
+pub mod ProjectLaws
+pub mod ReadLaws
+pub mod SeriesLaws
+pub mod SortLaws
+pub mod SourceLaws
+pub mod SummarizeLaws
+pub mod TakeAndCountLaws
+pub mod TreeLaws
+pub mod UnionLaws
+pub mod WhereLaws

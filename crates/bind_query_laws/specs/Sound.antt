@@ -1,5 +1,5 @@
 -- When what a query may name is sound, and when what is bound is.
-use Rattle.std.specs.Prelude.{◌≡◌, Bool, true, List, Some, IfSome, map}
+use Rattle.std.specs.Prelude.{◌≡◌, All, Bool, true, List, Some, IfSome, map}
 use Rattle.std.specs.List.{list_all}
 use Rattle.kql_cells.specs.Named.{HasDistinctNames, column_name}
 use Rattle.kql_cells.specs.Values.{IsMoment}

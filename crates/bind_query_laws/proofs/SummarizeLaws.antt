@@ -1,0 +1,160 @@
+-- A bound `summarize` is sound.
+use Rattle.std.proofs.Common.{◌≡◌, ℕ, Bool, true, false, List, [], ◌∷◌, ◌++◌, length, refl, sym, ap, ◌∙◌, subst}
+use Rattle.std.specs.Prelude.{not, ◌&&◌, ◌||◌, ◌==◌, Ok, Option, None, Some, is_some, option_map}
+use Rattle.std.specs.List.{list_all, list_any}
+use Rattle.std.proofs.lemmas.Bool.{and_from, eq-eqb}
+use Rattle.std.proofs.lemmas.List.{length-map}
+use Rattle.kql_cells.specs.declared.schema.Column.{Column}
+use Rattle.kql_cells.specs.declared.value.Kind.{Kind}
+use Rattle.kql_functions.specs.declared.aggregate.Aggregate.{Aggregate}
+use Rattle.kql_functions.specs.declared.aggregate.Aggregate.TheVariants as aggregate
+use Rattle.kql_lexer.specs.declared.place.Place.{Place}
+use Rattle.kql_bound.specs.declared.expr.BExpr.{BExpr, out-BExpr}
+use Rattle.kql_bound.specs.declared.expr.BExpr.TheOpen.{BExpr-F}
+use Rattle.kql_bound.specs.declared.parts.BItem.{BItem}
+use Rattle.kql_bound.specs.declared.parts.GroupPlan.{GroupPlan}
+use Rattle.kql_bound.specs.declared.plan.Op.TheVariants as op
+use Rattle.kql_meaning.specs.declared.position.Position.TheVariants as position
+use Rattle.kql_meaning.specs.FittingExpressions.{call_or_expr_fits, scope_of}
+use Rattle.kql_meaning.specs.FittingOperators.{group_item_fits, has_its_names, key_item_fits, summarize_fits}
+use Rattle.kql_meaning.specs.Results.{aggregate_result_kinds, has_one_result, result_kinds, result_kinds_step, typed}
+use Rattle.kql_meaning.specs.Summarize.{group_columns}
+use Rattle.kql_meaning.proofs.OperatorFitLaws.{op-Summarize}
+use Rattle.kql_syntax.specs.declared.query.Groups.{Groups}
+use Rattle.kql_syntax.specs.declared.query.Groups.TheVariants as groups
+use Rattle.kql_syntax.specs.declared.query.Item.{Item}
+use Rattle.kql_syntax.specs.declared.query.Summarize.{Summarize}
+use Rattle.kql_syntax.specs.declared.tree.Name.{Name}
+use Rattle.item_names.specs.ItemNames.{item_names}
+use Rattle.item_names.proofs.NameSteps.{each_column_has_its_name}
+use Rattle.bind_expr.specs.Bound.{bound_expr}
+use Rattle.bind_expr.specs.Names.{text_of}
+use Rattle.bind_expr.specs.Outcome.{◌>>=◌}
+use Rattle.bind_expr.specs.declared.scope.Scope.{Scope}
+use Rattle.bind_expr.specs.declared.typed.Typed.{Typed}
+use Rattle.bind_expr_laws.specs.Laws.{IsSound}
+use Rattle.bind_expr_laws.specs.Refused.{has_bad_count as counts_wrong, has_bare_column as is_bare}
+use Rattle.bind_expr_laws.specs.Scopes.{IsSoundScope}
+use Rattle.bind_expr_laws.proofs.BoundLaws.{bound-sound}
+use Rattle.bind_operators.specs.declared.bound.BoundOp.{BoundOp}
+use Rattle.bind_operators.specs.declared.items.NamedItems.{NamedItems}
+use Rattle.bind_operators.specs.declared.known.Known.{Known}
+use Rattle.bind_operators.specs.declared.shape.Shape.{Shape}
+use Rattle.bind_operators.specs.Faults.{fault_if, unless}
+use Rattle.bind_operators.specs.Items.{given_name, names_of_items, names_or_own, twice}
+use Rattle.bind_operators.specs.Known.{scope_at}
+use Rattle.bind_operators.specs.Places.{expr_start}
+use Rattle.bind_groups.specs.Summarize.{group_faults, group_item, group_item_faults, group_items_bound, group_keys_bound, group_plan, group_scope, groups_bound, has_bad_count, has_bare_column, has_several_columns, several_step, summarize_bound, summarized}
+use Rattle.bind_groups.proofs.GroupNames.{grouped-once}
+use Rattle.bind_query_laws.specs.Sound.{AreColumns, IsSoundKnown, IsSoundOp, read_known}
+use Rattle.bind_query_laws.proofs.Frame.{after-ok, answer-sound, both-none, items-pass, no-fault, not-false, single-name, unless-ok}
+use Rattle.bind_query_laws.proofs.GroupFrame.{all-but, even-from, keys-even, keys-sound, or-else}
+
+-- What binding refuses is what the law of expressions asks for.
+
+same-bare : (e : BExpr) → is_bare e ≡ has_bare_column e
+unfolding is_bare has_bare_column
+same-bare e = refl
+
+same-count : (e : BExpr) → counts_wrong e ≡ has_bad_count e
+unfolding counts_wrong has_bad_count
+same-count e = refl
+
+-- Items.
+
+group-scope-sound : (known : Known) (rows : Shape) (keys : List Item) → IsSoundKnown known → AreColumns rows.columns → IsSoundScope (group_scope known rows keys)
+unfolding group_scope scope_at
+group-scope-sound known rows keys sound names = record { names = names; consts = sound.consts; records = tt; moment = sound.moment }
+
+kinds-one : (f : Aggregate) (args : List BExpr) (one : Kind) (columns : List Column) → has_one_result f args ≡ true → length (aggregate_result_kinds f args one columns) == 1 ≡ true
+unfolding has_one_result aggregate_result_kinds
+kinds-one aggregate.ArgMax args one columns e = rw (length-map args (λ a. typed a columns)) e
+kinds-one aggregate.ArgMin args one columns e = rw (length-map args (λ a. typed a columns)) e
+kinds-one aggregate.TakeAny args one columns e = rw (length-map args (λ a. typed a columns)) e
+kinds-one _ args one columns e = refl
+
+several-layer : (y : BExpr-F BExpr) (one : Kind) (columns : List Column) → several_step y ≡ false → length (result_kinds_step y one columns) == 1 ≡ true
+several-layer (BExpr-F.Aggregate f args) one columns e = kinds-one f args one columns (not-false (has_one_result f args) e)
+several-layer (BExpr-F.Literal l) one columns e = refl
+several-layer (BExpr-F.Column n) one columns e = refl
+several-layer (BExpr-F.Step c) one columns e = refl
+several-layer (BExpr-F.Call f args) one columns e = refl
+several-layer (BExpr-F.Chain first links) one columns e = refl
+several-layer (BExpr-F.Path whole steps) one columns e = refl
+several-layer (BExpr-F.Window f args) one columns e = refl
+
+single-result : (e : BExpr) (columns : List Column) → has_several_columns e ≡ false → length (result_kinds e columns) == 1 ≡ true
+unfolding has_several_columns result_kinds
+single-result e columns h = several-layer (out-BExpr e) (typed e columns) columns h
+
+group-names : (o : Option Name) (k : ℕ) (e : BExpr) (columns : List Column) → is_some o && has_several_columns e ≡ false → has_its_names (record { names = names_or_own k (option_map text_of o) e; expr = e }) columns ≡ true
+unfolding has_its_names names_or_own
+group-names None k e columns h = eq-eqb (length (item_names e k)) (length (result_kinds e columns)) (each_column_has_its_name e k columns)
+group-names (Some n) k e columns h = single-name (text_of n) e columns (single-result e columns h)
+
+-- An item fits, but where it counts badly.
+passes : List Column → BItem → Bool
+passes columns b = has_bad_count b.expr || group_item_fits columns b
+
+item-passes : (operator : Place) (known : Known) (rows : Shape) (keys : List Item) → IsSoundKnown known → AreColumns rows.columns → (item : Item) (t : Typed) (k : ℕ) → group_item operator (group_scope known rows keys) item ≡ Ok t → passes rows.columns (record { names = names_or_own k (given_name item) t.expr; expr = t.expr }) ≡ true
+unfolding passes group_item group_item_faults group_item_fits group_scope scope_at given_name
+item-passes operator known rows keys sound names item t k is =
+    let scope : Scope = group_scope known rows keys in
+    let first = after-ok (bound_expr item.value scope) (λ (u : Typed). unless (group_item_faults operator item u) u) t is in
+    let parts = unless-ok (group_item_faults operator item first.0) first.0 t first.2 in
+    let h : IsSound scope t = subst (IsSound scope) parts.1 (bound-sound item.value scope first.0 (group-scope-sound known rows keys sound names) first.1) in
+    let none : group_item_faults operator item t ≡ [] = subst (λ (u : Typed). group_item_faults operator item u ≡ []) parts.1 parts.0 in
+    let two = both-none (fault_if (has_bare_column t.expr) 403 operator) (fault_if (is_some item.name && has_several_columns t.expr) 403 (expr_start item.value)) none in
+    let bare = no-fault (has_bare_column t.expr) 403 operator two.0 in
+    let one = no-fault (is_some item.name && has_several_columns t.expr) 403 (expr_start item.value) two.1 in
+    let b : BItem = record { names = names_or_own k (given_name item) t.expr; expr = t.expr } in
+    or-else (has_bad_count t.expr) (group_item_fits rows.columns b)
+    (λ fine. and_from (call_or_expr_fits t.expr (scope_of rows.columns) position.Group) (has_its_names b rows.columns)
+    (h.group refl (same-bare t.expr ∙ bare) (same-count t.expr ∙ fine))
+    (group-names item.name k t.expr rows.columns one))
+
+group-items-sound : (operator : Place) (known : Known) (rows : Shape) (items keys : List Item) (done : NamedItems) → IsSoundKnown known → AreColumns rows.columns → group_items_bound operator known rows items keys ≡ Ok done → list_any (λ (b : BItem). has_bad_count b.expr) done.items ≡ false → list_all (group_item_fits rows.columns) done.items ≡ true
+unfolding group_items_bound passes
+group-items-sound operator known rows items keys done sound names is fine =
+    all-but (λ (b : BItem). has_bad_count b.expr) (group_item_fits rows.columns) done.items
+    (items-pass (passes rows.columns) (group_item operator (group_scope known rows keys)) 1 items done (item-passes operator known rows keys sound names) is)
+    fine
+
+items-even : (operator : Place) (known : Known) (rows : Shape) (items keys : List Item) (done : NamedItems) → group_items_bound operator known rows items keys ≡ Ok done → length done.places ≡ length done.items
+unfolding group_items_bound
+items-even operator known rows items keys done is = even-from (group_item operator (group_scope known rows keys)) 1 items done is
+
+-- The operator.
+
+bad-none : (operator : Place) (items keys : NamedItems) → group_faults operator items keys ≡ [] → list_any (λ (b : BItem). has_bad_count b.expr) items.items ≡ false
+unfolding group_faults
+bad-none operator items keys none =
+    no-fault (list_any (λ (b : BItem). has_bad_count b.expr) items.items) 414 operator
+    (both-none (twice [] (items.places ++ keys.places) (names_of_items items.items ++ names_of_items keys.items)) (fault_if (list_any (λ (b : BItem). has_bad_count b.expr) items.items) 414 operator) none).1
+
+groups_sound : (operator : Place) (items keys : List Item) (known : Known) (rows : Shape) (b : BoundOp) → IsSoundKnown known → AreColumns rows.columns → groups_bound operator items keys known rows ≡ Ok b → (inside : Bool) → IsSoundOp known inside rows b
+unfolding groups_bound summarized summarize_fits
+groups_sound operator items keys known rows b sound names is inside =
+    let first = after-ok (group_items_bound operator known rows items keys) (λ (done : NamedItems). group_keys_bound known rows done.next keys >>= λ by. summarized operator rows done by) b is in
+    let done : NamedItems = first.0 in
+    let next = after-ok (group_keys_bound known rows done.next keys) (summarized operator rows done) b first.2 in
+    let by : NamedItems = next.0 in
+    let plan : GroupPlan = group_plan done by in
+    answer-sound known inside rows operator (group_faults operator done by) (op.Summarize plan) (group_columns plan rows.columns) false b
+    (summarize_fits plan rows.columns)
+    (op-Summarize plan (read_known known) inside rows.columns)
+    (λ none. (
+      and_from (list_all (group_item_fits rows.columns) done.items) (list_all (key_item_fits rows.columns) by.items)
+      (group-items-sound operator known rows items keys done sound names first.1 (bad-none operator done by none))
+      (keys-sound known rows done.next keys by sound names next.1),
+      grouped-once operator done by rows.columns (items-even operator known rows items keys done first.1) (keys-even known rows done.next keys by next.1) none,
+    ))
+    next.2
+
+of-groups : (operator : Place) (g : Groups) (s : Summarize) (known : Known) (rows : Shape) (b : BoundOp) → s.groups ≡ g → IsSoundKnown known → AreColumns rows.columns → summarize_bound operator s known rows ≡ Ok b → (inside : Bool) → IsSoundOp known inside rows b
+unfolding summarize_bound
+of-groups operator (groups.Aggregates items keys) s known rows b e sound names is inside = groups_sound operator items keys known rows b sound names (rw e at is) inside
+of-groups operator (groups.Keys keys) s known rows b e sound names is inside = groups_sound operator [] keys known rows b sound names (rw e at is) inside
+
+pub summarize_sound : (operator : Place) (s : Summarize) (known : Known) (rows : Shape) (b : BoundOp) → IsSoundKnown known → AreColumns rows.columns → summarize_bound operator s known rows ≡ Ok b → (inside : Bool) → IsSoundOp known inside rows b
+summarize_sound operator s known rows b sound names is inside = of-groups operator s.groups s known rows b refl sound names is inside
