@@ -1,5 +1,5 @@
 -- A bound `join`, and a bound `lookup`, is sound.
-use Rattle.std.proofs.Common.{◌≡◌, ◌≤◌, ◌+◌, ℕ, Bool, true, false, List, [], ◌∷◌, ◌++◌, length, map, refl, sym, ap, ◌∙◌, inl, inr, arith}
+use Rattle.std.proofs.Common.{◌≡◌, ◌≤◌, ◌+◌, ℕ, suc, Bool, true, false, List, [], ◌∷◌, ◌++◌, length, map, refl, sym, ap, ◌∙◌, inl, inr, arith}
 use Rattle.std.specs.Prelude.{nat_lt, not, ◌&&◌, ◌||◌, Ok, Option, None, Some}
 use Rattle.std.specs.List.{list_all}
 use Rattle.std.proofs.lemmas.Bool.{and_from, cases_Bool}
@@ -90,7 +90,7 @@ answer-width operator faults o columns serial b e =
 renamed-length : (taken : List (List ℕ)) (cs : List Column) → length (renamed taken cs) ≡ length cs
 unfolding renamed
 renamed-length taken [] = refl
-renamed-length taken (c ∷ cs) = ap (λ n. n + 1) (renamed-length (taken ++ free_name taken c.name ∷ []) cs)
+renamed-length taken (c ∷ cs) = ap suc (renamed-length (taken ++ free_name taken c.name ∷ []) cs)
 
 -- What is shown of the right table stands there as if it were all of it.
 all-shown : (pairs : List OnPair) (left shown : List Column) → AreColumns left → AreColumns shown → length left + length shown ≤ 256 → AreColumns (left ++ renamed (names_of left) shown)

@@ -1,5 +1,5 @@
 -- A bound `union` is sound.
-use Rattle.std.proofs.Common.{◌≡◌, ◌+◌, ℕ, Bool, true, false, List, [], ◌∷◌, ◌++◌, filter, length, map, refl, sym, ap, ◌∙◌, subst, inl, inr, arith}
+use Rattle.std.proofs.Common.{◌≡◌, ℕ, suc, Bool, true, false, List, [], ◌∷◌, ◌++◌, filter, length, map, refl, sym, ap, ◌∙◌, subst, inl, inr, arith}
 use Rattle.std.specs.Prelude.{not, ◌&&◌, ◌||◌, Ok, Option, None, Some, bytes_eq, find}
 use Rattle.std.specs.List.{AllByRecursion, list_all}
 use Rattle.std.proofs.lemmas.Bool.{and_from, and_parts, cases_Bool}
@@ -152,7 +152,7 @@ pub tables-sound : (known : Known) (inside : Bool) (tables : List BindsArg) (oth
 unfolding tables_bound
 tables-sound known inside tables others sound is =
     each-relates (λ (t : BindsArg). t.1 known inside) (AreTables known inside) (λ s. (tt, refl))
-    (λ t p ts ps e h s. let rest = h s.1 in ((s.0 p e, rest.0), ap (λ n. n + 1) rest.1))
+    (λ t p ts ps e h s. let rest = h s.1 in ((s.0 p e, rest.0), ap suc rest.1))
     tables others is sound
 
 pub union_sound : (operator : Place) (u : UnionParts) (known : Known) (inside : Bool) (rows : Shape) (b : BoundOp) → AreColumns rows.columns → AllByRecursion (SoundArg known inside) u.1 → union_bound operator u known inside rows ≡ Ok b → IsSoundOp known inside rows b
