@@ -65,17 +65,17 @@ step-names-fresh before (s ∷ ss) e =
     (no-fault (is_name_among before (step_name s)) 417 (name_place s.name) two.0, step-names-fresh (before ++ step_name s ∷ []) ss two.1)
 
 abbrev AreDeclared : List (List ℕ) → List Assignment → Type 0
-AreDeclared declared as = AllByRecursion (λ (a : Assignment). is_name_among declared (assigned_name a) ≡ true) as
+AreDeclared declared xs = AllByRecursion (λ (a : Assignment). is_name_among declared (assigned_name a) ≡ true) xs
 
-assigned-well : (declared done : List (List ℕ)) (as : List Assignment) → assignment_faults declared done as ≡ [] → AreDeclared declared as × Fresh done (map assigned_name as)
+assigned-well : (declared done : List (List ℕ)) (xs : List Assignment) → assignment_faults declared done xs ≡ [] → AreDeclared declared xs × Fresh done (map assigned_name xs)
 unfolding assignment_faults
 assigned-well declared done [] e = (tt, tt)
-assigned-well declared done (a ∷ as) e =
+assigned-well declared done (a ∷ xs) e =
     let n : List ℕ = assigned_name a in
     let bad : Bool = not (is_name_among declared n) || is_name_among done n in
-    let two = both-none (fault_if bad 413 (name_place a.0)) (assignment_faults declared (done ++ n ∷ []) as) e in
+    let two = both-none (fault_if bad 413 (name_place a.0)) (assignment_faults declared (done ++ n ∷ []) xs) e in
     let both = neither (not (is_name_among declared n)) (is_name_among done n) (no-fault bad 413 (name_place a.0) two.0) in
-    let rest = assigned-well declared (done ++ n ∷ []) as two.1 in
+    let rest = assigned-well declared (done ++ n ∷ []) xs two.1 in
     ((not-false (is_name_among declared n) both.0, rest.0), (both.1, rest.1))
 
 abbrev AreSteps : List (List ℕ) → List Step → Type 0
@@ -164,11 +164,11 @@ module _ (scope : Scope) (declared : List BoundDecl) (sound : IsSoundScope scope
       subst (IsSet a) (ok-same (assignment_item a first.0) b first.2) (typed-set a first.0 q.0 q.1 h.0 same)
 
   abbrev AreSets : List Assignment → List BItem → Type 0
-  AreSets as bs = AreDeclared (map decl_name declared) as → (list_all (set_fits (map decl_column declared) (read_scope scope)) bs ≡ true) × (items_names bs ≡ map assigned_name as)
+  AreSets xs bs = AreDeclared (map decl_name declared) xs → (list_all (set_fits (map decl_column declared) (read_scope scope)) bs ≡ true) × (items_names bs ≡ map assigned_name xs)
 
-  sets-more : (a : Assignment) (b : BItem) (as : List Assignment) (bs : List BItem) → assignment_bound scope declared a ≡ Ok b → AreSets as bs → AreSets (a ∷ as) (b ∷ bs)
+  sets-more : (a : Assignment) (b : BItem) (xs : List Assignment) (bs : List BItem) → assignment_bound scope declared a ≡ Ok b → AreSets xs bs → AreSets (a ∷ xs) (b ∷ bs)
   unfolding items_names
-  sets-more a b as bs e h all =
+  sets-more a b xs bs e h all =
       let q = set-ok a b all.0 e in
       let rest = h all.1 in
       (and_from (set_fits (map decl_column declared) (read_scope scope) b) (list_all (set_fits (map decl_column declared) (read_scope scope)) bs) q.0 rest.0,
@@ -178,8 +178,8 @@ module _ (scope : Scope) (declared : List BoundDecl) (sound : IsSoundScope scope
   unfolding items_names
   sets-none all = (refl, refl)
 
-  sets-ok : (as : List Assignment) (bs : List BItem) → each_bound (assignment_bound scope declared) as ≡ Ok bs → AreSets as bs
-  sets-ok as bs is = each-relates (assignment_bound scope declared) AreSets sets-none sets-more as bs is
+  sets-ok : (xs : List Assignment) (bs : List BItem) → each_bound (assignment_bound scope declared) xs ≡ Ok bs → AreSets xs bs
+  sets-ok xs bs is = each-relates (assignment_bound scope declared) AreSets sets-none sets-more xs bs is
 
   abbrev IsStep : Step → ScanStep → Type 0
   IsStep s y = (scan_step_fits (map decl_column declared) (read_scope scope) y ≡ true) × (y.name ≡ step_name s)
