@@ -2,7 +2,7 @@
 use Rattle.std.proofs.Common.{◌≡◌, ℕ, List, [], ◌∷◌, ◌++◌, refl, sym, ap, ◌∙◌, subst, map}
 use Rattle.std.specs.Prelude.{All, Bool, true, false, ◌&&◌, ℤ, IfSome, Ok, Option, None, Some, fold, option_and_then, option_map}
 use Rattle.std.specs.List.{list_all}
-use Rattle.std.proofs.lemmas.Bool.{and_from}
+use Rattle.std.proofs.lemmas.Bool.{and_from, and_parts}
 use Rattle.std.proofs.lemmas.List.{map-append}
 use Rattle.std.proofs.lemmas.List.Elements.{All-nil, All-push}
 use Rattle.std.proofs.lemmas.List.Folds.{list_all-append}
@@ -37,6 +37,7 @@ use Rattle.bind_query.specs.declared.bound.BoundStatements.{BoundStatements}
 use Rattle.bind_query.specs.Bound.{known_at_first, lets_bound, next_let, no_statements}
 use Rattle.bind_query.specs.Lets.{body_bound, constant_let, constant_named, let_bound, let_faults, name_alone, name_let, named_constant, named_table, pipe_let, table_let, with_constant, with_table}
 use Rattle.bind_query.specs.Operators.{pipe_bound}
+use Rattle.bind_query_laws.specs.Patterns.{body_patterns, let_patterns, pipe_patterns}
 use Rattle.bind_query_laws.specs.Sound.{AreColumns, IsSoundKnown, IsSoundPlan, columns_of_let, read_known}
 use Rattle.bind_query_laws.proofs.Frame.{after-ok, bare-scope-sound, constant-sound, no-columns, ok-same, unless-ok, wanted-sound}
 use Rattle.bind_query_laws.proofs.SourceLaws.{named_sound}
@@ -127,34 +128,35 @@ name-let schemas statement n done after other (Some p) h is e =
 name-let schemas statement n done after other None h is e =
     constant-let schemas n done after (constant_named statement done.known other) h (λ l same. constant-named statement done.known other l h.known same) e
 
-pipe-let : SoundOthers → (schemas : List NamedSchema) (statement : Place) (n : List ℕ) (done after : BoundStatements) (p : Pipe) (o : Option Name) → IsSoundStatements schemas done → pipe_let statement n done p o ≡ Ok after → IsSoundStatements schemas after
-pipe-let others schemas statement n done after p None h e =
-    table-let schemas n done after (pipe_bound p done.known false) h (λ b same. pipe_sound others p done.known false b h.known same) e
-pipe-let others schemas statement n done after p (Some other) h e = name-let schemas statement n done after other (table_named done.known (text_of other)) h refl e
+pipe-let : SoundOthers → (schemas : List NamedSchema) (statement : Place) (n : List ℕ) (done after : BoundStatements) (p : Pipe) (o : Option Name) → pipe_patterns p ≡ true → IsSoundStatements schemas done → pipe_let statement n done p o ≡ Ok after → IsSoundStatements schemas after
+pipe-let others schemas statement n done after p None some h e =
+    table-let schemas n done after (pipe_bound p done.known false) h (λ b same. pipe_sound others p some done.known false b h.known same) e
+pipe-let others schemas statement n done after p (Some other) some h e = name-let schemas statement n done after other (table_named done.known (text_of other)) h refl e
 
-body-let : SoundOthers → (schemas : List NamedSchema) (statement : Place) (n : List ℕ) (b : LetBody) (done after : BoundStatements) → IsSoundStatements schemas done → body_bound statement n b done ≡ Ok after → IsSoundStatements schemas after
+body-let : SoundOthers → (schemas : List NamedSchema) (statement : Place) (n : List ℕ) (b : LetBody) (done after : BoundStatements) → body_patterns b ≡ true → IsSoundStatements schemas done → body_bound statement n b done ≡ Ok after → IsSoundStatements schemas after
 unfolding body_bound
-body-let others schemas statement n (body.Pipe p) done after h e = pipe-let others schemas statement n done after p (name_alone p) h e
-body-let others schemas statement n (body.Expr x) done after h e =
+body-let others schemas statement n (body.Pipe p) done after some h e = pipe-let others schemas statement n done after p (name_alone p) some h e
+body-let others schemas statement n (body.Expr x) done after some h e =
     constant-let schemas n done after (constant_bound statement wanted.Any done.known no_rows x) h
     (λ l same. (constant-sound statement wanted.Any done.known no_rows x l h.known bare-columns same).0)
     e
 
-let-sound : SoundOthers → (schemas : List NamedSchema) (l : Let) (done after : BoundStatements) → IsSoundStatements schemas done → let_bound l done ≡ Ok after → IsSoundStatements schemas after
+let-sound : SoundOthers → (schemas : List NamedSchema) (l : Let) (done after : BoundStatements) → let_patterns l ≡ true → IsSoundStatements schemas done → let_bound l done ≡ Ok after → IsSoundStatements schemas after
 unfolding let_bound
-let-sound others schemas l done after h e =
+let-sound others schemas l done after some h e =
     let first = after-ok (unless (let_faults done.known l.name) done) (body_bound l.place (text_of l.name) l.body) after e in
     let same = (unless-ok (let_faults done.known l.name) done first.0 first.1).1 in
-    body-let others schemas l.place (text_of l.name) l.body first.0 after (subst (IsSoundStatements schemas) same h) first.2
+    body-let others schemas l.place (text_of l.name) l.body first.0 after some (subst (IsSoundStatements schemas) same h) first.2
 
 -- Statements one after another.
 
-lets-along : SoundOthers → (schemas : List NamedSchema) (lets : List Let) (start : Outcome BoundStatements) (done : BoundStatements) → ((d : BoundStatements) → start ≡ Ok d → IsSoundStatements schemas d) → fold (λ before (l : Let). next_let l before) start lets ≡ Ok done → IsSoundStatements schemas done
+lets-along : SoundOthers → (schemas : List NamedSchema) (lets : List Let) (start : Outcome BoundStatements) (done : BoundStatements) → list_all let_patterns lets ≡ true → ((d : BoundStatements) → start ≡ Ok d → IsSoundStatements schemas d) → fold (λ before (l : Let). next_let l before) start lets ≡ Ok done → IsSoundStatements schemas done
 unfolding next_let
-lets-along others schemas [] start done h e = h done e
-lets-along others schemas (l ∷ ls) start done h e =
-    lets-along others schemas ls (next_let l start) done
-    (λ d is. let first = after-ok start (let_bound l) d is in let-sound others schemas l first.0 d (h first.0 first.1) first.2)
+lets-along others schemas [] start done some h e = h done e
+lets-along others schemas (l ∷ ls) start done some h e =
+    let parts = and_parts (let_patterns l) (list_all let_patterns ls) some in
+    lets-along others schemas ls (next_let l start) done parts.1
+    (λ d is. let first = after-ok start (let_bound l) d is in let-sound others schemas l first.0 d parts.0 (h first.0 first.1) first.2)
     e
 
 first-known : (schemas : List NamedSchema) (moment : Option ℤ) → All (λ (s : NamedSchema). AreColumns s.schema) schemas → IfSome moment IsMoment → IsSoundStatements schemas (no_statements (known_at_first schemas moment))
@@ -170,9 +172,9 @@ first-known schemas moment tables ranged = record {
   lets = refl;
 }
 
-pub lets_sound : SoundOthers → (schemas : List NamedSchema) (moment : Option ℤ) (lets : List Let) (done : BoundStatements) → All (λ (s : NamedSchema). AreColumns s.schema) schemas → IfSome moment IsMoment → lets_bound lets (known_at_first schemas moment) ≡ Ok done → IsSoundStatements schemas done
+pub lets_sound : SoundOthers → (schemas : List NamedSchema) (moment : Option ℤ) (lets : List Let) (done : BoundStatements) → list_all let_patterns lets ≡ true → All (λ (s : NamedSchema). AreColumns s.schema) schemas → IfSome moment IsMoment → lets_bound lets (known_at_first schemas moment) ≡ Ok done → IsSoundStatements schemas done
 unfolding lets_bound
-lets_sound others schemas moment lets done tables ranged e =
-    lets-along others schemas lets (Ok (no_statements (known_at_first schemas moment))) done
+lets_sound others schemas moment lets done some tables ranged e =
+    lets-along others schemas lets (Ok (no_statements (known_at_first schemas moment))) done some
     (λ d is. subst (IsSoundStatements schemas) (ok-same (no_statements (known_at_first schemas moment)) d is) (first-known schemas moment tables ranged))
     e

@@ -1,7 +1,8 @@
 -- A bound program fits, where the operators over groups and tables are sound.
 use Rattle.std.proofs.Common.{◌≡◌, ℕ, List, [], ◌∷◌, ◌++◌, refl, sym, ap, ◌∙◌, subst, map}
 use Rattle.std.specs.Prelude.{All, Bool, true, false, ◌&&◌, ℤ, IfSome, Ok, Option, None, Some, is_some, option_and_then}
-use Rattle.std.proofs.lemmas.Bool.{and_from}
+use Rattle.std.specs.List.{list_all}
+use Rattle.std.proofs.lemmas.Bool.{and_from, and_parts}
 use Rattle.std.proofs.lemmas.List.{map-append}
 use Rattle.std.proofs.lemmas.Grind.{flat_map-append}
 use Rattle.kql_cells.specs.Values.{IsMoment}
@@ -19,6 +20,7 @@ use Rattle.bind_query.specs.Bound.{bound, known_at_first, lets_bound, program_of
 use Rattle.bind_query.specs.Operators.{pipe_bound}
 use Rattle.bind_query.specs.TablesRead.{TableNames, all_of, plan_tables, tables_read}
 use Rattle.bind_query_laws.specs.Laws.{BoundFits}
+use Rattle.bind_query_laws.specs.Patterns.{has_patterns, let_patterns, pipe_patterns}
 use Rattle.bind_query_laws.specs.Sound.{AreColumns, IsSoundPlan, columns_of_let, read_known}
 use Rattle.bind_query_laws.proofs.Frame.{after-ok, ok-same}
 use Rattle.bind_query_laws.proofs.LetLaws.{IsSoundStatements, lets_sound}
@@ -58,11 +60,12 @@ program-fits schemas done main h g =
     (some-is (option_and_then (λ (ls : List (List Column)). plan_columns main.plan (known_of tables ls)) (lets_columns done.lets tables)) main.after.columns whole)
 
 pub bound_fits : SoundOthers → BoundFits
-unfolding bound
-bound_fits others q schemas moment p tables ranged is =
+unfolding bound has_patterns
+bound_fits others q schemas moment p some tables ranged is =
+    let parts = and_parts (list_all let_patterns q.lets) (pipe_patterns q.main) some in
     let first = after-ok (lets_bound q.lets (known_at_first schemas moment)) (λ (done : BoundStatements). pipe_bound q.main done.known false >>= λ main. Ok (program_of schemas done main)) p is in
     let done : BoundStatements = first.0 in
     let next = after-ok (pipe_bound q.main done.known false) (λ (main : BoundPlan). Ok (program_of schemas done main)) p first.2 in
-    let h : IsSoundStatements schemas done = lets_sound others schemas moment q.lets done tables ranged first.1 in
+    let h : IsSoundStatements schemas done = lets_sound others schemas moment q.lets done parts.0 tables ranged first.1 in
     subst (λ (r : Program). fits r schemas ≡ true) (ok-same (program_of schemas done next.0) p next.2)
-    (program-fits schemas done next.0 h (pipe_sound others q.main done.known false next.0 h.known next.1))
+    (program-fits schemas done next.0 h (pipe_sound others q.main parts.1 done.known false next.0 h.known next.1))

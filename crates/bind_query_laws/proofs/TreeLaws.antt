@@ -2,7 +2,9 @@
 use Rattle.std.proofs.Common.{◌≡◌, List, [], ◌∷◌, refl, sym, ap, ◌∙◌, subst, map}
 use Rattle.std.specs.Prelude.{Bool, true, false, Ok, Option}
 use Rattle.std.specs.List.{AllByRecursion}
+use Rattle.std.proofs.lemmas.Bool.{and_parts}
 use Rattle.kql_lexer.specs.declared.place.Place.{Place}
+use Rattle.kql_meaning.specs.FittingOperators.{is_empty}
 use Rattle.kql_syntax.specs.declared.query.ColumnOp.{ColumnOp}
 use Rattle.kql_syntax.specs.declared.query.ColumnOp.TheVariants as column
 use Rattle.kql_syntax.specs.declared.query.Distinct.{Distinct}
@@ -46,7 +48,9 @@ use Rattle.bind_query.specs.Partition.{partition_bound}
 use Rattle.bind_query.specs.Pipes.{BindsArg, BindsOp, BindsPlan, UnionParts}
 use Rattle.bind_query.specs.Scan.{scan_bound}
 use Rattle.bind_query.specs.Union.{union_bound, union_source_bound}
+use Rattle.bind_query_laws.specs.Patterns.{all_have, arg_patterns, arg_patterns_step, has_pattern, join_patterns, join_patterns_step, op_patterns, op_patterns_step, partition_patterns, partition_patterns_step, pipe_patterns, pipe_patterns_step, source_patterns, source_patterns_step, table_op_patterns, table_op_patterns_step, union_patterns, union_patterns_step}
 use Rattle.bind_query_laws.specs.Sound.{AreColumns, IsSoundKnown, IsSoundOp, IsSoundPlan}
+use Rattle.bind_query_laws.proofs.Frame.{not-true}
 use Rattle.bind_query_laws.proofs.ExtendLaws.{extend_sound, serialize_sound}
 use Rattle.bind_query_laws.proofs.PipeLaws.{SoundOp, SoundPlan, piped_sound}
 use Rattle.bind_query_laws.proofs.ProjectLaws.{project_away_sound, project_keep_sound, project_rename_sound, project_sound}
@@ -61,7 +65,7 @@ pub record SoundOthers : Type 0 where
   pub summarize : (operator : Place) (s : Summarize) → SoundOp (λ known inside rows. summarize_bound operator s known rows)
   pub make_series : (operator : Place) (s : MakeSeries) → SoundOp (λ known inside rows. make_series_bound operator s known rows)
   pub mv_expand : (operator : Place) (form : Option ExpandKind) (items : List Expand) → SoundOp (λ known inside rows. mv_expand_bound operator form items known rows)
-  pub parse : (operator : Place) (form : Option ParseKind) (e : Expr) (pattern : List Pat) → SoundOp (λ known inside rows. parse_bound operator form e pattern known rows)
+  pub parse : (operator : Place) (form : Option ParseKind) (e : Expr) (pattern : List Pat) → is_empty pattern ≡ false → SoundOp (λ known inside rows. parse_bound operator form e pattern known rows)
   pub scan : (operator : Place) (s : Scan) → SoundOp (λ known inside rows. scan_bound operator s known rows)
   pub join : (operator : Place) (lookup : Bool) (kind : Option (JoinSign × List Hint)) (on : List On) (right : BindsPlan) → SoundPlan right → SoundOp (λ known inside rows. join_bound operator lookup kind on known inside rows (right known inside))
   pub union : (operator : Place) (u : UnionParts) → AllByRecursion (λ (a : BindsArg). SoundPlan a.1) u.1 → SoundOp (union_bound operator u)
@@ -90,38 +94,38 @@ row-op others (row.Order operator keys) known inside rows b sound names is = sor
 row-op others (row.Top operator t) known inside rows b sound names is = top_sound operator t.0 t.1 known rows b sound names is inside
 row-op others (row.Distinct operator d) known inside rows b sound names is = others.distinct operator d known inside rows b sound names is
 
-group-op : SoundOthers → (o : GroupOp) → SoundOp (λ known inside rows. group_op_bound o known rows)
+group-op : SoundOthers → (o : GroupOp) → has_pattern o ≡ true → SoundOp (λ known inside rows. group_op_bound o known rows)
 unfolding group_op_bound
-group-op others (group.Summarize operator s) known inside rows b sound names is = others.summarize operator s known inside rows b sound names is
-group-op others (group.MakeSeries operator s) known inside rows b sound names is = others.make_series operator s known inside rows b sound names is
-group-op others (group.MvExpand operator form items) known inside rows b sound names is = others.mv_expand operator form items known inside rows b sound names is
-group-op others (group.Parse operator form e pattern) known inside rows b sound names is = others.parse operator form e pattern known inside rows b sound names is
+group-op others (group.Summarize operator s) some known inside rows b sound names is = others.summarize operator s known inside rows b sound names is
+group-op others (group.MakeSeries operator s) some known inside rows b sound names is = others.make_series operator s known inside rows b sound names is
+group-op others (group.MvExpand operator form items) some known inside rows b sound names is = others.mv_expand operator form items known inside rows b sound names is
+group-op others (group.Parse operator form e pattern) some known inside rows b sound names is = others.parse operator form e pattern (not-true (is_empty pattern) some) known inside rows b sound names is
 
 -- What is said of each type of the tree.
 
 abbrev HoldsOp : Op → Type 0
-HoldsOp x = SoundOp (op_bound x)
+HoldsOp x = op_patterns x ≡ true → SoundOp (op_bound x)
 
 abbrev HoldsSource : Source → Type 0
-HoldsSource x = SoundPlan (source_bound x)
+HoldsSource x = source_patterns x ≡ true → SoundPlan (source_bound x)
 
 abbrev HoldsTableArg : TableArg → Type 0
-HoldsTableArg x = SoundPlan (arg_read x).1
+HoldsTableArg x = arg_patterns x ≡ true → SoundPlan (arg_read x).1
 
 abbrev HoldsTableOp : TableOp → Type 0
-HoldsTableOp x = SoundOp (table_op_bound x)
+HoldsTableOp x = table_op_patterns x ≡ true → SoundOp (table_op_bound x)
 
 abbrev HoldsJoin : Join → Type 0
-HoldsJoin x = (operator : Place) (lookup : Bool) → SoundOp (join_read x operator lookup)
+HoldsJoin x = join_patterns x ≡ true → (operator : Place) (lookup : Bool) → SoundOp (join_read x operator lookup)
 
 abbrev HoldsPartition : Partition → Type 0
-HoldsPartition x = (operator : Place) → SoundOp (partition_read x operator)
+HoldsPartition x = partition_patterns x ≡ true → (operator : Place) → SoundOp (partition_read x operator)
 
 abbrev HoldsPipe : Pipe → Type 0
-HoldsPipe x = SoundPlan (pipe_bound x)
+HoldsPipe x = pipe_patterns x ≡ true → SoundPlan (pipe_bound x)
 
 abbrev HoldsUnion : Union → Type 0
-HoldsUnion x = AllByRecursion (λ (a : BindsArg). SoundPlan a.1) (union_read x).1
+HoldsUnion x = union_patterns x ≡ true → AllByRecursion (λ (a : BindsArg). SoundPlan a.1) (union_read x).1
 
 abbrev GivenOp : Type 0
 GivenOp = (x : Op) × HoldsOp x
@@ -173,63 +177,65 @@ bare_union g = g.0
 
 -- Parts one after another.
 
-each-op : (gs : List GivenOp) → AllByRecursion SoundOp (map op_bound (map bare_op gs))
+each-op : (gs : List GivenOp) → all_have (map op_patterns (map bare_op gs)) ≡ true → AllByRecursion SoundOp (map op_bound (map bare_op gs))
 unfolding bare_op
-each-op [] = tt
-each-op (g ∷ gs) = (g.1, each-op gs)
+each-op [] h = tt
+each-op (g ∷ gs) h = let parts = and_parts (op_patterns g.0) (all_have (map op_patterns (map bare_op gs))) h in (g.1 parts.0, each-op gs parts.1)
 
-each-arg : (gs : List GivenTableArg) → AllByRecursion (λ (a : BindsArg). SoundPlan a.1) (map arg_read (map bare_arg gs))
+each-arg : (gs : List GivenTableArg) → all_have (map arg_patterns (map bare_arg gs)) ≡ true → AllByRecursion (λ (a : BindsArg). SoundPlan a.1) (map arg_read (map bare_arg gs))
 unfolding bare_arg
-each-arg [] = tt
-each-arg (g ∷ gs) = (g.1, each-arg gs)
+each-arg [] h = tt
+each-arg (g ∷ gs) h = let parts = and_parts (arg_patterns g.0) (all_have (map arg_patterns (map bare_arg gs))) h in (g.1 parts.0, each-arg gs parts.1)
 
 -- Each type, where its parts are sound.
 
 of-op : SoundOthers → (y : Op-F GivenOp GivenSource GivenTableArg GivenTableOp GivenJoin GivenPartition GivenPipe GivenUnion) → HoldsOp (roll-Op (map-Op GivenOp GivenSource GivenTableArg GivenTableOp GivenJoin GivenPartition GivenPipe GivenUnion Op Source TableArg TableOp Join Partition Pipe Union bare_op bare_source bare_arg bare_table_op bare_join bare_partition bare_pipe bare_union y))
-unfolding op_bound source_bound arg_read table_op_bound join_read partition_read pipe_bound union_read bare_op bare_source bare_arg bare_table_op bare_join bare_partition bare_pipe bare_union
-of-op others (Op-F.Columns o) = subst SoundOp (sym (fold-roll-Op BindsOp BindsPlan BindsArg BindsOp BindsJoin BindsPartition BindsPlan UnionParts op_step source_step table_arg_step table_op_step join_step partition_step pipe_step union_step (Op-F.Columns o))) (column-op o)
-of-op others (Op-F.Rows o) = subst SoundOp (sym (fold-roll-Op BindsOp BindsPlan BindsArg BindsOp BindsJoin BindsPartition BindsPlan UnionParts op_step source_step table_arg_step table_op_step join_step partition_step pipe_step union_step (Op-F.Rows o))) (row-op others o)
-of-op others (Op-F.Groups o) = subst SoundOp (sym (fold-roll-Op BindsOp BindsPlan BindsArg BindsOp BindsJoin BindsPartition BindsPlan UnionParts op_step source_step table_arg_step table_op_step join_step partition_step pipe_step union_step (Op-F.Groups o))) (group-op others o)
-of-op others (Op-F.Tables o) = subst SoundOp (sym (fold-roll-Op BindsOp BindsPlan BindsArg BindsOp BindsJoin BindsPartition BindsPlan UnionParts op_step source_step table_arg_step table_op_step join_step partition_step pipe_step union_step (Op-F.Tables o.0))) o.1
+unfolding op_patterns source_patterns arg_patterns table_op_patterns join_patterns partition_patterns pipe_patterns union_patterns op_bound source_bound arg_read table_op_bound join_read partition_read pipe_bound union_read bare_op bare_source bare_arg bare_table_op bare_join bare_partition bare_pipe bare_union
+of-op others (Op-F.Columns o) h = subst SoundOp (sym (fold-roll-Op BindsOp BindsPlan BindsArg BindsOp BindsJoin BindsPartition BindsPlan UnionParts op_step source_step table_arg_step table_op_step join_step partition_step pipe_step union_step (Op-F.Columns o))) (column-op o)
+of-op others (Op-F.Rows o) h = subst SoundOp (sym (fold-roll-Op BindsOp BindsPlan BindsArg BindsOp BindsJoin BindsPartition BindsPlan UnionParts op_step source_step table_arg_step table_op_step join_step partition_step pipe_step union_step (Op-F.Rows o))) (row-op others o)
+of-op others (Op-F.Groups o) h = subst SoundOp (sym (fold-roll-Op BindsOp BindsPlan BindsArg BindsOp BindsJoin BindsPartition BindsPlan UnionParts op_step source_step table_arg_step table_op_step join_step partition_step pipe_step union_step (Op-F.Groups o))) (group-op others o (sym (fold-roll-Op Bool Bool Bool Bool Bool Bool Bool Bool op_patterns_step source_patterns_step arg_patterns_step table_op_patterns_step join_patterns_step partition_patterns_step pipe_patterns_step union_patterns_step (Op-F.Groups o)) ∙ h))
+of-op others (Op-F.Tables o) h = subst SoundOp (sym (fold-roll-Op BindsOp BindsPlan BindsArg BindsOp BindsJoin BindsPartition BindsPlan UnionParts op_step source_step table_arg_step table_op_step join_step partition_step pipe_step union_step (Op-F.Tables o.0))) (o.1 (sym (fold-roll-Op Bool Bool Bool Bool Bool Bool Bool Bool op_patterns_step source_patterns_step arg_patterns_step table_op_patterns_step join_patterns_step partition_patterns_step pipe_patterns_step union_patterns_step (Op-F.Tables o.0)) ∙ h))
 
 of-source : SoundOthers → (y : Source-F GivenOp GivenSource GivenTableArg GivenTableOp GivenJoin GivenPartition GivenPipe GivenUnion) → HoldsSource (roll-Source (map-Source GivenOp GivenSource GivenTableArg GivenTableOp GivenJoin GivenPartition GivenPipe GivenUnion Op Source TableArg TableOp Join Partition Pipe Union bare_op bare_source bare_arg bare_table_op bare_join bare_partition bare_pipe bare_union y))
-unfolding op_bound source_bound arg_read table_op_bound join_read partition_read pipe_bound union_read bare_op bare_source bare_arg bare_table_op bare_join bare_partition bare_pipe bare_union
-of-source others (Source-F.«Source::Table» n) = subst SoundPlan (sym (fold-roll-Source BindsOp BindsPlan BindsArg BindsOp BindsJoin BindsPartition BindsPlan UnionParts op_step source_step table_arg_step table_op_step join_step partition_step pipe_step union_step (Source-F.«Source::Table» n))) (λ known inside p sound is. table_sound n known p sound is)
-of-source others (Source-F.Range operator r) = subst SoundPlan (sym (fold-roll-Source BindsOp BindsPlan BindsArg BindsOp BindsJoin BindsPartition BindsPlan UnionParts op_step source_step table_arg_step table_op_step join_step partition_step pipe_step union_step (Source-F.Range operator r))) (λ known inside p sound is. range_sound operator r known p sound is)
-of-source others (Source-F.Print operator items) = subst SoundPlan (sym (fold-roll-Source BindsOp BindsPlan BindsArg BindsOp BindsJoin BindsPartition BindsPlan UnionParts op_step source_step table_arg_step table_op_step join_step partition_step pipe_step union_step (Source-F.Print operator items))) (λ known inside p sound is. print_sound operator items known p sound is)
-of-source others (Source-F.«Source::Union» operator u) = subst SoundPlan (sym (fold-roll-Source BindsOp BindsPlan BindsArg BindsOp BindsJoin BindsPartition BindsPlan UnionParts op_step source_step table_arg_step table_op_step join_step partition_step pipe_step union_step (Source-F.«Source::Union» operator u.0))) (others.union_source operator (union_read u.0) u.1)
+unfolding op_patterns source_patterns arg_patterns table_op_patterns join_patterns partition_patterns pipe_patterns union_patterns op_bound source_bound arg_read table_op_bound join_read partition_read pipe_bound union_read bare_op bare_source bare_arg bare_table_op bare_join bare_partition bare_pipe bare_union
+of-source others (Source-F.«Source::Table» n) h = subst SoundPlan (sym (fold-roll-Source BindsOp BindsPlan BindsArg BindsOp BindsJoin BindsPartition BindsPlan UnionParts op_step source_step table_arg_step table_op_step join_step partition_step pipe_step union_step (Source-F.«Source::Table» n))) (λ known inside p sound is. table_sound n known p sound is)
+of-source others (Source-F.Range operator r) h = subst SoundPlan (sym (fold-roll-Source BindsOp BindsPlan BindsArg BindsOp BindsJoin BindsPartition BindsPlan UnionParts op_step source_step table_arg_step table_op_step join_step partition_step pipe_step union_step (Source-F.Range operator r))) (λ known inside p sound is. range_sound operator r known p sound is)
+of-source others (Source-F.Print operator items) h = subst SoundPlan (sym (fold-roll-Source BindsOp BindsPlan BindsArg BindsOp BindsJoin BindsPartition BindsPlan UnionParts op_step source_step table_arg_step table_op_step join_step partition_step pipe_step union_step (Source-F.Print operator items))) (λ known inside p sound is. print_sound operator items known p sound is)
+of-source others (Source-F.«Source::Union» operator u) h = subst SoundPlan (sym (fold-roll-Source BindsOp BindsPlan BindsArg BindsOp BindsJoin BindsPartition BindsPlan UnionParts op_step source_step table_arg_step table_op_step join_step partition_step pipe_step union_step (Source-F.«Source::Union» operator u.0))) (others.union_source operator (union_read u.0) (u.1 (sym (fold-roll-Source Bool Bool Bool Bool Bool Bool Bool Bool op_patterns_step source_patterns_step arg_patterns_step table_op_patterns_step join_patterns_step partition_patterns_step pipe_patterns_step union_patterns_step (Source-F.«Source::Union» operator u.0)) ∙ h)))
 
 of-arg : SoundOthers → (y : TableArg-F GivenOp GivenSource GivenTableArg GivenTableOp GivenJoin GivenPartition GivenPipe GivenUnion) → HoldsTableArg (roll-TableArg (map-TableArg GivenOp GivenSource GivenTableArg GivenTableOp GivenJoin GivenPartition GivenPipe GivenUnion Op Source TableArg TableOp Join Partition Pipe Union bare_op bare_source bare_arg bare_table_op bare_join bare_partition bare_pipe bare_union y))
-unfolding op_bound source_bound arg_read table_op_bound join_read partition_read pipe_bound union_read bare_op bare_source bare_arg bare_table_op bare_join bare_partition bare_pipe bare_union
-of-arg others (TableArg-F.«TableArg::Table» n) = subst (λ (a : BindsArg). SoundPlan a.1) (sym (fold-roll-TableArg BindsOp BindsPlan BindsArg BindsOp BindsJoin BindsPartition BindsPlan UnionParts op_step source_step table_arg_step table_op_step join_step partition_step pipe_step union_step (TableArg-F.«TableArg::Table» n))) (λ known inside p sound is. table_sound n known p sound is)
-of-arg others (TableArg-F.Pipe place p) = subst (λ (a : BindsArg). SoundPlan a.1) (sym (fold-roll-TableArg BindsOp BindsPlan BindsArg BindsOp BindsJoin BindsPartition BindsPlan UnionParts op_step source_step table_arg_step table_op_step join_step partition_step pipe_step union_step (TableArg-F.Pipe place p.0))) p.1
+unfolding op_patterns source_patterns arg_patterns table_op_patterns join_patterns partition_patterns pipe_patterns union_patterns op_bound source_bound arg_read table_op_bound join_read partition_read pipe_bound union_read bare_op bare_source bare_arg bare_table_op bare_join bare_partition bare_pipe bare_union
+of-arg others (TableArg-F.«TableArg::Table» n) h = subst (λ (a : BindsArg). SoundPlan a.1) (sym (fold-roll-TableArg BindsOp BindsPlan BindsArg BindsOp BindsJoin BindsPartition BindsPlan UnionParts op_step source_step table_arg_step table_op_step join_step partition_step pipe_step union_step (TableArg-F.«TableArg::Table» n))) (λ known inside p sound is. table_sound n known p sound is)
+of-arg others (TableArg-F.Pipe place p) h = subst (λ (a : BindsArg). SoundPlan a.1) (sym (fold-roll-TableArg BindsOp BindsPlan BindsArg BindsOp BindsJoin BindsPartition BindsPlan UnionParts op_step source_step table_arg_step table_op_step join_step partition_step pipe_step union_step (TableArg-F.Pipe place p.0))) (p.1 (sym (fold-roll-TableArg Bool Bool Bool Bool Bool Bool Bool Bool op_patterns_step source_patterns_step arg_patterns_step table_op_patterns_step join_patterns_step partition_patterns_step pipe_patterns_step union_patterns_step (TableArg-F.Pipe place p.0)) ∙ h))
 
 of-table_op : SoundOthers → (y : TableOp-F GivenOp GivenSource GivenTableArg GivenTableOp GivenJoin GivenPartition GivenPipe GivenUnion) → HoldsTableOp (roll-TableOp (map-TableOp GivenOp GivenSource GivenTableArg GivenTableOp GivenJoin GivenPartition GivenPipe GivenUnion Op Source TableArg TableOp Join Partition Pipe Union bare_op bare_source bare_arg bare_table_op bare_join bare_partition bare_pipe bare_union y))
-unfolding op_bound source_bound arg_read table_op_bound join_read partition_read pipe_bound union_read bare_op bare_source bare_arg bare_table_op bare_join bare_partition bare_pipe bare_union
-of-table_op others (TableOp-F.Join operator j) = subst SoundOp (sym (fold-roll-TableOp BindsOp BindsPlan BindsArg BindsOp BindsJoin BindsPartition BindsPlan UnionParts op_step source_step table_arg_step table_op_step join_step partition_step pipe_step union_step (TableOp-F.Join operator j.0))) (j.1 operator false)
-of-table_op others (TableOp-F.Lookup operator j) = subst SoundOp (sym (fold-roll-TableOp BindsOp BindsPlan BindsArg BindsOp BindsJoin BindsPartition BindsPlan UnionParts op_step source_step table_arg_step table_op_step join_step partition_step pipe_step union_step (TableOp-F.Lookup operator j.0))) (j.1 operator true)
-of-table_op others (TableOp-F.«TableOp::Union» operator u) = subst SoundOp (sym (fold-roll-TableOp BindsOp BindsPlan BindsArg BindsOp BindsJoin BindsPartition BindsPlan UnionParts op_step source_step table_arg_step table_op_step join_step partition_step pipe_step union_step (TableOp-F.«TableOp::Union» operator u.0))) (others.union operator (union_read u.0) u.1)
-of-table_op others (TableOp-F.Scan operator s) = subst SoundOp (sym (fold-roll-TableOp BindsOp BindsPlan BindsArg BindsOp BindsJoin BindsPartition BindsPlan UnionParts op_step source_step table_arg_step table_op_step join_step partition_step pipe_step union_step (TableOp-F.Scan operator s))) (others.scan operator s)
-of-table_op others (TableOp-F.Partition operator p) = subst SoundOp (sym (fold-roll-TableOp BindsOp BindsPlan BindsArg BindsOp BindsJoin BindsPartition BindsPlan UnionParts op_step source_step table_arg_step table_op_step join_step partition_step pipe_step union_step (TableOp-F.Partition operator p.0))) (p.1 operator)
+unfolding op_patterns source_patterns arg_patterns table_op_patterns join_patterns partition_patterns pipe_patterns union_patterns op_bound source_bound arg_read table_op_bound join_read partition_read pipe_bound union_read bare_op bare_source bare_arg bare_table_op bare_join bare_partition bare_pipe bare_union
+of-table_op others (TableOp-F.Join operator j) h = subst SoundOp (sym (fold-roll-TableOp BindsOp BindsPlan BindsArg BindsOp BindsJoin BindsPartition BindsPlan UnionParts op_step source_step table_arg_step table_op_step join_step partition_step pipe_step union_step (TableOp-F.Join operator j.0))) (j.1 (sym (fold-roll-TableOp Bool Bool Bool Bool Bool Bool Bool Bool op_patterns_step source_patterns_step arg_patterns_step table_op_patterns_step join_patterns_step partition_patterns_step pipe_patterns_step union_patterns_step (TableOp-F.Join operator j.0)) ∙ h) operator false)
+of-table_op others (TableOp-F.Lookup operator j) h = subst SoundOp (sym (fold-roll-TableOp BindsOp BindsPlan BindsArg BindsOp BindsJoin BindsPartition BindsPlan UnionParts op_step source_step table_arg_step table_op_step join_step partition_step pipe_step union_step (TableOp-F.Lookup operator j.0))) (j.1 (sym (fold-roll-TableOp Bool Bool Bool Bool Bool Bool Bool Bool op_patterns_step source_patterns_step arg_patterns_step table_op_patterns_step join_patterns_step partition_patterns_step pipe_patterns_step union_patterns_step (TableOp-F.Lookup operator j.0)) ∙ h) operator true)
+of-table_op others (TableOp-F.«TableOp::Union» operator u) h = subst SoundOp (sym (fold-roll-TableOp BindsOp BindsPlan BindsArg BindsOp BindsJoin BindsPartition BindsPlan UnionParts op_step source_step table_arg_step table_op_step join_step partition_step pipe_step union_step (TableOp-F.«TableOp::Union» operator u.0))) (others.union operator (union_read u.0) (u.1 (sym (fold-roll-TableOp Bool Bool Bool Bool Bool Bool Bool Bool op_patterns_step source_patterns_step arg_patterns_step table_op_patterns_step join_patterns_step partition_patterns_step pipe_patterns_step union_patterns_step (TableOp-F.«TableOp::Union» operator u.0)) ∙ h)))
+of-table_op others (TableOp-F.Scan operator s) h = subst SoundOp (sym (fold-roll-TableOp BindsOp BindsPlan BindsArg BindsOp BindsJoin BindsPartition BindsPlan UnionParts op_step source_step table_arg_step table_op_step join_step partition_step pipe_step union_step (TableOp-F.Scan operator s))) (others.scan operator s)
+of-table_op others (TableOp-F.Partition operator p) h = subst SoundOp (sym (fold-roll-TableOp BindsOp BindsPlan BindsArg BindsOp BindsJoin BindsPartition BindsPlan UnionParts op_step source_step table_arg_step table_op_step join_step partition_step pipe_step union_step (TableOp-F.Partition operator p.0))) (p.1 (sym (fold-roll-TableOp Bool Bool Bool Bool Bool Bool Bool Bool op_patterns_step source_patterns_step arg_patterns_step table_op_patterns_step join_patterns_step partition_patterns_step pipe_patterns_step union_patterns_step (TableOp-F.Partition operator p.0)) ∙ h) operator)
 
 of-join : SoundOthers → (y : Join-F GivenOp GivenSource GivenTableArg GivenTableOp GivenJoin GivenPartition GivenPipe GivenUnion) → HoldsJoin (roll-Join (map-Join GivenOp GivenSource GivenTableArg GivenTableOp GivenJoin GivenPartition GivenPipe GivenUnion Op Source TableArg TableOp Join Partition Pipe Union bare_op bare_source bare_arg bare_table_op bare_join bare_partition bare_pipe bare_union y))
-unfolding op_bound source_bound arg_read table_op_bound join_read partition_read pipe_bound union_read bare_op bare_source bare_arg bare_table_op bare_join bare_partition bare_pipe bare_union
-of-join others y operator lookup = subst (λ (f : BindsJoin). SoundOp (f operator lookup)) (sym (fold-roll-Join BindsOp BindsPlan BindsArg BindsOp BindsJoin BindsPartition BindsPlan UnionParts op_step source_step table_arg_step table_op_step join_step partition_step pipe_step union_step (map-Join GivenOp GivenSource GivenTableArg GivenTableOp GivenJoin GivenPartition GivenPipe GivenUnion Op Source TableArg TableOp Join Partition Pipe Union bare_op bare_source bare_arg bare_table_op bare_join bare_partition bare_pipe bare_union y))) (others.join operator lookup y.kind y.on (arg_read y.table.0).1 y.table.1)
+unfolding op_patterns source_patterns arg_patterns table_op_patterns join_patterns partition_patterns pipe_patterns union_patterns op_bound source_bound arg_read table_op_bound join_read partition_read pipe_bound union_read bare_op bare_source bare_arg bare_table_op bare_join bare_partition bare_pipe bare_union
+of-join others y h operator lookup = subst (λ (f : BindsJoin). SoundOp (f operator lookup)) (sym (fold-roll-Join BindsOp BindsPlan BindsArg BindsOp BindsJoin BindsPartition BindsPlan UnionParts op_step source_step table_arg_step table_op_step join_step partition_step pipe_step union_step (map-Join GivenOp GivenSource GivenTableArg GivenTableOp GivenJoin GivenPartition GivenPipe GivenUnion Op Source TableArg TableOp Join Partition Pipe Union bare_op bare_source bare_arg bare_table_op bare_join bare_partition bare_pipe bare_union y))) (others.join operator lookup y.kind y.on (arg_read y.table.0).1 (y.table.1 (sym (fold-roll-Join Bool Bool Bool Bool Bool Bool Bool Bool op_patterns_step source_patterns_step arg_patterns_step table_op_patterns_step join_patterns_step partition_patterns_step pipe_patterns_step union_patterns_step (map-Join GivenOp GivenSource GivenTableArg GivenTableOp GivenJoin GivenPartition GivenPipe GivenUnion Op Source TableArg TableOp Join Partition Pipe Union bare_op bare_source bare_arg bare_table_op bare_join bare_partition bare_pipe bare_union y)) ∙ h)))
 
 of-partition : SoundOthers → (y : Partition-F GivenOp GivenSource GivenTableArg GivenTableOp GivenJoin GivenPartition GivenPipe GivenUnion) → HoldsPartition (roll-Partition (map-Partition GivenOp GivenSource GivenTableArg GivenTableOp GivenJoin GivenPartition GivenPipe GivenUnion Op Source TableArg TableOp Join Partition Pipe Union bare_op bare_source bare_arg bare_table_op bare_join bare_partition bare_pipe bare_union y))
-unfolding op_bound source_bound arg_read table_op_bound join_read partition_read pipe_bound union_read bare_op bare_source bare_arg bare_table_op bare_join bare_partition bare_pipe bare_union
-of-partition others y operator = subst (λ (f : BindsPartition). SoundOp (f operator)) (sym (fold-roll-Partition BindsOp BindsPlan BindsArg BindsOp BindsJoin BindsPartition BindsPlan UnionParts op_step source_step table_arg_step table_op_step join_step partition_step pipe_step union_step (map-Partition GivenOp GivenSource GivenTableArg GivenTableOp GivenJoin GivenPartition GivenPipe GivenUnion Op Source TableArg TableOp Join Partition Pipe Union bare_op bare_source bare_arg bare_table_op bare_join bare_partition bare_pipe bare_union y))) (others.partition operator y.column (map op_bound (map bare_op y.ops)) (each-op y.ops))
+unfolding op_patterns source_patterns arg_patterns table_op_patterns join_patterns partition_patterns pipe_patterns union_patterns op_bound source_bound arg_read table_op_bound join_read partition_read pipe_bound union_read bare_op bare_source bare_arg bare_table_op bare_join bare_partition bare_pipe bare_union
+of-partition others y h operator = subst (λ (f : BindsPartition). SoundOp (f operator)) (sym (fold-roll-Partition BindsOp BindsPlan BindsArg BindsOp BindsJoin BindsPartition BindsPlan UnionParts op_step source_step table_arg_step table_op_step join_step partition_step pipe_step union_step (map-Partition GivenOp GivenSource GivenTableArg GivenTableOp GivenJoin GivenPartition GivenPipe GivenUnion Op Source TableArg TableOp Join Partition Pipe Union bare_op bare_source bare_arg bare_table_op bare_join bare_partition bare_pipe bare_union y))) (others.partition operator y.column (map op_bound (map bare_op y.ops)) (each-op y.ops (sym (fold-roll-Partition Bool Bool Bool Bool Bool Bool Bool Bool op_patterns_step source_patterns_step arg_patterns_step table_op_patterns_step join_patterns_step partition_patterns_step pipe_patterns_step union_patterns_step (map-Partition GivenOp GivenSource GivenTableArg GivenTableOp GivenJoin GivenPartition GivenPipe GivenUnion Op Source TableArg TableOp Join Partition Pipe Union bare_op bare_source bare_arg bare_table_op bare_join bare_partition bare_pipe bare_union y)) ∙ h)))
 
 of-pipe : SoundOthers → (y : Pipe-F GivenOp GivenSource GivenTableArg GivenTableOp GivenJoin GivenPartition GivenPipe GivenUnion) → HoldsPipe (roll-Pipe (map-Pipe GivenOp GivenSource GivenTableArg GivenTableOp GivenJoin GivenPartition GivenPipe GivenUnion Op Source TableArg TableOp Join Partition Pipe Union bare_op bare_source bare_arg bare_table_op bare_join bare_partition bare_pipe bare_union y))
-unfolding op_bound source_bound arg_read table_op_bound join_read partition_read pipe_bound union_read bare_op bare_source bare_arg bare_table_op bare_join bare_partition bare_pipe bare_union
-of-pipe others y = subst SoundPlan (sym (fold-roll-Pipe BindsOp BindsPlan BindsArg BindsOp BindsJoin BindsPartition BindsPlan UnionParts op_step source_step table_arg_step table_op_step join_step partition_step pipe_step union_step (map-Pipe GivenOp GivenSource GivenTableArg GivenTableOp GivenJoin GivenPartition GivenPipe GivenUnion Op Source TableArg TableOp Join Partition Pipe Union bare_op bare_source bare_arg bare_table_op bare_join bare_partition bare_pipe bare_union y))) (λ known inside p sound is. piped_sound (source_bound y.source.0 known inside) (map op_bound (map bare_op y.ops)) known inside p sound (λ q e. y.source.1 known inside q sound e) (each-op y.ops) is)
+unfolding op_patterns source_patterns arg_patterns table_op_patterns join_patterns partition_patterns pipe_patterns union_patterns op_bound source_bound arg_read table_op_bound join_read partition_read pipe_bound union_read bare_op bare_source bare_arg bare_table_op bare_join bare_partition bare_pipe bare_union
+of-pipe others y h =
+    let parts = and_parts (source_patterns y.source.0) (all_have (map op_patterns (map bare_op y.ops))) (sym (fold-roll-Pipe Bool Bool Bool Bool Bool Bool Bool Bool op_patterns_step source_patterns_step arg_patterns_step table_op_patterns_step join_patterns_step partition_patterns_step pipe_patterns_step union_patterns_step (map-Pipe GivenOp GivenSource GivenTableArg GivenTableOp GivenJoin GivenPartition GivenPipe GivenUnion Op Source TableArg TableOp Join Partition Pipe Union bare_op bare_source bare_arg bare_table_op bare_join bare_partition bare_pipe bare_union y)) ∙ h) in
+    subst SoundPlan (sym (fold-roll-Pipe BindsOp BindsPlan BindsArg BindsOp BindsJoin BindsPartition BindsPlan UnionParts op_step source_step table_arg_step table_op_step join_step partition_step pipe_step union_step (map-Pipe GivenOp GivenSource GivenTableArg GivenTableOp GivenJoin GivenPartition GivenPipe GivenUnion Op Source TableArg TableOp Join Partition Pipe Union bare_op bare_source bare_arg bare_table_op bare_join bare_partition bare_pipe bare_union y))) (λ known inside p sound is. piped_sound (source_bound y.source.0 known inside) (map op_bound (map bare_op y.ops)) known inside p sound (λ q e. y.source.1 parts.0 known inside q sound e) (each-op y.ops parts.1) is)
 
 of-union : SoundOthers → (y : Union-F GivenOp GivenSource GivenTableArg GivenTableOp GivenJoin GivenPartition GivenPipe GivenUnion) → HoldsUnion (roll-Union (map-Union GivenOp GivenSource GivenTableArg GivenTableOp GivenJoin GivenPartition GivenPipe GivenUnion Op Source TableArg TableOp Join Partition Pipe Union bare_op bare_source bare_arg bare_table_op bare_join bare_partition bare_pipe bare_union y))
-unfolding op_bound source_bound arg_read table_op_bound join_read partition_read pipe_bound union_read bare_op bare_source bare_arg bare_table_op bare_join bare_partition bare_pipe bare_union
-of-union others y = subst (λ (u : UnionParts). AllByRecursion (λ (a : BindsArg). SoundPlan a.1) u.1) (sym (fold-roll-Union BindsOp BindsPlan BindsArg BindsOp BindsJoin BindsPartition BindsPlan UnionParts op_step source_step table_arg_step table_op_step join_step partition_step pipe_step union_step (map-Union GivenOp GivenSource GivenTableArg GivenTableOp GivenJoin GivenPartition GivenPipe GivenUnion Op Source TableArg TableOp Join Partition Pipe Union bare_op bare_source bare_arg bare_table_op bare_join bare_partition bare_pipe bare_union y))) (each-arg y.tables)
+unfolding op_patterns source_patterns arg_patterns table_op_patterns join_patterns partition_patterns pipe_patterns union_patterns op_bound source_bound arg_read table_op_bound join_read partition_read pipe_bound union_read bare_op bare_source bare_arg bare_table_op bare_join bare_partition bare_pipe bare_union
+of-union others y h = subst (λ (u : UnionParts). AllByRecursion (λ (a : BindsArg). SoundPlan a.1) u.1) (sym (fold-roll-Union BindsOp BindsPlan BindsArg BindsOp BindsJoin BindsPartition BindsPlan UnionParts op_step source_step table_arg_step table_op_step join_step partition_step pipe_step union_step (map-Union GivenOp GivenSource GivenTableArg GivenTableOp GivenJoin GivenPartition GivenPipe GivenUnion Op Source TableArg TableOp Join Partition Pipe Union bare_op bare_source bare_arg bare_table_op bare_join bare_partition bare_pipe bare_union y))) (each-arg y.tables (sym (fold-roll-Union Bool Bool Bool Bool Bool Bool Bool Bool op_patterns_step source_patterns_step arg_patterns_step table_op_patterns_step join_patterns_step partition_patterns_step pipe_patterns_step union_patterns_step (map-Union GivenOp GivenSource GivenTableArg GivenTableOp GivenJoin GivenPartition GivenPipe GivenUnion Op Source TableArg TableOp Join Partition Pipe Union bare_op bare_source bare_arg bare_table_op bare_join bare_partition bare_pipe bare_union y)) ∙ h))
 
 -- Every pipe.
-pub pipe_sound : SoundOthers → (p : Pipe) → SoundPlan (pipe_bound p)
+pub pipe_sound : SoundOthers → (p : Pipe) → pipe_patterns p ≡ true → SoundPlan (pipe_bound p)
 unfolding bare_op bare_source bare_arg bare_table_op bare_join bare_partition bare_pipe bare_union
 pipe_sound others = ind-Pipe HoldsOp HoldsSource HoldsTableArg HoldsTableOp HoldsJoin HoldsPartition HoldsPipe HoldsUnion
     (λ x y is. subst (λ (z : Op-F Op Source TableArg TableOp Join Partition Pipe Union). HoldsOp (roll-Op z)) is (of-op others y))
