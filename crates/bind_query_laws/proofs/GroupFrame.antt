@@ -101,10 +101,10 @@ keys-sound known rows n keys by sound names is =
     let scope : Scope = scope_at known rows position.Plain in
     items-pass (key_item_fits rows.columns) (group_key scope) n keys by
     (λ item t k bound.
-      let h = typed-sound wanted.Key item.value scope t (scope-sound known rows position.Plain sound names) bound in
-      and_from (fits_as is_key t.expr (scope_of rows.columns) position.Plain) (has_its_names (record { names = names_or_own k (given_name item) t.expr; expr = t.expr }) rows.columns)
-      (fits-typed is_key known rows position.Plain t refl h.0 h.1)
-      (named-well k (given_name item) t.expr rows.columns (one-result t.expr rows.columns (scope_of rows.columns) position.Plain (h.0.fits refl))))
+    let h = typed-sound wanted.Key item.value scope t (scope-sound known rows position.Plain sound names) bound in
+    and_from (fits_as is_key t.expr (scope_of rows.columns) position.Plain) (has_its_names (record { names = names_or_own k (given_name item) t.expr; expr = t.expr }) rows.columns)
+    (fits-typed is_key known rows position.Plain t refl h.0 h.1)
+    (named-well k (given_name item) t.expr rows.columns (one-result t.expr rows.columns (scope_of rows.columns) position.Plain (h.0.fits refl))))
     is
 
 -- As many places as items.
@@ -124,9 +124,9 @@ fold-keeps P bind step keeps [] start done h e = h done e
 fold-keeps P bind step keeps (l ∷ ls) start done h e =
     fold-keeps P bind step keeps ls (start >>= λ d. bind l >>= λ t. Ok (step l d t)) done
     (λ d is.
-      let first = after-ok start (λ b. bind l >>= λ t. Ok (step l b t)) d is in
-      let next = after-ok (bind l) (λ t. Ok (step l first.0 t)) d first.2 in
-      subst P (ok-same (step l first.0 next.0) d next.2) (keeps l first.0 next.0 next.1 (h first.0 first.1)))
+    let first = after-ok start (λ b. bind l >>= λ t. Ok (step l b t)) d is in
+    let next = after-ok (bind l) (λ t. Ok (step l first.0 t)) d first.2 in
+    subst P (ok-same (step l first.0 next.0) d next.2) (keeps l first.0 next.0 next.1 (h first.0 first.1)))
     e
 
 pub all-push : {X : Type 0} (p : X → Bool) (xs : List X) (x : X) → list_all p xs ≡ true → p x ≡ true → list_all p (xs ++ x ∷ []) ≡ true

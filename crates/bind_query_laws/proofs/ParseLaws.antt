@@ -67,7 +67,7 @@ parse_sound operator form e pattern known rows b sound names some is inside =
     (op-Parse plan (read_known known) inside rows.columns)
     (λ none. (
       and_from (fits_as (same_kind kind.Text) text.expr (scope_of rows.columns) position.Plain) (not (is_empty items))
-      (fits-typed (same_kind kind.Text) known rows position.Plain text refl h.0 h.1) (ap not (pattern-some pattern items next.1 some)),
+          (fits-typed (same_kind kind.Text) known rows position.Plain text refl h.0 h.1) (ap not (pattern-some pattern items next.1 some)),
       parse-once plan pattern rows.columns (parse_columns plan rows.columns) names (pattern-named (Ok items) items pattern form text plan refl (record { holds = next.1 }) refl) none refl,
     ))
     next.2

@@ -91,8 +91,8 @@ all-once columns id written ds names same none =
     pairs-of different (columns ++ (new ++ ids))
     (pairwise-append different columns (new ++ ids) (pairwise-of different columns names) turned
     (λ c d m n e.
-      let there : Member d.name (map column_name (ids ++ new)) = member-map column_name (ids ++ new) d (turned-member new ids d n) in
-      once.1 d.name (subst (λ (ns : List (List ℕ)). Member d.name ns) named there) (subst (λ (k : List ℕ). Member k (map column_name columns)) e (member-map column_name columns c m))))
+    let there : Member d.name (map column_name (ids ++ new)) = member-map column_name (ids ++ new) d (turned-member new ids d n) in
+    once.1 d.name (subst (λ (ns : List (List ℕ)). Member d.name ns) named there) (subst (λ (k : List ℕ). Member k (map column_name columns)) e (member-map column_name columns c m))))
   where
     turned-member : (xs ys : List Column) (z : Column) → Member z (xs ++ ys) → Member z (ys ++ xs)
     turned-member xs ys z m = elim (member-either xs ys z m) [

@@ -127,12 +127,12 @@ answer-is operator known inside rows place done axis from to step keys b well by
     (series_fits plan rows.columns)
     (op-MakeSeries plan (read_known known) inside rows.columns)
     (λ none.
-      let two = both-none (series_twice done place axis.name keys) (bin_faults operator rows plan) none in
-      let bins : bins_fit plan rows.columns ≡ true = not-false (bins_fit plan rows.columns) (no-fault (not (bins_fit plan rows.columns)) 414 operator two.1) in (
-        and_from (bins_fit plan rows.columns) (list_all (series_item_fits rows.columns) done.items && list_all (key_item_fits rows.columns) keys.items) bins
-        (and_from (list_all (series_item_fits rows.columns) done.items) (list_all (key_item_fits rows.columns) keys.items) well.0 by),
-        series-once done place (axis_over axis from to step) keys rows.columns well.1 even two.0,
-      ))
+    let two = both-none (series_twice done place axis.name keys) (bin_faults operator rows plan) none in
+    let bins : bins_fit plan rows.columns ≡ true = not-false (bins_fit plan rows.columns) (no-fault (not (bins_fit plan rows.columns)) 414 operator two.1) in (
+      and_from (bins_fit plan rows.columns) (list_all (series_item_fits rows.columns) done.items && list_all (key_item_fits rows.columns) keys.items) bins
+          (and_from (list_all (series_item_fits rows.columns) done.items) (list_all (key_item_fits rows.columns) keys.items) well.0 by),
+      series-once done place (axis_over axis from to step) keys rows.columns well.1 even two.0,
+    ))
     is
 
 pub make_series_sound : (operator : Place) (s : MakeSeries) (known : Known) (rows : Shape) (b : BoundOp) → IsSoundKnown known → AreColumns rows.columns → make_series_bound operator s known rows ≡ Ok b → (inside : Bool) → IsSoundOp known inside rows b

@@ -145,8 +145,8 @@ groups_sound operator items keys known rows b sound names is inside =
     (op-Summarize plan (read_known known) inside rows.columns)
     (λ none. (
       and_from (list_all (group_item_fits rows.columns) done.items) (list_all (key_item_fits rows.columns) by.items)
-      (group-items-sound operator known rows items keys done sound names first.1 (bad-none operator done by none))
-      (keys-sound known rows done.next keys by sound names next.1),
+          (group-items-sound operator known rows items keys done sound names first.1 (bad-none operator done by none))
+          (keys-sound known rows done.next keys by sound names next.1),
       grouped-once operator done by rows.columns (items-even operator known rows items keys done first.1) (keys-even known rows done.next keys by next.1) none,
     ))
     next.2
