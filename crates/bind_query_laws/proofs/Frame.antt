@@ -148,7 +148,7 @@ each-all p bind parts ys t e = all-of p ys (each-sound (λ y. p y ≡ true) bind
 
 -- Columns of an answer.
 
-among-one : (names : List (List ℕ)) (n : List ℕ) → is_name_among names n ≡ true → Member n names
+pub among-one : (names : List (List ℕ)) (n : List ℕ) → is_name_among names n ≡ true → Member n names
 unfolding is_name_among
 among-one names n e =
     let q = one-of-any (λ m. bytes_eq m n) names e in
@@ -278,7 +278,7 @@ constant-sound operator want known rows e l sound names is =
 
 -- Items.
 
-kinds-one : (f : Aggregate) (args : List BExpr) (one : Kind) (columns : List Column) → has_one_result f args ≡ true → length (aggregate_result_kinds f args one columns) == 1 ≡ true
+pub kinds-one : (f : Aggregate) (args : List BExpr) (one : Kind) (columns : List Column) → has_one_result f args ≡ true → length (aggregate_result_kinds f args one columns) == 1 ≡ true
 unfolding has_one_result aggregate_result_kinds
 kinds-one aggregate.ArgMax args one columns e = ap (λ n. n == 1) (length-map args (λ a. typed a columns)) ∙ e
 kinds-one aggregate.ArgMin args one columns e = ap (λ n. n == 1) (length-map args (λ a. typed a columns)) ∙ e

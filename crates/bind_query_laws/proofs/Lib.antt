@@ -6,7 +6,6 @@ pub mod GroupFrame
 pub mod JoinLaws
 pub mod LetLaws
 pub mod ParseLaws
-pub mod PartitionLaws
 pub mod PipeLaws
 pub mod ProgramLaws
 pub mod ProjectLaws

@@ -1,5 +1,5 @@
 -- A bound `scan` is sound.
-use Rattle.std.proofs.Common.{◌≡◌, ◌+◌, ℕ, Bool, true, false, List, [], ◌∷◌, ◌++◌, map, refl, sym, ap, ◌∙◌, subst, inl, inr}
+use Rattle.std.proofs.Common.{◌≡◌, ◌+◌, ℕ, Bool, true, List, [], ◌∷◌, ◌++◌, map, refl, sym, ap, ◌∙◌, subst, inl, inr}
 use Rattle.std.specs.Prelude.{nat_le, not, ◌&&◌, ◌||◌, Ok, Option, None, Some, bytes_eq, option_map}
 use Rattle.std.specs.List.{AllByRecursion, list_all}
 use Rattle.std.proofs.lemmas.Bool.{and_from, cases_Bool}
@@ -112,8 +112,8 @@ decls-bound : (operator : Place) (known : Known) (rows : Shape) (ds : List Decl)
 decls-bound operator known rows ds ys sound names is =
     each-relates (decl_bound operator known rows) AreBound (tt, refl)
     (λ d y ds ys e h.
-      let q = decl-ok operator known rows sound names d y e in
-      ((q.0, h.0), ap (λ (n : List ℕ). n ∷ map decl_name ys) q.1 ∙ ap (λ (ns : List (List ℕ)). text_of d.name ∷ ns) h.1))
+    let q = decl-ok operator known rows sound names d y e in
+    ((q.0, h.0), ap (λ (n : List ℕ). n ∷ map decl_name ys) q.1 ∙ ap (λ (ns : List (List ℕ)). text_of d.name ∷ ns) h.1))
     ds ys is
 
 kind-same : (n : List ℕ) (ds : List BoundDecl) → column_kind n (map decl_column ds) ≡ declared_kind ds n
@@ -170,9 +170,10 @@ module _ (scope : Scope) (declared : List BoundDecl) (sound : IsSoundScope scope
   unfolding items_names
   sets-more a b xs bs e h all =
       let q = set-ok a b all.0 e in
-      let rest = h all.1 in
-      (and_from (set_fits (map decl_column declared) (read_scope scope) b) (list_all (set_fits (map decl_column declared) (read_scope scope)) bs) q.0 rest.0,
-      ap (λ (ns : List (List ℕ)). ns ++ items_names bs) q.1 ∙ ap (λ (ns : List (List ℕ)). assigned_name a ∷ ns) rest.1)
+      let rest = h all.1 in (
+        and_from (set_fits (map decl_column declared) (read_scope scope) b) (list_all (set_fits (map decl_column declared) (read_scope scope)) bs) q.0 rest.0,
+        ap (λ (ns : List (List ℕ)). ns ++ items_names bs) q.1 ∙ ap (λ (ns : List (List ℕ)). assigned_name a ∷ ns) rest.1,
+      )
 
   sets-none : AreSets [] []
   unfolding items_names
@@ -197,9 +198,11 @@ module _ (scope : Scope) (declared : List BoundDecl) (sound : IsSoundScope scope
       let condition : fits_as (same_kind kind.Bool) c.expr (read_scope scope) position.Plain ≡ true =
       and_from (expr_fits c.expr (read_scope scope) position.Plain) (has_kind (same_kind kind.Bool) (kind_of c.expr scope.schema)) (fits-plain c h.0) (rw (h.0.kind) h.1) in
       let once : are_distinct (items_names sets) ≡ true = apart-distinct (items_names sets) (subst (λ (ns : List (List ℕ)). Pairwise apart ns) (sym fit.1) (fresh-apart [] (map assigned_name s.sets) well.1).0) in
-      subst (IsStep s) (ok-same (scan_step s c sets) y next.2)
-      (and_from (fits_as (same_kind kind.Bool) c.expr (read_scope scope) position.Plain) (list_all (set_fits (map decl_column declared) (read_scope scope)) sets && are_distinct (items_names sets)) condition
-      (and_from (list_all (set_fits (map decl_column declared) (read_scope scope)) sets) (are_distinct (items_names sets)) fit.0 once), refl)
+      subst (IsStep s) (ok-same (scan_step s c sets) y next.2) (
+        and_from (fits_as (same_kind kind.Bool) c.expr (read_scope scope) position.Plain) (list_all (set_fits (map decl_column declared) (read_scope scope)) sets && are_distinct (items_names sets)) condition
+            (and_from (list_all (set_fits (map decl_column declared) (read_scope scope)) sets) (are_distinct (items_names sets)) fit.0 once),
+        refl,
+      )
 
   abbrev AreBoundSteps : List Step → List ScanStep → Type 0
   AreBoundSteps ss ys = AreSteps (map decl_name declared) ss → (list_all (scan_step_fits (map decl_column declared) (read_scope scope)) ys ≡ true) × (step_names ys ≡ map step_name ss)
@@ -208,9 +211,10 @@ module _ (scope : Scope) (declared : List BoundDecl) (sound : IsSoundScope scope
   unfolding step_names
   steps-more s y ss ys e h all =
       let q = step-ok s y all.0 e in
-      let rest = h all.1 in
-      (and_from (scan_step_fits (map decl_column declared) (read_scope scope) y) (list_all (scan_step_fits (map decl_column declared) (read_scope scope)) ys) q.0 rest.0,
-      ap (λ (n : List ℕ). n ∷ step_names ys) q.1 ∙ ap (λ (ns : List (List ℕ)). step_name s ∷ ns) rest.1)
+      let rest = h all.1 in (
+        and_from (scan_step_fits (map decl_column declared) (read_scope scope) y) (list_all (scan_step_fits (map decl_column declared) (read_scope scope)) ys) q.0 rest.0,
+        ap (λ (n : List ℕ). n ∷ step_names ys) q.1 ∙ ap (λ (ns : List (List ℕ)). step_name s ∷ ns) rest.1,
+      )
 
   steps-none : AreBoundSteps [] []
   unfolding step_names
@@ -258,11 +262,12 @@ whole operator s known rows ds steps sound names bound is none =
     let plan : ScanPlan = record { match_id = option_map text_of s.match_id; declared = ds; steps = steps } in
     let steps_fit : list_all (scan_step_fits (map decl_column ds) (scan_scope plan rows.columns)) steps ≡ true =
     subst (λ (x : ReadScope). list_all (scan_step_fits (map decl_column ds) x) steps ≡ true) (read-is known rows written ds steps (option_map text_of s.match_id) fit.1) fit.0 in
-    let named : are_distinct (step_names steps) ≡ true = apart-distinct (step_names steps) (subst (λ (ns : List (List ℕ)). Pairwise apart ns) (sym fit.1) (fresh-apart [] written (step-names-fresh [] s.steps of_steps.0)).0) in
-    (and_from (list_all (λ (d : BoundDecl). literal_fits d.default) ds) (are_distinct (step_names steps) && list_all (scan_step_fits (map decl_column ds) (scan_scope plan rows.columns)) steps)
-    (all-of (λ (d : BoundDecl). literal_fits d.default) ds bound.0)
-    (and_from (are_distinct (step_names steps)) (list_all (scan_step_fits (map decl_column ds) (scan_scope plan rows.columns)) steps) named steps_fit),
-    once)
+    let named : are_distinct (step_names steps) ≡ true = apart-distinct (step_names steps) (subst (λ (ns : List (List ℕ)). Pairwise apart ns) (sym fit.1) (fresh-apart [] written (step-names-fresh [] s.steps of_steps.0)).0) in (
+      and_from (list_all (λ (d : BoundDecl). literal_fits d.default) ds) (are_distinct (step_names steps) && list_all (scan_step_fits (map decl_column ds) (scan_scope plan rows.columns)) steps)
+          (all-of (λ (d : BoundDecl). literal_fits d.default) ds bound.0)
+          (and_from (are_distinct (step_names steps)) (list_all (scan_step_fits (map decl_column ds) (scan_scope plan rows.columns)) steps) named steps_fit),
+      once,
+    )
 
 pub scan_sound : (operator : Place) (s : Scan) (known : Known) (rows : Shape) (b : BoundOp) → IsSoundKnown known → AreColumns rows.columns → scan_bound operator s known rows ≡ Ok b → (inside : Bool) → IsSoundOp known inside rows b
 unfolding scan_bound scanned
