@@ -1,8 +1,7 @@
 -- A bound `parse` is sound.
-use Rattle.std.proofs.Common.{◌≡◌, Bool, true, false, List, [], ◌∷◌, length, map, refl, sym, ap, ◌∙◌, subst}
-use Rattle.std.specs.Prelude.{not, ◌&&◌, Ok, Option}
+use Rattle.std.proofs.Common.{◌≡◌, Bool, false, List, [], ◌∷◌, refl, ap, ◌∙◌}
+use Rattle.std.specs.Prelude.{not, Ok, Option}
 use Rattle.std.proofs.lemmas.Bool.{and_from}
-use Rattle.kql_cells.specs.declared.schema.Column.{Column}
 use Rattle.kql_cells.specs.declared.value.Kind.TheVariants as kind
 use Rattle.kql_functions.specs.Kinds.{same_kind}
 use Rattle.kql_lexer.specs.declared.place.Place.{Place}

@@ -1,6 +1,6 @@
 -- A bound `partition` is sound, and so is a bound `union` that stands as a source.
-use Rattle.std.proofs.Common.{◌≡◌, Bool, true, false, List, [], ◌∷◌, refl, sym, ap, ◌∙◌, subst}
-use Rattle.std.specs.Prelude.{Ok, Err, Option, Some}
+use Rattle.std.proofs.Common.{◌≡◌, Bool, true, false, List, [], ◌∷◌, refl, ◌∙◌, subst}
+use Rattle.std.specs.Prelude.{Ok}
 use Rattle.std.specs.List.{AllByRecursion}
 use Rattle.kql_cells.specs.declared.schema.Column.{Column}
 use Rattle.kql_lexer.specs.declared.place.Place.{Place}
@@ -9,7 +9,7 @@ use Rattle.kql_meaning.specs.Expressions.{column_kind}
 use Rattle.kql_meaning.specs.FittingExpressions.{has_kind, is_key}
 use Rattle.kql_meaning.proofs.OperatorFitLaws.{after-some, op-Partition, ops-fold}
 use Rattle.kql_syntax.specs.declared.tree.Name.{Name}
-use Rattle.bind_expr.specs.Outcome.{Outcome, ◌>>=◌}
+use Rattle.bind_expr.specs.Outcome.{◌>>=◌}
 use Rattle.bind_operators.specs.declared.bound.BoundOp.{BoundOp}
 use Rattle.bind_operators.specs.declared.bound.BoundPlan.{BoundPlan}
 use Rattle.bind_operators.specs.declared.known.Known.{Known}
@@ -20,8 +20,8 @@ use Rattle.bind_groups.specs.Summarize.{distinct_column}
 use Rattle.bind_query.specs.declared.bound.BoundOps.{BoundOps}
 use Rattle.bind_query.specs.Partition.{partition_bound, partitioned}
 use Rattle.bind_query.specs.Pipes.{BindsArg, BindsOp, UnionParts, ops_over}
-use Rattle.bind_query.specs.Union.{places_of, tables_bound, union_of, union_source_bound, united, united_behind, united_plan}
-use Rattle.bind_query_laws.specs.Sound.{AreColumns, IsSoundKnown, IsSoundOp, IsSoundPlan, read_known}
+use Rattle.bind_query.specs.Union.{places_of, tables_bound, union_of, union_source_bound, united, united_plan}
+use Rattle.bind_query_laws.specs.Sound.{IsSoundOp, IsSoundPlan, read_known}
 use Rattle.bind_query_laws.proofs.DistinctLaws.{column-is-key}
 use Rattle.bind_query_laws.proofs.Frame.{after-ok, no-fault, ok-same, true-or-false, unless-ok}
 use Rattle.bind_query_laws.proofs.GroupFrame.{IsKeyOf, found-column, key-kind}

@@ -1,16 +1,15 @@
 -- The columns of a bound `scan`, and the scope in which the expressions of its steps stand.
 use Rattle.std.proofs.Common.{◌≡◌, ◌≢◌, ℕ, Bool, true, false, List, [], ◌∷◌, ◌++◌, filter, map, refl, sym, ap, ◌∙◌, subst, inl, inr}
-use Rattle.std.specs.Prelude.{not, ◌&&◌, Ok, Option, None, Some, bytes_eq, option_map, option_to_list}
+use Rattle.std.specs.Prelude.{not, Option, None, Some, bytes_eq, option_map, option_to_list}
 use Rattle.std.specs.List.{AllByRecursion}
 use Rattle.std.proofs.lemmas.Bool.{cases_Bool}
-use Rattle.std.proofs.lemmas.List.{append_assoc, map-append}
+use Rattle.std.proofs.lemmas.List.{append_assoc}
 use Rattle.std.proofs.lemmas.Slice.Eq.{bytes_eq-Decides}
 use Rattle.kql_cells.specs.Named.{column_name}
 use Rattle.kql_cells.specs.declared.schema.Column.{Column}
 use Rattle.kql_cells.specs.declared.value.Kind.{Kind}
 use Rattle.kql_cells.specs.declared.value.Kind.TheVariants as kind
 use Rattle.kql_cells.specs.declared.value.Value.{Value}
-use Rattle.kql_bound.specs.declared.literal.Lit.{Lit}
 use Rattle.kql_bound.specs.declared.parts.Decl.{Decl as BoundDecl}
 use Rattle.kql_meaning.specs.declared.position.Position.TheVariants as position
 use Rattle.kql_meaning.specs.Literals.{is_of_kind, is_well_formed, literal_fits}
