@@ -6,6 +6,7 @@ pub mod GroupFrame
 pub mod JoinLaws
 pub mod LetLaws
 pub mod ParseLaws
+pub mod PartitionLaws
 pub mod PipeLaws
 pub mod ProgramLaws
 pub mod ProjectLaws
