@@ -10,6 +10,7 @@ pub mod PartitionLaws
 pub mod PipeLaws
 pub mod ProgramLaws
 pub mod ProjectLaws
+pub mod QueryLaws
 pub mod ReadLaws
 pub mod ScanLaws
 pub mod ScanScopes
