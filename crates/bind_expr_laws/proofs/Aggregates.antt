@@ -1,8 +1,9 @@
 -- Calls of aggregates.
-use Rattle.std.proofs.Common.{◌≡◌, ℕ, Bool, true, false, List, [], ◌∷◌, length, refl, sym, ap, ◌∙◌, subst}
-use Rattle.std.specs.Prelude.{◌&&◌, ◌||◌, ◌==◌, not, Option, None, Some, Ok, Err, is_some}
+use Rattle.std.proofs.Common.{◌≡◌, Bool, true, false, List, [], ◌∷◌, length, refl, sym, ap, ◌∙◌, subst}
+use Rattle.std.specs.Prelude.{◌&&◌, ◌||◌, ◌==◌, not, Option, Some, is_some}
 use Rattle.std.specs.List.{list_all}
-use Rattle.std.proofs.lemmas.Bool.{and_parts, and_from}
+use Rattle.std.proofs.lemmas.Bool.{and_parts, and_from, not-false, not-true}
+use Rattle.std.proofs.lemmas.Option.{same_Some}
 use Rattle.kql_cells.specs.declared.value.Kind.{Kind}
 use Rattle.kql_cells.specs.declared.value.Kind.TheVariants as kind
 use Rattle.kql_functions.specs.Kinds.{has_order, same_kind}
@@ -22,19 +23,18 @@ use Rattle.kql_meaning.proofs.KindLaws.{kind-Aggregate}
 use Rattle.bind_expr.specs.AggregateCalls.{aggregate_call, aggregate_forms, aggregate_given, aggregate_stands, aggregate_taken, aggregate_typed, best_forms, column_forms, first_kept, list_given, one_given, one_given_if, one_kept, one_kept_if}
 use Rattle.bind_expr.specs.Arguments.{aggregate_position, inner_position}
 use Rattle.bind_expr.specs.Forms.{is_column}
-use Rattle.bind_expr.specs.KindTests.{kind_if, meets}
+use Rattle.bind_expr.specs.KindTests.{meets}
 use Rattle.bind_expr.specs.declared.scope.Scope.{Scope}
-use Rattle.bind_expr.specs.declared.typed.Typed.{Typed}
 use Rattle.bind_expr_laws.specs.Refused.{counts_badly, is_bad_count}
 use Rattle.bind_expr_laws.specs.Scopes.{read_scope}
-use Rattle.bind_expr_laws.proofs.Standing.{counts_well, stands}
+use Rattle.bind_expr_laws.proofs.Standing.{counts_well}
 use Rattle.bind_expr_laws.proofs.Arguments.{HasArgs, args-parts}
 use Rattle.bind_expr_laws.proofs.Constants.{open-fits}
 use Rattle.bind_expr_laws.proofs.Outcomes.{Gives, gives-typed}
 use Rattle.bind_expr_laws.proofs.Parts.{AreParts, IsBound, IsPart, fits_at}
 use Rattle.bind_expr_laws.proofs.Shapes.{Args, KindTest, Spot}
 use Rattle.bind_expr_laws.proofs.StandingSteps.{stands-Aggregate}
-use Rattle.bind_expr_laws.proofs.Windows.{if-kind, kind-known, plain-column, same-turned}
+use Rattle.bind_expr_laws.proofs.Windows.{first-known, if-kind, kind-known, plain-column, same-turned}
 
 -- What is asked of a type says what fitting asks of it.
 abbrev Implies : KindTest → (Kind → Bool) → Type 0
@@ -46,16 +46,9 @@ ArePlain scope es ks = AreParts scope position.Plain es ks
 known-kind : (scope : Scope) (e : BExpr) (k : Kind) (test : Kind → Bool) → IsPart scope position.Plain e k → test k ≡ true → has_kind test (kind_of e scope.schema) ≡ true
 known-kind scope e k test h t = kind-known test (kind_of e scope.schema) k h.kind t
 
-first-known : (scope : Scope) (e : BExpr) (es : List BExpr) (j k : Kind) → IsPart scope position.Plain e j → j ≡ k → first_kind (kinds_in (e ∷ es) scope.schema) ≡ Some k
-unfolding first_kind kinds_in
-first-known scope e es j k h same = h.kind ∙ ap (λ (x : Kind). Some x) same
-
 bool-known : (scope : Scope) (e : BExpr) (k : Kind) → IsPart scope position.Plain e k → same_kind k kind.Bool ≡ true → is_kind kind.Bool (kind_of e scope.schema) ≡ true
 unfolding is_kind
 bool-known scope e k h t = known-kind scope e k (same_kind kind.Bool) h (same-turned k kind.Bool t)
-
-some-same : (a b : Kind) → Some a ≡ Some b → a ≡ b
-some-same a b e = cc
 
 -- One argument, and one with a condition.
 
@@ -74,7 +67,7 @@ unfolding one_kept one_of
 one-kept scope t [] [] k h e test imp = absurd cc
 one-kept scope t [] (j ∷ ks) k h e test imp = absurd h
 one-kept scope t (x ∷ es) [] k h e test imp = absurd h
-one-kept scope t (x ∷ []) (j ∷ []) k h e test imp = let q = if-kind (meets t j) j k e in (first-known scope x [] j k h.0 q.1, known-kind scope x j test h.0 (imp j q.0))
+one-kept scope t (x ∷ []) (j ∷ []) k h e test imp = let q = if-kind (meets t j) j k e in (first-known scope position.Plain x [] j k h.0 q.1, known-kind scope x j test h.0 (imp j q.0))
 one-kept scope t (x ∷ []) (j ∷ m ∷ ks) k h e test imp = absurd h.1
 one-kept scope t (x ∷ y ∷ es) (j ∷ []) k h e test imp = absurd h.1
 one-kept scope t (x ∷ y ∷ es) (j ∷ m ∷ ks) k h e test imp = absurd cc
@@ -106,7 +99,7 @@ kept-if scope t (x ∷ y ∷ es) (j ∷ []) k h e test imp = absurd h.1
 kept-if scope t (x ∷ y ∷ []) (j ∷ m ∷ []) k h e test imp =
     let q = if-kind (meets t j && same_kind m kind.Bool) j k e in
     let both = and_parts (meets t j) (same_kind m kind.Bool) q.0 in
-    (first-known scope x (y ∷ []) j k h.0 q.1, and_from _ _ (known-kind scope x j test h.0 (imp j both.0)) (bool-known scope y m h.1.0 both.1))
+    (first-known scope position.Plain x (y ∷ []) j k h.0 q.1, and_from _ _ (known-kind scope x j test h.0 (imp j both.0)) (bool-known scope y m h.1.0 both.1))
 kept-if scope t (x ∷ y ∷ []) (j ∷ m ∷ o ∷ ks) k h e test imp = absurd h.1.1
 kept-if scope t (x ∷ y ∷ z ∷ es) (j ∷ m ∷ []) k h e test imp = absurd h.1.1
 kept-if scope t (x ∷ y ∷ z ∷ es) (j ∷ m ∷ o ∷ ks) k h e test imp = absurd cc
@@ -116,19 +109,15 @@ kept-if scope t (x ∷ y ∷ z ∷ es) (j ∷ m ∷ o ∷ ks) k h e test imp = a
 some-kind : (scope : Scope) (e : BExpr) (k : Kind) → IsPart scope position.Plain e k → is_some (kind_of e scope.schema) ≡ true
 some-kind scope e k h = rw h.kind refl
 
-undone : (b : Bool) → not b ≡ false → b ≡ true
-undone true e = refl
-undone false e = absurd cc
-
 listed : (scope : Scope) (es : List BExpr) (ks : List Kind) (k : Kind) → ArePlain scope es ks → list_given ks ≡ Some k → (kind.Dynamic ≡ k) × (is_bad_count es ≡ false → one_or_first_of es scope.schema ≡ true)
 unfolding list_given one_or_first_of
 listed scope [] [] k h e = absurd cc
 listed scope [] (j ∷ ks) k h e = absurd h
 listed scope (x ∷ es) [] k h e = absurd h
-listed scope (x ∷ []) (j ∷ []) k h e = (some-same kind.Dynamic k e, λ c. some-kind scope x j h.0)
+listed scope (x ∷ []) (j ∷ []) k h e = (same_Some kind.Dynamic k e, λ c. some-kind scope x j h.0)
 listed scope (x ∷ []) (j ∷ m ∷ ks) k h e = absurd h.1
 listed scope (x ∷ y ∷ es) (j ∷ []) k h e = absurd h.1
-listed scope (x ∷ y ∷ []) (j ∷ m ∷ []) k h e = ((if-kind (same_kind m kind.Long) kind.Dynamic k e).1, λ c. and_from _ _ (some-kind scope x j h.0) (undone (is_count y) c))
+listed scope (x ∷ y ∷ []) (j ∷ m ∷ []) k h e = ((if-kind (same_kind m kind.Long) kind.Dynamic k e).1, λ c. and_from _ _ (some-kind scope x j h.0) (not-false (is_count y) c))
 listed scope (x ∷ y ∷ []) (j ∷ m ∷ o ∷ ks) k h e = absurd h.1.1
 listed scope (x ∷ y ∷ z ∷ es) (j ∷ m ∷ []) k h e = absurd h.1.1
 listed scope (x ∷ y ∷ z ∷ es) (j ∷ m ∷ o ∷ ks) k h e = absurd cc
@@ -154,7 +143,7 @@ best-kept scope star t [] (j ∷ ks) k h form e imp = absurd h
 best-kept scope star t (x ∷ es) [] k h form e imp = absurd h
 best-kept scope star t (x ∷ es) (j ∷ ks) k h form e imp =
     let q = if-kind (meets t j) j k e in
-    (first-known scope x es j k h.0 q.1, and_from _ _ (known-kind scope x j has_order h.0 (imp j q.0)) (columns-there scope es ks h.1 (behind-first star x es form)))
+    (first-known scope position.Plain x es j k h.0 q.1, and_from _ _ (known-kind scope x j has_order h.0 (imp j q.0)) (columns-there scope es ks h.1 (behind-first star x es form)))
 
 any-kept : (scope : Scope) (t : KindTest) (es : List BExpr) (ks : List Kind) (k : Kind) → ArePlain scope es ks → column_forms es ≡ true → first_kept t ks ≡ Some k → (first_kind (kinds_in es scope.schema) ≡ Some k) × (first_row_of es scope.schema ≡ true)
 unfolding first_kept first_row_of column_forms
@@ -163,7 +152,7 @@ any-kept scope t [] (j ∷ ks) k h form e = absurd h
 any-kept scope t (x ∷ es) [] k h form e = absurd h
 any-kept scope t (x ∷ es) (j ∷ ks) k h form e =
     let q = if-kind (meets t j) j k e in
-    (first-known scope x es j k h.0 q.1, columns-there scope (x ∷ es) (j ∷ ks) h form)
+    (first-known scope position.Plain x es j k h.0 q.1, columns-there scope (x ∷ es) (j ∷ ks) h form)
 
 -- Any of them.
 
@@ -213,14 +202,10 @@ all-fit scope [] ks h = refl
 all-fit scope (e ∷ es) [] h = absurd h
 all-fit scope (e ∷ es) (k ∷ ks) h = and_from (expr_fits e (read_scope scope) position.Plain) (list_all (λ e. expr_fits e (read_scope scope) position.Plain) es) (open-fits scope position.Plain e k h.0 refl) (all-fit scope es ks h.1)
 
-turned : (b : Bool) → not b ≡ true → b ≡ false
-turned true e = absurd cc
-turned false e = refl
-
 -- Lists and sets stand in `Group` alone.
 counted-by : (at : Position) (f : Aggregate) (es : List BExpr) → takes_aggregate at f ≡ true → counts_well at f es ≡ true → counts_badly f es ≡ false
 unfolding takes_aggregate is_of_series
-counted-by position.Group f es takes c = turned (counts_badly f es) c
+counted-by position.Group f es takes c = not-true (counts_badly f es) c
 counted-by position.Series aggregate.MakeList es takes c = absurd cc
 counted-by position.Series aggregate.MakeSet es takes c = absurd cc
 counted-by position.Series _ es takes c = refl
@@ -257,7 +242,7 @@ typed-as scope spot place f a false h takes e = record { holds = tt }
 typed-as scope spot place f a true h takes e =
     let one = and_parts (not a.has_stray) (aggregate_forms f a.has_star a.exprs && (spot.alone || has_one_result f a.exprs)) e in
     let two = and_parts (aggregate_forms f a.has_star a.exprs) (spot.alone || has_one_result f a.exprs) one.1 in
-    let plain = inner-plain scope f spot.position a takes h (turned a.has_stray one.0) in
+    let plain = inner-plain scope f spot.position a takes h (not-true a.has_stray one.0) in
     gives-typed (IsBound scope spot) place (V.Aggregate f a.exprs) (aggregate_given f a.kinds)
     (λ k given. call-bound scope spot f a.has_star a.exprs a.kinds k plain takes two.0 two.1 given)
 

@@ -1,6 +1,6 @@
 -- The arguments of a call: each is bound where its slot says, and a `*` stands for columns.
-use Rattle.std.proofs.Common.{◌≡◌, ℕ, Bool, true, false, List, [], ◌∷◌, ◌++◌, filter, refl, sym, ap, ◌∙◌, subst}
-use Rattle.std.specs.Prelude.{Option, None, Some, IfSome, Ok, Err, fold}
+use Rattle.std.proofs.Common.{◌≡◌, ℕ, Bool, true, false, List, [], ◌∷◌, ◌++◌, filter, refl, sym, subst}
+use Rattle.std.specs.Prelude.{Option, None, Some, IfSome, Ok, fold}
 use Rattle.std.specs.List.{AllByRecursion}
 use Rattle.kql_cells.specs.Named.{HasDistinctNames, column_name}
 use Rattle.kql_cells.specs.declared.schema.Column.{Column}
@@ -21,7 +21,7 @@ use Rattle.kql_fit_laws.proofs.ExpressionRows.{kind-found}
 use Rattle.kql_fit_laws.proofs.RowFacts.{column-found, pairwise-names}
 use Rattle.bind_expr.specs.Arguments.{aggregate_first, aggregate_next, aggregate_position, arg_link, first_column, first_slot, is_open, next_slot, no_args, placed, plain_slot, scalar_first, starred, taken, takes_part, window_first, window_next, with_arg, with_column, with_columns, with_star}
 use Rattle.bind_expr.specs.Bound.{Takes, args_taken}
-use Rattle.bind_expr.specs.Outcome.{Outcome, ◌>>=◌}
+use Rattle.bind_expr.specs.Outcome.{Outcome}
 use Rattle.bind_expr.specs.declared.scope.Scope.{Scope}
 use Rattle.bind_expr.specs.declared.typed.Typed.{Typed}
 use Rattle.bind_expr_laws.specs.Scopes.{IsSoundScope}

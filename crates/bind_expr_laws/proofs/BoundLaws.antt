@@ -1,6 +1,6 @@
 -- Every expression that is bound, by induction over its tree.
-use Rattle.std.proofs.Common.{◌≡◌, ◌≢◌, ℕ, Bool, true, false, List, [], ◌∷◌, ◌++◌, map, refl, sym, ap, ◌∙◌, subst}
-use Rattle.std.specs.Prelude.{◌&&◌, Result, Ok, Err, Option, None, Some, fold}
+use Rattle.std.proofs.Common.{◌≡◌, ◌≢◌, ℕ, true, List, [], ◌∷◌, ◌++◌, map, refl, sym, ap, ◌∙◌, subst}
+use Rattle.std.specs.Prelude.{Ok, Err, Option, None, Some, fold}
 use Rattle.std.proofs.lemmas.Bool.{and_parts, and_from}
 use Rattle.kql_cells.specs.declared.value.Kind.TheVariants as kind
 use Rattle.kql_cells.specs.declared.value.Value.TheVariants as value
@@ -14,7 +14,6 @@ use Rattle.kql_lexer.specs.declared.place.Place.{Place}
 use Rattle.kql_bound.specs.declared.expr.BExpr.{BExpr, out-BExpr, out-roll-BExpr, roll-BExpr, roll-out-BExpr}
 use Rattle.kql_bound.specs.declared.expr.BExpr.TheOpen.{BExpr-F}
 use Rattle.kql_bound.specs.declared.expr.BExpr.TheVariants as V
-use Rattle.kql_bound.specs.declared.expr.ChainSign.{ChainSign}
 use Rattle.kql_meaning.specs.FittingExpressions.{Scope as ReadScope, call_or_expr_fits, call_or_expr_fits_step, expr_fits, is_aggregate_call, is_aggregate_call_step, is_of_series, takes_aggregate, takes_columns}
 use Rattle.kql_meaning.specs.Results.{has_one_result}
 use Rattle.kql_meaning.specs.declared.position.Position.{Position}
@@ -36,9 +35,9 @@ use Rattle.kql_syntax.specs.declared.tree.ProdSign.{ProdSign}
 use Rattle.kql_syntax.specs.declared.tree.SumSign.{SumSign}
 use Rattle.kql_syntax.specs.declared.tree.Word.{Word}
 use Rattle.bind_expr.specs.Arguments.{aggregate_position, first_slot, next_slot, plain_arg, window_first, window_next}
-use Rattle.bind_expr.specs.Bound.{Binds, Look, Named, Takes, access_read, access_step, and_bound, and_step, arg_bound, arg_step, args_taken, bound_expr, call_bound, cmp_bound, cmp_step, entry_key, expr_bound, expr_step, found_call, inside, negated, operand_link, path_from, post_bound, post_of, post_step, prod_bound, prod_sign, prod_step, sign_bound, sign_step, sum_bound, sum_sign, sum_step, term_read, term_step}
+use Rattle.bind_expr.specs.Bound.{Binds, Look, Named, Takes, access_read, access_step, and_bound, and_step, arg_bound, arg_step, args_taken, bound_expr, cmp_bound, cmp_step, entry_key, expr_bound, expr_step, found_call, inside, negated, operand_link, path_from, post_bound, post_of, post_step, prod_bound, prod_sign, prod_step, sign_bound, sign_step, sum_bound, sum_sign, sum_step, term_read, term_step}
 use Rattle.bind_expr.specs.Comparisons.{bounded, compared, in_node, listed}
-use Rattle.bind_expr.specs.Constants.{constant_of, is_constant}
+use Rattle.bind_expr.specs.Constants.{is_constant}
 use Rattle.bind_expr.specs.Names.{name_bound}
 use Rattle.bind_expr.specs.Outcome.{Outcome, ◌>>=◌}
 use Rattle.bind_expr.specs.Paths.{step_bound, step_named}
@@ -57,11 +56,12 @@ use Rattle.bind_expr_laws.proofs.Logic.{and-joins, or-joins, terms-bound}
 use Rattle.bind_expr_laws.proofs.Outcomes.{Each, Gives, gives-fold, gives-map, gives-then, given}
 use Rattle.bind_expr_laws.proofs.Parts.{AreOperands, IsBound, IsPart, part-bound}
 use Rattle.bind_expr_laws.proofs.Paths.{path-bound}
-use Rattle.bind_expr_laws.proofs.Shapes.{Args, Spot}
+use Rattle.bind_expr_laws.proofs.Shapes.{Spot}
 use Rattle.bind_expr_laws.proofs.Standing.{stands}
 use Rattle.bind_expr_laws.proofs.StandingSteps.{stands-Aggregate}
 use Rattle.bind_expr_laws.proofs.Terms.{literal-bound, name-bound, step-bound}
 use Rattle.bind_expr_laws.proofs.Windows.{window-bound}
+use Rattle.bind_expr_laws.proofs.Facts.{never}
 
 -- Each level.
 
@@ -380,13 +380,7 @@ layer-one (BExpr-F.Aggregate f args) scope at single e =
     let fits = sym (ap (λ (g : BExpr-F BExpr). call_or_expr_fits_step g (expr_fits (roll-BExpr (BExpr-F.Aggregate f args)) scope at) scope at) (out-roll-BExpr (BExpr-F.Aggregate f args))) ∙ e in
     let takes = (and_parts _ _ (sym (aggregate-checked f args scope at) ∙ fits)).0 in
     ap (λ (x : BExpr). expr_fits x scope at) (V.rolls-Aggregate f args) ∙ (fits-Aggregate f args scope at ∙ and_from _ _ (single f args (V.rolls-Aggregate f args) takes) fits)
-layer-one (BExpr-F.Literal l) scope at single e = sym (ap (λ (g : BExpr-F BExpr). call_or_expr_fits_step g (expr_fits (roll-BExpr (BExpr-F.Literal l)) scope at) scope at) (out-roll-BExpr (BExpr-F.Literal l))) ∙ e
-layer-one (BExpr-F.Column n) scope at single e = sym (ap (λ (g : BExpr-F BExpr). call_or_expr_fits_step g (expr_fits (roll-BExpr (BExpr-F.Column n)) scope at) scope at) (out-roll-BExpr (BExpr-F.Column n))) ∙ e
-layer-one (BExpr-F.Step c) scope at single e = sym (ap (λ (g : BExpr-F BExpr). call_or_expr_fits_step g (expr_fits (roll-BExpr (BExpr-F.Step c)) scope at) scope at) (out-roll-BExpr (BExpr-F.Step c))) ∙ e
-layer-one (BExpr-F.Call f args) scope at single e = sym (ap (λ (g : BExpr-F BExpr). call_or_expr_fits_step g (expr_fits (roll-BExpr (BExpr-F.Call f args)) scope at) scope at) (out-roll-BExpr (BExpr-F.Call f args))) ∙ e
-layer-one (BExpr-F.Chain first links) scope at single e = sym (ap (λ (g : BExpr-F BExpr). call_or_expr_fits_step g (expr_fits (roll-BExpr (BExpr-F.Chain first links)) scope at) scope at) (out-roll-BExpr (BExpr-F.Chain first links))) ∙ e
-layer-one (BExpr-F.Path whole steps) scope at single e = sym (ap (λ (g : BExpr-F BExpr). call_or_expr_fits_step g (expr_fits (roll-BExpr (BExpr-F.Path whole steps)) scope at) scope at) (out-roll-BExpr (BExpr-F.Path whole steps))) ∙ e
-layer-one (BExpr-F.Window f args) scope at single e = sym (ap (λ (g : BExpr-F BExpr). call_or_expr_fits_step g (expr_fits (roll-BExpr (BExpr-F.Window f args)) scope at) scope at) (out-roll-BExpr (BExpr-F.Window f args))) ∙ e
+layer-one y scope at single e = sym (ap (λ (g : BExpr-F BExpr). call_or_expr_fits_step g (expr_fits (roll-BExpr y) scope at) scope at) (out-roll-BExpr y)) ∙ e
 
 single-fits : (e : BExpr) (scope : ReadScope) (at : Position) → IsSingle e at → call_or_expr_fits e scope at ≡ true → expr_fits e scope at ≡ true
 single-fits e scope at single h =
@@ -394,23 +388,13 @@ single-fits e scope at single h =
     subst (λ (x : BExpr). expr_fits x scope at ≡ true) same
     (layer-one (out-BExpr e) scope at (λ g args is takes. single g args (sym same ∙ is) takes) (subst (λ (x : BExpr). call_or_expr_fits x scope at ≡ true) (sym same) h))
 
-never : {A : Type 0} (b : Bool) → b ≡ false → b ≡ true → A
-never true e f = absurd cc
-never false e f = absurd cc
-
 constant-single : (e : BExpr) (at : Position) → is_constant e ≡ true → IsSingle e at
 constant-single e at c g args is takes = never (is_constant (V.Aggregate g args)) (constant-Aggregate g args) (subst (λ (x : BExpr). is_constant x ≡ true) is c)
 
 -- A call of an aggregate stands rightly as an item of `make-series`.
 call-roll : (f : BExpr-F BExpr) → is_aggregate_call_step f ≡ true → stands position.Series (roll-BExpr f) ≡ true
 call-roll (BExpr-F.Aggregate f args) e = ap (stands position.Series) (V.rolls-Aggregate f args) ∙ stands-Aggregate position.Series f args
-call-roll (BExpr-F.Literal l) e = absurd cc
-call-roll (BExpr-F.Column n) e = absurd cc
-call-roll (BExpr-F.Step c) e = absurd cc
-call-roll (BExpr-F.Call f args) e = absurd cc
-call-roll (BExpr-F.Chain first links) e = absurd cc
-call-roll (BExpr-F.Path whole steps) e = absurd cc
-call-roll (BExpr-F.Window f args) e = absurd cc
+call-roll _ e = absurd cc
 
 call-stands : (e : BExpr) → is_aggregate_call e ≡ true → stands position.Series e ≡ true
 unfolding is_aggregate_call

@@ -1,17 +1,18 @@
 -- Calls of scalar functions.
 use Rattle.std.proofs.Common.{◌≡◌, ℕ, ℤ, Bool, true, false, List, [], ◌∷◌, length, refl, sym, ap, ◌∙◌, subst}
-use Rattle.std.specs.Prelude.{◌&&◌, not, if◌then◌else◌, Option, None, Some, IfSome, Ok, Err, is_some}
-use Rattle.std.proofs.lemmas.Bool.{and_parts, and_from}
+use Rattle.std.specs.Prelude.{◌&&◌, not, if◌then◌else◌, Option, None, Some, IfSome}
+use Rattle.std.proofs.lemmas.Bool.{and_parts, not-true}
+use Rattle.std.proofs.lemmas.Option.{same_Some}
 use Rattle.kql_cells.specs.Values.{IsMoment, IsOfKind}
 use Rattle.kql_cells.specs.declared.value.Kind.{Kind}
 use Rattle.kql_cells.specs.declared.value.Kind.TheVariants as kind
 use Rattle.kql_cells.specs.declared.value.Value.{Value}
 use Rattle.kql_cells.specs.declared.value.Value.TheVariants as value
-use Rattle.kql_functions.specs.Kinds.{arithmetic_kind, either, result_kind, row, same_kind, same_kinds, time_kind}
+use Rattle.kql_functions.specs.Kinds.{arithmetic_kind, either, result_kind, row, same_kinds, time_kind}
 use Rattle.kql_functions.specs.declared.func.Func.{Func}
 use Rattle.kql_functions.specs.declared.func.Func.TheVariants as func
 use Rattle.kql_functions.specs.declared.func.TimeFunc.TheVariants as time
-use Rattle.kql_scalar_fns.proofs.KindLaws.{same-kind, same-kinds}
+use Rattle.kql_scalar_fns.proofs.KindLaws.{same-kinds}
 use Rattle.kql_lexer.specs.declared.place.Place.{Place}
 use Rattle.kql_scalar_fns.specs.Time.{field_named, period_named}
 use Rattle.kql_bound.specs.Signs.{sign_func}
@@ -22,7 +23,6 @@ use Rattle.kql_bound.specs.declared.expr.ChainSign.{ChainSign}
 use Rattle.kql_bound.specs.declared.expr.ChainSign.TheVariants as sign
 use Rattle.kql_bound.specs.declared.literal.Lit.{Lit}
 use Rattle.kql_meaning.specs.declared.position.Position.{Position}
-use Rattle.kql_meaning.specs.Expressions.{kind_of}
 use Rattle.kql_meaning.specs.FittingExpressions.{first_is_part, first_word, is_callable, literal_of, literal_step, names_part, part_fits, word_in, word_of}
 use Rattle.kql_meaning.specs.Literals.{is_of_kind, is_well_formed, literal_fits}
 use Rattle.kql_meaning.proofs.ExpressionFitLaws.{fits-Literal}
@@ -32,7 +32,6 @@ use Rattle.bind_expr.specs.Calls.{from_moment, has_part, is_part, is_part_litera
 use Rattle.bind_expr.specs.Counts.{count_of, is_count}
 use Rattle.bind_expr.specs.Operands.{typed_call}
 use Rattle.bind_expr.specs.declared.scope.Scope.{Scope}
-use Rattle.bind_expr.specs.declared.typed.Typed.{Typed}
 use Rattle.bind_expr_laws.specs.Scopes.{read_scope}
 use Rattle.bind_expr_laws.proofs.Arguments.{HasArgs, args-parts}
 use Rattle.bind_expr_laws.proofs.Chains.{chain-first, chain-part, chain-push}
@@ -46,26 +45,17 @@ use Rattle.bind_expr_laws.proofs.StandingSteps.{stands-Literal}
 
 literal-roll : (f : BExpr-F BExpr) (l : Lit) → literal_step f ≡ Some l → roll-BExpr f ≡ V.Literal l
 literal-roll (BExpr-F.Literal m) l e = let same : m ≡ l = cc in V.rolls-Literal m ∙ ap V.Literal same
-literal-roll (BExpr-F.Column n) l e = absurd cc
-literal-roll (BExpr-F.Step c) l e = absurd cc
-literal-roll (BExpr-F.Call f args) l e = absurd cc
-literal-roll (BExpr-F.Chain first links) l e = absurd cc
-literal-roll (BExpr-F.Path whole steps) l e = absurd cc
-literal-roll (BExpr-F.Window f args) l e = absurd cc
-literal-roll (BExpr-F.Aggregate f args) l e = absurd cc
+literal-roll _ l e = absurd cc
 
 literal-is : (e : BExpr) (l : Lit) → literal_of e ≡ Some l → e ≡ V.Literal l
 unfolding literal_of
 literal-is e l h = sym (roll-out-BExpr e) ∙ literal-roll (out-BExpr e) l h
 
-same-some : {A : Type 0} (a b : A) → Some a ≡ Some b → a ≡ b
-same-some a b e = cc
-
 pub literal-parts : (scope : Scope) (at : Position) (e : BExpr) (k : Kind) (l : Lit) → IsPart scope at e k → literal_of e ≡ Some l → (literal_fits l ≡ true) × (l.kind ≡ k)
 literal-parts scope at e k l h is =
     let same = literal-is e l is in
     let part = subst (λ (x : BExpr). IsPart scope at x k) same h in
-    (sym (fits-Literal l (read_scope scope) at) ∙ part.fits (stands-Literal at l), same-some l.kind k (sym (kind-Literal l scope.schema) ∙ part.kind))
+    (sym (fits-Literal l (read_scope scope) at) ∙ part.fits (stands-Literal at l), same_Some l.kind k (sym (kind-Literal l scope.schema) ∙ part.kind))
 
 pub literal-known : (l : Lit) → literal_fits l ≡ true → IsOfKind l.kind l.value
 unfolding literal_fits
@@ -103,7 +93,7 @@ unfolding row
 row-some ks taken given k e = tested (same_kinds ks taken) refl e
   where
     tested : (b : Bool) → same_kinds ks taken ≡ b → (if b then Some given else None) ≡ Some k → (ks ≡ taken) × (given ≡ k)
-    tested true is e = (same-kinds ks taken is, same-some given k e)
+    tested true is e = (same-kinds ks taken is, same_Some given k e)
     tested false is e = absurd cc
 
 part-known : (scope : Scope) (at : Position) (f : Func) (es : List BExpr) (ks : List Kind) (k : Kind) → has_part f es ≡ true → AreParts scope at es ks → result_kind f ks ≡ Some k → part_fits f es ≡ true
@@ -121,15 +111,11 @@ no-sign _ e = refl
 
 -- Calls as they stand.
 
-turned : (b : Bool) → not b ≡ true → b ≡ false
-turned true e = absurd cc
-turned false e = refl
-
 args-known : (f : Func) (a : Args) → takes_args f a ≡ true → (a.has_stray ≡ false) × (has_part f a.exprs ≡ true)
 unfolding takes_args
 args-known f a e =
     let both = and_parts (not a.has_stray) (is_count (count_of f) (length a.kinds) && has_part f a.exprs) e in
-    (turned a.has_stray both.0, (and_parts (is_count (count_of f) (length a.kinds)) (has_part f a.exprs) both.1).1)
+    (not-true a.has_stray both.0, (and_parts (is_count (count_of f) (length a.kinds)) (has_part f a.exprs) both.1).1)
 
 plain-as : (scope : Scope) (spot : Spot) (place : Place) (f : Func) (a : Args) (b : Bool) → HasArgs scope spot.position spot.position a → moment_sign f ≡ None → takes_args f a ≡ b → Gives (IsBound scope spot) (plain_call_as place f a b)
 unfolding typed_call

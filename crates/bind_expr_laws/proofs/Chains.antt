@@ -1,13 +1,12 @@
 -- Chains of `+ - * / %`.
-use Rattle.std.proofs.Common.{◌≡◌, ◌⊎◌, inl, inr, Bool, true, false, List, [], ◌∷◌, ◌++◌, map, refl, sym, ap, ◌∙◌, subst}
-use Rattle.std.specs.Prelude.{◌&&◌, if◌then◌else◌, Option, None, Some, IfSome, Ok, Err, fold, is_some}
+use Rattle.std.proofs.Common.{◌≡◌, ◌⊎◌, inl, inr, Bool, true, false, List, [], ◌∷◌, ◌++◌, refl, sym, ◌∙◌, subst}
+use Rattle.std.specs.Prelude.{◌&&◌, if◌then◌else◌, Option, None, Some, IfSome, Ok, fold}
 use Rattle.std.specs.List.{list_all}
 use Rattle.std.proofs.lemmas.Bool.{and_parts, and_from}
 use Rattle.std.proofs.lemmas.List.Folds.{list_all-append}
 use Rattle.kql_cells.specs.declared.value.Kind.{Kind}
 use Rattle.kql_cells.specs.declared.value.Kind.TheVariants as kind
 use Rattle.kql_functions.specs.Kinds.{arithmetic_kind, either, is_dynamic, result_kind, row, same_kinds}
-use Rattle.kql_functions.specs.declared.func.Func.{Func}
 use Rattle.kql_lexer.specs.declared.place.Place.{Place}
 use Rattle.kql_bound.specs.Signs.{sign_func}
 use Rattle.kql_bound.specs.declared.expr.BExpr.{BExpr}
@@ -16,7 +15,7 @@ use Rattle.kql_bound.specs.declared.expr.ChainSign.{ChainSign}
 use Rattle.kql_bound.specs.declared.expr.ChainSign.TheVariants as sign
 use Rattle.kql_cells.specs.declared.schema.Column.{Column}
 use Rattle.kql_meaning.specs.declared.position.Position.{Position}
-use Rattle.kql_meaning.specs.Expressions.{all_known, call_kind, chain_kind, kind_along, kind_of}
+use Rattle.kql_meaning.specs.Expressions.{call_kind, chain_kind, kind_along, kind_of}
 use Rattle.kql_meaning.specs.FittingExpressions.{expr_fits, links_fit}
 use Rattle.kql_meaning.proofs.KindLaws.{kind-Chain}
 use Rattle.kql_meaning.proofs.ExpressionFitLaws.{fits-Chain}
@@ -29,9 +28,10 @@ use Rattle.bind_expr.specs.declared.typed.Typed.{Typed}
 use Rattle.bind_expr_laws.specs.Scopes.{read_scope}
 use Rattle.bind_expr_laws.proofs.Standing.{stands}
 use Rattle.bind_expr_laws.proofs.Outcomes.{Each, Gives, gives-fold, gives-ok, gives-then}
-use Rattle.bind_expr_laws.proofs.Parts.{IsBound, IsPart, beside-part, part-bound}
+use Rattle.bind_expr_laws.proofs.Parts.{IsBound, IsPart, beside-part, part-bound, two-kind}
 use Rattle.bind_expr_laws.proofs.Shapes.{Chained, Spot}
 use Rattle.bind_expr_laws.proofs.StandingSteps.{stands-Chain}
+use Rattle.bind_expr_laws.proofs.Facts.{some-is}
 
 -- No sign gives a dynamic value.
 
@@ -77,10 +77,6 @@ along-push : (links : List (ChainSign × BExpr)) (columns : List Column) (k : Op
 unfolding kind_along chain_kind
 along-push [] columns k s e = refl
 along-push (l ∷ ls) columns k s e = along-push ls columns (call_kind (sign_func l.0) (k ∷ kind_of l.1 columns ∷ [])) s e
-
-two-kind : (f : Func) (a b : Option Kind) (j k : Kind) → a ≡ Some j → b ≡ Some k → call_kind f (a ∷ b ∷ []) ≡ result_kind f (j ∷ k ∷ [])
-unfolding call_kind all_known
-two-kind f a b j k e h = rw (e, h) refl
 
 links-push : (links : List (ChainSign × BExpr)) (p : ChainSign × BExpr → Bool) (l : ChainSign × BExpr) → list_all p (links ++ l ∷ []) ≡ (list_all p links && (p l && true))
 links-push links p l = list_all-append p links (l ∷ [])
@@ -147,9 +143,6 @@ link-bound scope at s place left right h part =
     (λ k e. chain-push scope at l.expr left.links l.kind s r.expr r.kind k (left-beside scope at left.first left.links left.kind right.kind h) (beside-part scope at right left.kind part) e)
 
 -- The whole.
-
-some-is : {A : Type 0} (o : Option A) (a : A) → o ≡ Some a → is_some o ≡ true
-some-is o a e = rw e refl
 
 pub chain-part : (scope : Scope) (at : Position) (first : BExpr) (links : List (ChainSign × BExpr)) (k : Kind) → IsChain scope at first links k → IsPart scope at (V.Chain first links) k
 chain-part scope at first links k h = record {

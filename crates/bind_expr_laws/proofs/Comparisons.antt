@@ -1,11 +1,10 @@
 -- Comparisons, and a minus before a term.
-use Rattle.std.proofs.Common.{◌≡◌, Bool, true, false, List, [], ◌∷◌, refl}
+use Rattle.std.proofs.Common.{Bool, true, false, List, [], ◌∷◌, refl}
 use Rattle.kql_cells.specs.declared.value.Kind.{Kind}
 use Rattle.kql_functions.specs.declared.func.ArithmeticFunc.{ArithmeticFunc}
 use Rattle.kql_functions.specs.declared.func.ArithmeticFunc.TheVariants as arithmetic
 use Rattle.kql_functions.specs.declared.func.ComparisonFunc.{ComparisonFunc}
 use Rattle.kql_functions.specs.declared.func.ComparisonFunc.TheVariants as comparison
-use Rattle.kql_functions.specs.declared.func.Func.{Func}
 use Rattle.kql_functions.specs.declared.func.Func.TheVariants as func
 use Rattle.kql_functions.specs.declared.func.SearchFunc.{SearchFunc}
 use Rattle.kql_lexer.specs.declared.place.Place.{Place}

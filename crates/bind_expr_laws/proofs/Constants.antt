@@ -1,6 +1,6 @@
 -- Constants: they stand rightly everywhere, and have one value, whose literal fits. Where columns may stand, so does every expression.
-use Rattle.std.proofs.Common.{◌≡◌, ◌<◌, ℕ, Bool, true, false, List, [], ◌∷◌, map, refl, sym, ap, ap₂, ◌∙◌, subst, arith}
-use Rattle.std.specs.Prelude.{◌&&◌, ◌||◌, not, if◌then◌else◌, Option, None, Some}
+use Rattle.std.proofs.Common.{◌≡◌, ℕ, true, false, List, [], ◌∷◌, map, refl, sym, ap, ap₂, ◌∙◌, subst, arith}
+use Rattle.std.specs.Prelude.{◌&&◌, not, Option, None, Some}
 use Rattle.std.specs.List.{list_all, list_any}
 use Rattle.std.proofs.lemmas.Bool.{and_parts, and_from, or_parts}
 use Rattle.std.proofs.lemmas.List.Elements.{All-from_recursion}
@@ -37,11 +37,12 @@ use Rattle.bind_expr.proofs.ConstantSteps.{constant-Aggregate, constant-Call, co
 use Rattle.bind_expr.specs.declared.scope.Scope.{Scope}
 use Rattle.bind_expr.specs.declared.typed.Typed.{Typed}
 use Rattle.bind_expr_laws.proofs.Standing.{counts_well, stands}
-use Rattle.bind_expr_laws.specs.Scopes.{IsSoundScope, read_scope}
+use Rattle.bind_expr_laws.specs.Scopes.{read_scope}
 use Rattle.bind_expr_laws.specs.Refused.{has_bad_count, has_bare_column}
 use Rattle.bind_expr_laws.proofs.Parts.{IsPart}
 use Rattle.bind_expr_laws.proofs.RefusedSteps.{bad-Aggregate, bad-Call, bad-Chain, bad-Path, bare-Call, bare-Chain, bare-Column, bare-Path, bare-Step}
 use Rattle.bind_expr_laws.proofs.StandingSteps.{stands-Aggregate, stands-Call, stands-Chain, stands-Column, stands-Literal, stands-Path, stands-Step, stands-Window}
+use Rattle.bind_expr_laws.proofs.Facts.{if-some, never}
 
 -- By induction over expressions.
 
@@ -126,10 +127,6 @@ counts-open position.Term f args e = refl
 counts-open position.Group f args e = absurd cc
 counts-open position.Series f args e = refl
 counts-open position.Constant f args e = refl
-
-never : {A : Type 0} (b : Bool) → b ≡ false → b ≡ true → A
-never true e f = absurd cc
-never false e f = absurd cc
 
 of-layer : (y : BExpr-F Given) → IsFree (roll-BExpr (map-BExpr Given BExpr bare y))
 unfolding value_along value_down
@@ -227,10 +224,6 @@ constant-fits scope at e k names h c =
     let known : FitsKnown (kind_of e scope.schema) (val e t 0 []) = expressions_keep e at t 0 s (names, rows) (no-records scope.schema) (λ x. omega arith) (h.fits (steady.standing at)) in
     let fits : FitsKind k (val e t 0 []) = subst (λ (o : Option Kind). FitsKnown o (val e t 0 [])) h.kind known in
     subst (FitsKind k) (steady.value t bare_row 0 0 [] []) fits
-
-if-some : {A : Type 0} (b : Bool) (a c : A) → (if b then Some a else None) ≡ Some c → (b ≡ true) × (a ≡ c)
-if-some true a c e = (refl, cc)
-if-some false a c e = absurd cc
 
 pub constant-is : (t : Typed) (l : Lit) → constant_of t ≡ Some l → is_constant t.expr ≡ true
 unfolding constant_of

@@ -5,6 +5,7 @@ pub mod Calls
 pub mod Chains
 pub mod Comparisons
 pub mod Constants
+pub mod Facts
 pub mod Logic
 pub mod Outcomes
 pub mod Parts

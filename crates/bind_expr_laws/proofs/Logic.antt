@@ -1,12 +1,10 @@
 -- Terms joined by `and` or by `or`.
-use Rattle.std.proofs.Common.{◌≡◌, Bool, true, false, nat_le, List, [], ◌∷◌, ◌++◌, length, refl, ap, sym, ◌∙◌, subst, arith}
-use Rattle.std.specs.Prelude.{◌&&◌, if◌then◌else◌, Option, None, Some, Ok, Err, fold}
-use Rattle.std.specs.List.{list_all}
-use Rattle.std.proofs.lemmas.Bool.{and_parts, and_from, le-leb}
+use Rattle.std.proofs.Common.{◌≡◌, true, nat_le, List, [], ◌∷◌, ◌++◌, length, refl, sym, ◌∙◌, subst, arith}
+use Rattle.std.specs.Prelude.{◌&&◌, Option, None, Some, Ok, fold}
+use Rattle.std.proofs.lemmas.Bool.{and_parts, le-leb}
 use Rattle.kql_cells.specs.declared.value.Kind.{Kind}
 use Rattle.kql_cells.specs.declared.value.Kind.TheVariants as kind
 use Rattle.kql_functions.specs.Kinds.{all_same, logic_kind, result_kind, same_kind, several_of}
-use Rattle.kql_functions.specs.declared.func.Func.{Func}
 use Rattle.kql_functions.specs.declared.func.Func.TheVariants as func
 use Rattle.kql_functions.specs.declared.func.LogicFunc.{LogicFunc}
 use Rattle.kql_functions.specs.declared.func.LogicFunc.TheVariants as logic
@@ -25,6 +23,7 @@ use Rattle.bind_expr.specs.declared.typed.Typed.{Typed}
 use Rattle.bind_expr_laws.proofs.Outcomes.{Each, Gives, gives-fold, gives-ok, gives-then}
 use Rattle.bind_expr_laws.proofs.Parts.{AreParts, IsBound, IsPart, IsPlain, beside-part, call-part, part-bound}
 use Rattle.bind_expr_laws.proofs.Shapes.{Joined, Spot}
+use Rattle.bind_expr_laws.proofs.Facts.{if-some}
 
 -- `and` and `or` join bools.
 abbrev pub Joins : LogicFunc → Type 0
@@ -37,10 +36,6 @@ and-joins ks = refl
 pub or-joins : Joins logic.Or
 unfolding result_kind logic_kind
 or-joins ks = refl
-
-if-some : {A : Type 0} (b : Bool) (a c : A) → (if b then Some a else None) ≡ Some c → (b ≡ true) × (a ≡ c)
-if-some true a c e = (refl, cc)
-if-some false a c e = absurd cc
 
 both-bool : (j k given : Kind) → several_of 2 kind.Bool kind.Bool (j ∷ k ∷ []) ≡ Some given → (j ≡ kind.Bool) × (k ≡ kind.Bool) × (given ≡ kind.Bool)
 unfolding several_of all_same

@@ -1,6 +1,6 @@
 -- Parts of an expression that are bound: they have their types, and fit where they stand rightly.
-use Rattle.std.proofs.Common.{◌≡◌, ℕ, Bool, true, false, List, [], ◌∷◌, map, refl, sym, ap, ◌∙◌, subst}
-use Rattle.std.specs.Prelude.{◌&&◌, Option, None, Some, is_some, option_and_then, option_map}
+use Rattle.std.proofs.Common.{◌≡◌, Bool, true, false, List, [], ◌∷◌, refl, sym, ap, ◌∙◌, subst}
+use Rattle.std.specs.Prelude.{Option, Some}
 use Rattle.std.specs.List.{list_all}
 use Rattle.std.proofs.lemmas.Bool.{and_parts, and_from}
 use Rattle.kql_cells.specs.declared.value.Kind.{Kind}
@@ -14,13 +14,11 @@ use Rattle.kql_lexer.specs.declared.place.Place.{Place}
 use Rattle.kql_bound.specs.declared.expr.BExpr.{BExpr, out-BExpr, roll-BExpr, roll-out-BExpr, out-roll-BExpr}
 use Rattle.kql_bound.specs.declared.expr.BExpr.TheOpen.{BExpr-F}
 use Rattle.kql_bound.specs.declared.expr.BExpr.TheVariants as V
-use Rattle.kql_bound.specs.declared.literal.Lit.{Lit}
 use Rattle.kql_meaning.specs.declared.position.Position.{Position}
 use Rattle.kql_meaning.specs.Expressions.{all_known, call_kind, kind_of, kinds_in}
 use Rattle.kql_meaning.specs.FittingExpressions.{Scope as ReadScope, call_or_expr_fits, call_or_expr_fits_step, expr_fits, is_callable, part_fits}
-use Rattle.kql_meaning.specs.Literals.{literal_fits}
-use Rattle.kql_meaning.proofs.KindLaws.{kind-Call, kind-Literal}
-use Rattle.kql_meaning.proofs.ExpressionFitLaws.{fits-Aggregate, fits-Call, fits-Literal}
+use Rattle.kql_meaning.proofs.KindLaws.{kind-Call}
+use Rattle.kql_meaning.proofs.ExpressionFitLaws.{fits-Aggregate, fits-Call}
 use Rattle.bind_expr.specs.Operands.{all_beside, beside, beside_as, exprs_of, kinds_of, operands_call, to_kind, typed_call}
 use Rattle.bind_expr.specs.declared.scope.Scope.{Scope}
 use Rattle.bind_expr_laws.proofs.Shapes.{Spot}
@@ -29,6 +27,7 @@ use Rattle.bind_expr_laws.specs.Scopes.{read_scope}
 use Rattle.bind_expr_laws.proofs.Standing.{stands}
 use Rattle.bind_expr_laws.proofs.Outcomes.{Gives, gives-typed}
 use Rattle.bind_expr_laws.proofs.StandingSteps.{stands-Call}
+use Rattle.bind_expr_laws.proofs.Facts.{some-is}
 
 -- A part has its type, and fits where it stands rightly.
 pub record IsPart (scope : Scope) (at : Position) (e : BExpr) (k : Kind) : Type 0 where
@@ -56,13 +55,7 @@ unfolding call_or_expr_fits
 layer-fits (BExpr-F.Aggregate f args) scope at e =
     let fits = sym (fits-Aggregate f args scope at) ∙ (ap (λ (x : BExpr). expr_fits x scope at) (sym (V.rolls-Aggregate f args)) ∙ e) in
     ap (λ (g : BExpr-F BExpr). call_or_expr_fits_step g (expr_fits (roll-BExpr (BExpr-F.Aggregate f args)) scope at) scope at) (out-roll-BExpr (BExpr-F.Aggregate f args)) ∙ (and_parts _ _ fits).1
-layer-fits (BExpr-F.Literal l) scope at e = ap (λ (g : BExpr-F BExpr). call_or_expr_fits_step g (expr_fits (roll-BExpr (BExpr-F.Literal l)) scope at) scope at) (out-roll-BExpr (BExpr-F.Literal l)) ∙ e
-layer-fits (BExpr-F.Column n) scope at e = ap (λ (g : BExpr-F BExpr). call_or_expr_fits_step g (expr_fits (roll-BExpr (BExpr-F.Column n)) scope at) scope at) (out-roll-BExpr (BExpr-F.Column n)) ∙ e
-layer-fits (BExpr-F.Step c) scope at e = ap (λ (g : BExpr-F BExpr). call_or_expr_fits_step g (expr_fits (roll-BExpr (BExpr-F.Step c)) scope at) scope at) (out-roll-BExpr (BExpr-F.Step c)) ∙ e
-layer-fits (BExpr-F.Call f args) scope at e = ap (λ (g : BExpr-F BExpr). call_or_expr_fits_step g (expr_fits (roll-BExpr (BExpr-F.Call f args)) scope at) scope at) (out-roll-BExpr (BExpr-F.Call f args)) ∙ e
-layer-fits (BExpr-F.Chain first links) scope at e = ap (λ (g : BExpr-F BExpr). call_or_expr_fits_step g (expr_fits (roll-BExpr (BExpr-F.Chain first links)) scope at) scope at) (out-roll-BExpr (BExpr-F.Chain first links)) ∙ e
-layer-fits (BExpr-F.Path whole steps) scope at e = ap (λ (g : BExpr-F BExpr). call_or_expr_fits_step g (expr_fits (roll-BExpr (BExpr-F.Path whole steps)) scope at) scope at) (out-roll-BExpr (BExpr-F.Path whole steps)) ∙ e
-layer-fits (BExpr-F.Window f args) scope at e = ap (λ (g : BExpr-F BExpr). call_or_expr_fits_step g (expr_fits (roll-BExpr (BExpr-F.Window f args)) scope at) scope at) (out-roll-BExpr (BExpr-F.Window f args)) ∙ e
+layer-fits y scope at e = ap (λ (g : BExpr-F BExpr). call_or_expr_fits_step g (expr_fits (roll-BExpr y) scope at) scope at) (out-roll-BExpr y) ∙ e
 
 pub fits-whole : (e : BExpr) (scope : ReadScope) (at : Position) → expr_fits e scope at ≡ true → call_or_expr_fits e scope at ≡ true
 fits-whole e scope at h =
@@ -97,8 +90,9 @@ pub call-kind : (scope : Scope) (at : Position) (f : Func) (es : List BExpr) (ks
 unfolding call_kind
 call-kind scope at f es ks h = rw (parts-known scope at es ks h) refl
 
-some-is : {A : Type 0} (o : Option A) (a : A) → o ≡ Some a → is_some o ≡ true
-some-is o a e = rw e refl
+pub two-kind : (f : Func) (a b : Option Kind) (j k : Kind) → a ≡ Some j → b ≡ Some k → call_kind f (a ∷ b ∷ []) ≡ result_kind f (j ∷ k ∷ [])
+unfolding call_kind all_known
+two-kind f a b j k e h = rw (e, h) refl
 
 pub call-part : (scope : Scope) (at : Position) (f : Func) (es : List BExpr) (ks : List Kind) (k : Kind) → AreParts scope at es ks → is_callable f ≡ true → part_fits f es ≡ true → result_kind f ks ≡ Some k → IsPart scope at (V.Call f es) k
 call-part scope at f es ks k h callable part given =

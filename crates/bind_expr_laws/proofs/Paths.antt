@@ -1,6 +1,6 @@
 -- Looks into dynamic values.
-use Rattle.std.proofs.Common.{◌≡◌, Bool, true, false, List, [], ◌∷◌, ◌++◌, refl, sym, ap, ◌∙◌}
-use Rattle.std.specs.Prelude.{◌&&◌, Option, None, Some, Ok, Err, fold, is_some}
+use Rattle.std.proofs.Common.{◌≡◌, true, List, [], ◌∷◌, ◌++◌, refl, sym, ◌∙◌}
+use Rattle.std.specs.Prelude.{Option, None, Some, Ok, fold}
 use Rattle.std.specs.List.{list_all}
 use Rattle.std.proofs.lemmas.Bool.{and_parts, and_from}
 use Rattle.std.proofs.lemmas.List.Folds.{list_all-append}
@@ -11,21 +11,22 @@ use Rattle.kql_lexer.specs.declared.place.Place.{Place}
 use Rattle.kql_bound.specs.declared.expr.BExpr.{BExpr}
 use Rattle.kql_bound.specs.declared.expr.BExpr.TheVariants as V
 use Rattle.kql_meaning.specs.declared.position.Position.{Position}
-use Rattle.kql_meaning.specs.Expressions.{all_known, call_kind, kind_down, kind_of, kinds_in, look, path_kind}
+use Rattle.kql_meaning.specs.Expressions.{call_kind, kind_down, kind_of, kinds_in, look, path_kind}
 use Rattle.kql_meaning.specs.FittingExpressions.{expr_fits}
 use Rattle.kql_meaning.proofs.KindLaws.{kind-Path}
 use Rattle.kql_meaning.proofs.ExpressionFitLaws.{fits-Path}
 use Rattle.bind_expr.specs.Bound.{Look, inside, path_of}
 use Rattle.bind_expr.specs.Outcome.{Outcome, ◌>>=◌}
-use Rattle.bind_expr.specs.Paths.{look_link, looked_as, looked_from, looked_whole, path_closed, path_opened, path_whole, with_look}
+use Rattle.bind_expr.specs.Paths.{looked_as, looked_from, looked_whole, path_closed, path_opened, path_whole, with_look}
 use Rattle.bind_expr.specs.declared.scope.Scope.{Scope}
 use Rattle.bind_expr.specs.declared.typed.Typed.{Typed}
 use Rattle.bind_expr_laws.specs.Scopes.{read_scope}
 use Rattle.bind_expr_laws.proofs.Standing.{stands}
 use Rattle.bind_expr_laws.proofs.Outcomes.{Each, Gives, gives-fold, gives-ok, gives-then}
-use Rattle.bind_expr_laws.proofs.Parts.{IsBound, IsPart, part-bound}
+use Rattle.bind_expr_laws.proofs.Parts.{IsBound, IsPart, part-bound, two-kind}
 use Rattle.bind_expr_laws.proofs.Shapes.{Looked, Spot}
 use Rattle.bind_expr_laws.proofs.StandingSteps.{stands-Path}
+use Rattle.bind_expr_laws.proofs.Facts.{some-is}
 
 -- A path so far has its type, and its parts fit where they stand rightly.
 pub record IsPath (scope : Scope) (at : Position) (whole : BExpr) (steps : List BExpr) (k : Kind) : Type 0 where
@@ -38,13 +39,9 @@ unfolding kind_down path_kind kinds_in
 down-push [] columns k e = refl
 down-push (s ∷ ss) columns k e = down-push ss columns (call_kind look (k ∷ kind_of s columns ∷ [])) e
 
-two-kind : (a b : Option Kind) (j k : Kind) → a ≡ Some j → b ≡ Some k → call_kind look (a ∷ b ∷ []) ≡ result_kind look (j ∷ k ∷ [])
-unfolding call_kind all_known
-two-kind a b j k e h = rw (e, h) refl
-
 path-push : (scope : Scope) (at : Position) (whole : BExpr) (steps : List BExpr) (k : Kind) (key : BExpr) (j given : Kind) → IsPath scope at whole steps k → IsPart scope at key j → result_kind look (k ∷ j ∷ []) ≡ Some given → IsPath scope at whole (steps ++ key ∷ []) given
 path-push scope at whole steps k key j given h part is = record {
-  kind = down-push steps scope.schema (kind_of whole scope.schema) key ∙ (two-kind _ _ k j h.kind part.kind ∙ is);
+  kind = down-push steps scope.schema (kind_of whole scope.schema) key ∙ (two-kind look _ _ k j h.kind part.kind ∙ is);
   start = h.start;
   rest = λ e.
       let both = and_parts _ _ (sym (list_all-append (stands at) steps (key ∷ [])) ∙ e) in
@@ -69,9 +66,6 @@ unfolding kind_down path_kind kinds_in
 path-first scope at e k h = record { kind = h.kind; start = h.fits; rest = λ s. refl }
 
 -- The whole.
-
-some-is : {A : Type 0} (o : Option A) (a : A) → o ≡ Some a → is_some o ≡ true
-some-is o a e = rw e refl
 
 first-path : (scope : Scope) (at : Position) (e : BExpr) (k : Kind) → IsPath scope at e [] k → IsPart scope at e k
 unfolding kind_down path_kind kinds_in

@@ -1,6 +1,6 @@
 -- Literals, names, and columns of step records.
-use Rattle.std.proofs.Common.{◌≡◌, ◌⊎◌, inl, inr, ◌<◌, ◌+◌, ◌-◌, ℕ, zero, suc, ℤ, pos, Bool, true, false, nat_le, nat_lt, List, [], ◌∷◌, length, get_or, refl, sym, ap, ◌∙◌, subst, arith}
-use Rattle.std.specs.Prelude.{◌&&◌, if◌then◌else◌, codes, Option, None, Some, IfSome, Ok, Err, find, option_map, slice_get, slice_index_or}
+use Rattle.std.proofs.Common.{◌≡◌, inl, inr, ◌<◌, ◌+◌, ◌-◌, ℕ, zero, suc, pos, Bool, true, false, nat_lt, List, [], ◌∷◌, length, get_or, refl, sym, ap, ◌∙◌, subst, arith}
+use Rattle.std.specs.Prelude.{if◌then◌else◌, codes, Option, None, Some, IfSome, Ok, find, option_map, slice_get, slice_index_or}
 use Rattle.std.specs.List.{list_all, position, position_or_len}
 use Rattle.std.specs.Str.{bytes_eq}
 use Rattle.std.proofs.lemmas.Bool.{and_parts, and_from, cases_Bool, le-leb}
@@ -30,7 +30,6 @@ use Rattle.kql_syntax.specs.declared.tree.Name.TheVariants as name
 use Rattle.kql_syntax.specs.declared.tree.Word.{Word}
 use Rattle.kql_bound.specs.declared.expr.BExpr.TheVariants as V
 use Rattle.kql_bound.specs.declared.expr.StepColumn.{StepColumn}
-use Rattle.kql_bound.specs.declared.literal.Lit.{Lit}
 use Rattle.kql_meaning.specs.declared.position.Position.{Position}
 use Rattle.kql_meaning.specs.Expressions.{column_kind}
 use Rattle.kql_meaning.specs.FittingExpressions.{is_this_column, is_this_name, is_this_value, step_fits, takes_columns}
@@ -54,12 +53,9 @@ use Rattle.bind_expr_laws.proofs.Outcomes.{Gives}
 use Rattle.bind_expr_laws.proofs.Parts.{IsBound, IsPart, part-bound}
 use Rattle.bind_expr_laws.proofs.Shapes.{Spot}
 use Rattle.bind_expr_laws.proofs.StandingSteps.{stands-Column, stands-Step}
+use Rattle.bind_expr_laws.proofs.Facts.{map-parts}
 
 -- Literals.
-
-map-parts : {A B : Type 0} (f : A → B) (o : Option A) (b : B) → option_map f o ≡ Some b → (a : A) × (o ≡ Some a) × (f a ≡ b)
-map-parts f None b e = absurd cc
-map-parts f (Some a) b e = (a, refl, cc)
 
 -- The types of typed literals: there are none of strings.
 abbrev IsTyped : Kind → Type 0

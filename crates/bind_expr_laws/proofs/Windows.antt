@@ -1,7 +1,8 @@
 -- Calls of window functions.
-use Rattle.std.proofs.Common.{◌≡◌, ℕ, ℤ, pos, negsuc, Bool, true, false, List, [], ◌∷◌, refl, sym, ap, ◌∙◌, subst}
-use Rattle.std.specs.Prelude.{◌&&◌, not, if◌then◌else◌, int_le, Option, None, Some, Ok, Err, is_some}
-use Rattle.std.proofs.lemmas.Bool.{and_parts, and_from}
+use Rattle.std.proofs.Common.{◌≡◌, ℕ, pos, negsuc, Bool, true, false, List, [], ◌∷◌, refl, sym, ap, ◌∙◌, subst}
+use Rattle.std.specs.Prelude.{◌&&◌, not, Option, None, Some, is_some}
+use Rattle.std.proofs.lemmas.Bool.{and_parts, and_from, not-true}
+use Rattle.std.proofs.lemmas.Option.{same_Some}
 use Rattle.kql_cells.specs.Values.{IsOfKind}
 use Rattle.kql_cells.specs.declared.value.Kind.{Kind}
 use Rattle.kql_cells.specs.declared.value.Kind.TheVariants as kind
@@ -19,7 +20,7 @@ use Rattle.kql_bound.specs.declared.literal.Lit.{Lit}
 use Rattle.kql_meaning.specs.declared.position.Position.{Position}
 use Rattle.kql_meaning.specs.declared.position.Position.TheVariants as position
 use Rattle.kql_meaning.specs.Expressions.{first_kind, kind_of, kinds_in, window_kind}
-use Rattle.kql_meaning.specs.FittingExpressions.{Checked, checked_args, column_of, column_step, expr_fits, expr_of, has_kind, is_addable, is_constant_of, is_count, is_count_literal, is_count_value, is_fit, is_kind, is_plain_column, is_typed_literal, literal_of, look_fits, restart_fits, row_number_fits, running_sum_fits, stands_in_if_column, takes_columns, takes_window, term_fits, window_fits}
+use Rattle.kql_meaning.specs.FittingExpressions.{Checked, checked_args, column_of, column_step, expr_fits, has_kind, is_addable, is_constant_of, is_count, is_count_literal, is_count_value, is_kind, is_plain_column, is_typed_literal, literal_of, look_fits, restart_fits, row_number_fits, running_sum_fits, stands_in_if_column, takes_columns, takes_window, term_fits, window_fits}
 use Rattle.kql_meaning.specs.Literals.{literal_fits}
 use Rattle.kql_meaning.specs.Tables.{has_column}
 use Rattle.kql_meaning.proofs.ExpressionFitLaws.{exprs-checked, fits-Column, fits-Window}
@@ -27,28 +28,21 @@ use Rattle.kql_meaning.proofs.KindLaws.{kind-Window}
 use Rattle.bind_expr.specs.Arguments.{window_first, window_next}
 use Rattle.bind_expr.specs.Forms.{is_column, is_literal}
 use Rattle.bind_expr.specs.KindTests.{kind_if}
-use Rattle.bind_expr.specs.Windows.{is_distance, is_distance_literal, is_distance_value, look_forms, look_given, number_forms, number_given, running_forms, running_given, window_call, window_forms, window_given, window_serial, window_standing, window_typed}
+use Rattle.bind_expr.specs.Windows.{is_distance, is_distance_literal, is_distance_value, look_forms, look_given, number_forms, number_given, running_given, window_call, window_forms, window_given, window_serial, window_standing, window_typed}
 use Rattle.bind_expr.specs.declared.scope.Scope.{Scope}
-use Rattle.bind_expr.specs.declared.typed.Typed.{Typed}
 use Rattle.bind_expr_laws.specs.Scopes.{read_scope}
 use Rattle.bind_expr_laws.proofs.Arguments.{AreArgs, HasArgs}
 use Rattle.bind_expr_laws.proofs.Calls.{literal-known, literal-parts}
 use Rattle.bind_expr_laws.proofs.Constants.{open-fits}
 use Rattle.bind_expr_laws.proofs.Outcomes.{Gives, gives-typed}
-use Rattle.bind_expr_laws.proofs.Parts.{AreParts, IsBound, IsPart, part-bound}
+use Rattle.bind_expr_laws.proofs.Parts.{IsBound, IsPart, part-bound}
 use Rattle.bind_expr_laws.proofs.Shapes.{Args, Spot}
 
 -- Parts that are columns, and literals.
 
 column-roll : (f : BExpr-F BExpr) (n : List ℕ) → column_step f ≡ Some n → roll-BExpr f ≡ V.Column n
 column-roll (BExpr-F.Column m) n e = let same : m ≡ n = cc in V.rolls-Column m ∙ ap V.Column same
-column-roll (BExpr-F.Literal l) n e = absurd cc
-column-roll (BExpr-F.Step c) n e = absurd cc
-column-roll (BExpr-F.Call f args) n e = absurd cc
-column-roll (BExpr-F.Chain first links) n e = absurd cc
-column-roll (BExpr-F.Path whole steps) n e = absurd cc
-column-roll (BExpr-F.Window f args) n e = absurd cc
-column-roll (BExpr-F.Aggregate f args) n e = absurd cc
+column-roll _ n e = absurd cc
 
 column-is : (e : BExpr) (n : List ℕ) → column_of e ≡ Some n → e ≡ V.Column n
 unfolding column_of
@@ -112,21 +106,18 @@ if-kind false a k e = absurd cc
 
 -- `prev` and `next`.
 
-first-known : (scope : Scope) (at : Position) (e : BExpr) (es : List BExpr) (j k : Kind) → IsPart scope at e j → j ≡ k → first_kind (kinds_in (e ∷ es) scope.schema) ≡ Some k
+pub first-known : (scope : Scope) (at : Position) (e : BExpr) (es : List BExpr) (j k : Kind) → IsPart scope at e j → j ≡ k → first_kind (kinds_in (e ∷ es) scope.schema) ≡ Some k
 unfolding first_kind kinds_in
 first-known scope at e es j k h same = h.kind ∙ ap (λ (x : Kind). Some x) same
 
 abbrev LooksWell : Scope → List BExpr → Kind → Type 0
 LooksWell scope es k = (first_kind (kinds_in es scope.schema) ≡ Some k) × (look_fits es (read_scope scope) ≡ true)
 
-some-same : (a b : Kind) → Some a ≡ Some b → a ≡ b
-some-same a b e = cc
-
 look-part : (scope : Scope) (es : List BExpr) (ks : List Kind) (k : Kind) → look_forms es ≡ true → AreArgs scope position.Plain position.Plain es ks → look_given ks ≡ Some k → LooksWell scope es k
 unfolding look_forms look_given look_fits
 look-part scope [] ks k t h e = absurd cc
 look-part scope (c ∷ es) [] k t h e = absurd h
-look-part scope (c ∷ []) (j ∷ []) k t h e = (first-known scope position.Plain c [] j k h.0 (some-same j k e), plain-column scope c j h.0 t)
+look-part scope (c ∷ []) (j ∷ []) k t h e = (first-known scope position.Plain c [] j k h.0 (same_Some j k e), plain-column scope c j h.0 t)
 look-part scope (c ∷ []) (j ∷ m ∷ ks) k t h e = absurd h.1
 look-part scope (c ∷ n ∷ es) (j ∷ []) k t h e = absurd h.1
 look-part scope (c ∷ n ∷ []) (j ∷ m ∷ []) k t h e =
@@ -180,7 +171,7 @@ running-part scope (c ∷ r ∷ x ∷ es) (j ∷ m ∷ o ∷ ks) k h e = absurd 
 
 number-part : (scope : Scope) (es : List BExpr) (ks : List Kind) (k : Kind) → number_forms es ≡ true → AreArgs scope position.Plain position.Term es ks → number_given ks ≡ Some k → (kind.Long ≡ k) × (row_number_fits (checked_args es) (read_scope scope) ≡ true)
 unfolding number_forms number_given row_number_fits checked_args
-number-part scope [] [] k t h e = (some-same kind.Long k e, refl)
+number-part scope [] [] k t h e = (same_Some kind.Long k e, refl)
 number-part scope [] (j ∷ ks) k t h e = absurd h
 number-part scope (c ∷ es) [] k t h e = absurd h
 number-part scope (c ∷ []) (j ∷ []) k t h e =
@@ -208,17 +199,13 @@ window-args scope window.Next es ks k t h e = let q = look-part scope es ks k t 
 window-args scope window.RowCumsum es ks k t h e = running-part scope es ks k h e
 window-args scope window.RowNumber es ks k t h e = let q = number-part scope es ks k t h e in (ap (λ (x : Kind). Some x) q.0, q.1)
 
-turned : (b : Bool) → not b ≡ true → b ≡ false
-turned true e = absurd cc
-turned false e = refl
-
 typed-as : (scope : Scope) (spot : Spot) (place : Place) (f : Window) (a : Args) (b : Bool) → HasArgs scope (window_first f).position (window_next f).position a → takes_window spot.position f ≡ true → (not a.has_stray && window_forms f a.exprs) ≡ b → Gives (IsBound scope spot) (window_typed place f a b)
 typed-as scope spot place f a false h takes e = record { holds = tt }
 typed-as scope spot place f a true h takes e =
     let form = and_parts (not a.has_stray) (window_forms f a.exprs) e in
     gives-typed (IsBound scope spot) place (V.Window f a.exprs) (window_given f a.kinds)
     (λ k given.
-    let q = window-args scope f a.exprs a.kinds k form.1 (h (turned a.has_stray form.0)) given in
+    let q = window-args scope f a.exprs a.kinds k form.1 (h (not-true a.has_stray form.0)) given in
     part-bound scope spot (record { expr = V.Window f a.exprs; kind = k }) (record {
       kind = kind-Window f a.exprs scope.schema ∙ q.0;
       fits = λ s. fits-Window f a.exprs (read_scope scope) spot.position ∙ and_from _ _ takes q.1;

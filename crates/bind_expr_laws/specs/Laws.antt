@@ -1,5 +1,5 @@
 -- What is promised of an expression that is bound.
-use Rattle.std.specs.Prelude.{◌≡◌, Bool, true, false, Some, Ok}
+use Rattle.std.specs.Prelude.{◌≡◌, true, false, Some, Ok}
 use Rattle.kql_syntax.specs.declared.tree.Expr.{Expr}
 use Rattle.kql_syntax.specs.declared.tree.Name.{Name}
 use Rattle.kql_bound.specs.declared.literal.Lit.{Lit}

@@ -1,5 +1,5 @@
 -- When a scope is sound: what its constants, its step records, its moment and its names are.
-use Rattle.std.specs.Prelude.{◌≡◌, ℤ, Bool, true, ◌&&◌, List, [], ◌∷◌, IfSome}
+use Rattle.std.specs.Prelude.{◌≡◌, true, List, [], ◌∷◌, IfSome}
 use Rattle.std.specs.List.{list_all}
 use Rattle.kql_cells.specs.Named.{HasDistinctNames, column_name}
 use Rattle.kql_cells.specs.Values.{IsMoment}

@@ -113,8 +113,8 @@ pub ruleset group_steps = (grouped-once)
 pub keys-once : (cs columns : List Column) (items keys : List BItem) → HasDistinctNames column_name cs → items ≡ [] → keys ≡ map column_item cs → HasDistinctNames column_name (group_columns (record { items = items; keys = keys }) columns)
 unfolding group_columns items_columns
 keys-once cs columns items keys h none is =
-    chosen-once cs columns (items_columns keys columns ++ items_columns items columns) keys h is
-    (rw none (append-nil (items_columns keys columns)))
+    let alone : items_columns keys columns ++ items_columns items columns ≡ items_columns keys columns = rw none (append-nil (items_columns keys columns)) in
+    subst (λ made. HasDistinctNames column_name made) (sym alone) (chosen-once cs columns keys h is)
 
 pub ruleset distinct_steps = (keys-once)
 

@@ -1,9 +1,11 @@
 pub mod Bound
 pub mod Join
+pub mod Laws
 pub mod Lets
 pub mod Operators
 pub mod Partition
 pub mod Pipes
 pub mod Scan
+pub mod ScanRecords
 pub mod TablesRead
 pub mod Union

@@ -6,15 +6,19 @@
 
 mod bound;
 mod join;
+mod laws;
 mod lets;
 mod operators;
 mod ops;
 mod partition;
 mod pipes;
 mod query;
-mod stand_ins;
+mod scan;
+mod scan_faults;
+mod scan_records;
 mod tables_read;
 mod union;
 
 pub use bound::{BoundOps, BoundStatements};
+pub use laws::law_of_codes;
 pub use query::bind;

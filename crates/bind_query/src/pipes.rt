@@ -11,7 +11,7 @@ use crate::join::join_bound;
 use crate::operators::{bind_column_op, bind_group_op, bind_row_op};
 use crate::ops::{no_ops, op_added, ops_added};
 use crate::partition::partitions;
-use crate::stand_ins::bind_scan;
+use crate::scan::bind_scan;
 use crate::union::{is_inner, unites, unites_behind};
 use bind_expr::BindFault;
 use bind_groups::distinct_column;

@@ -1,7 +1,10 @@
 //! Whole queries.
-ghost use Rattle.std.specs.Prelude.{◌≡◌, IfOk};
+ghost use Rattle.std.specs.Prelude.{◌≡◌, ℕ, Err, IfOk, true};
+ghost use Rattle.kql_lexer.specs.declared.place.Place.{Place};
 ghost use Rattle.bind_expr.specs.Outcome.{Answers};
+ghost use Rattle.bind_expr.specs.declared.fault.BindFault.TheVariants as fault;
 ghost use Rattle.bind_query.specs.Bound.{bound, known_at_first, program_of};
+ghost use Rattle.bind_query.specs.Laws.{is_query_code};
 
 use crate::bound::BoundStatements;
 use crate::lets::bind_lets;
@@ -49,12 +52,8 @@ fn program_of(
     )
 }
 
-/// The program of a query over the tables of these schemas, or its first fault with its place.
-///
-/// `now` stands for the moment, in ticks in the range of datetimes; without one a query that names it is refused. An answer may be want
-/// of memory in place of any other.
 #[tactic(auto, using(crate::proofs::BindSteps::bind_steps))]
-pub fn bind(
+fn bind_whole(
     alloc: Global,
     q: &Query,
     schemas: Schemas,
@@ -73,4 +72,21 @@ pub fn bind(
         },
         Err(fault) => Err(fault),
     }
+}
+
+/// The program of a query over the tables of these schemas, or its first fault with its place.
+///
+/// `now` stands for the moment, in ticks in the range of datetimes; without one a query that names it is refused. An answer may be want
+/// of memory in place of any other.
+#[tactic(auto, using(crate::proofs::CodeLaws::code_laws))]
+pub fn bind(
+    alloc: Global,
+    q: &Query,
+    schemas: Schemas,
+    moment: Option<i64>,
+) -> Result<Boxed<Program>, BindFault>
+    ensures exact { Answers result (bound q.now schemas moment) }
+    ensures codes { (code : ℕ) (place : Place) → result ≡ Err (fault.Refused code place) → is_query_code code ≡ true }
+{
+    bind_whole(alloc, q, schemas, moment)
 }

@@ -2,7 +2,7 @@ use Rattle.std.proofs.Common.{subst}
 use Rattle.bind_expr.specs.Outcome.{Answers}
 use Rattle.bind_query.specs.Bound.{lets_bound, program_of}
 use Rattle.bind_query.proofs.BindSteps.{bound-whole}
-use Rattle.bind_query.proofs.query.bind.Goals as goal
+use Rattle.bind_query.proofs.query.bind_whole.Goals as goal
 
 pub returns-in-Ok-bind_pipe : goal.returns-in-Ok-bind_pipe
 returns-in-Ok-bind_pipe c = record {

@@ -1,0 +1,133 @@
+//! Calls of the outside that fail, and files and sinks in memory.
+use crate::calls::{NUMBERS, QUERY, call, files, no_faults, words_of};
+use kql_outside::{CleanShelf, CleanSink, OpenGate};
+use kql_program::{Ended, kql_in_memory};
+use std::alloc::{AllocError, Global};
+use std::process::Abort;
+use std::test::Fail;
+use std::thread::Threads;
+
+#[test]
+fn answers_in_memory(rt: HostRuntime) -> Result<(), Fail> {
+    let alloc = rt.alloc();
+    let mut shelf = CleanShelf::new(files(alloc, QUERY, NUMBERS.as_bytes())?);
+    let mut out = CleanSink::new(alloc, 4, 4096)?;
+    let mut err = CleanSink::new(alloc, 4, 4096)?;
+    let words = words_of(alloc, "run q T=t")?;
+    let ended = kql_in_memory(
+        &rt, alloc, &words, &mut shelf, &mut out, &mut err, &OpenGate,
+    );
+    assert_eq!(rt; ended, Ended::Table);
+    assert_eq!(rt; out.bytes(), b"x\n5\n5\n".as_slice());
+    assert_eq!(rt; err.bytes().len(), 0);
+    Ok(())
+}
+
+const FOUR: &str = "print a=-14 % 12, b=14 % -12, c=bin(-1, 5), d=1/0";
+
+// A call whose shelf fails, and one whose output does after ten bytes.
+#[test]
+fn meets_faults_of_a_print(rt: HostRuntime) -> Result<(), Fail> {
+    let alloc = rt.alloc();
+    let mut faults = no_faults(alloc);
+    faults.shelf.push(1)?;
+    let (left, ended) = call(&rt, alloc, "run q", FOUR, "", faults)?;
+    assert_eq!(rt; ended, Ended::ReadFault);
+    assert_eq!(rt; left.out.as_str(), "");
+    assert_eq!(rt; left.err.as_str(), "kql: read fault\n");
+    let mut faults = no_faults(alloc);
+    faults.out.push(1)?;
+    faults.chunk = 10;
+    let (left, ended) = call(&rt, alloc, "run q", FOUR, "", faults)?;
+    assert_eq!(rt; ended, Ended::WriteFault);
+    assert_eq!(rt; left.out.as_str(), "a,b,c,d\n10");
+    Ok(())
+}
+
+// An output with room for four bytes.
+#[test]
+fn fills_an_output(rt: HostRuntime) -> Result<(), Fail> {
+    let alloc = rt.alloc();
+    let mut shelf = CleanShelf::new(files(alloc, FOUR, b"")?);
+    let mut out = CleanSink::new(alloc, 10, 4)?;
+    let mut err = CleanSink::new(alloc, 10, 4096)?;
+    let words = words_of(alloc, "run q")?;
+    let ended = kql_in_memory(
+        &rt, alloc, &words, &mut shelf, &mut out, &mut err, &OpenGate,
+    );
+    assert_eq!(rt; ended, Ended::WriteFault);
+    assert_eq!(rt; out.bytes(), b"a,b,".as_slice());
+    assert_eq!(rt; err.bytes().len(), 0);
+    Ok(())
+}
+
+// A call of the first query with one failing call each; `false` where there was no fault.
+fn faulty_read(
+    rt: &(impl Abort + Threads + Sync),
+    alloc: Global,
+    k: u64,
+) -> Result<bool, AllocError> {
+    let mut faults = no_faults(alloc);
+    faults.shelf.push(k)?;
+    let (left, ended) = call(rt, alloc, "run q T=t", QUERY, NUMBERS, faults)?;
+    if ended == Ended::Table {
+        assert_eq!(rt; left.out.as_str(), "x\n5\n5\n");
+        return Ok(false);
+    }
+    assert_eq!(rt; left.status, 4, "call {k}");
+    assert_eq!(rt; left.out.as_str(), "", "call {k}");
+    assert_eq!(rt; left.err.as_str(), "kql: read fault\n", "call {k}");
+    Ok(true)
+}
+
+fn faulty_write(
+    rt: &(impl Abort + Threads + Sync),
+    alloc: Global,
+    k: u64,
+) -> Result<bool, AllocError> {
+    let mut faults = no_faults(alloc);
+    faults.out.push(k)?;
+    faults.chunk = 1;
+    let (left, ended) = call(rt, alloc, "run q T=t", QUERY, NUMBERS, faults)?;
+    if ended == Ended::Table {
+        return Ok(false);
+    }
+    assert_eq!(rt; left.status, 5, "call {k}");
+    assert_eq!(rt; left.out.len() as u64, k, "call {k}");
+    assert!(rt; "x\n5\n5\n".starts_with(left.out.as_str()), "call {k}");
+    assert_eq!(rt; left.err.as_str(), "", "call {k}");
+    Ok(true)
+}
+
+#[test]
+fn meets_faults(rt: HostRuntime) -> Result<(), Fail> {
+    let alloc = rt.alloc();
+    let mut reads = 0u64;
+    for k in 0..100 {
+        if !faulty_read(&rt, alloc, k)? {
+            break;
+        }
+        reads = k + 1;
+    }
+    assert!(rt; reads >= 4 && reads < 100);
+    let mut writes = 0u64;
+    for k in 0..100 {
+        if !faulty_write(&rt, alloc, k)? {
+            break;
+        }
+        writes = k + 1;
+    }
+    assert_eq!(rt; writes, 6);
+    Ok(())
+}
+
+#[test]
+fn meets_a_fault_at_a_refusal(rt: HostRuntime) -> Result<(), Fail> {
+    let mut faults = no_faults(rt.alloc());
+    faults.err.push(0)?;
+    let (left, _ended) = call(&rt, rt.alloc(), "run", "", "", faults)?;
+    assert_eq!(rt; left.status, 5);
+    assert_eq!(rt; left.out.as_str(), "");
+    assert_eq!(rt; left.err.as_str(), "");
+    Ok(())
+}
