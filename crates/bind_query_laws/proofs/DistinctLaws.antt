@@ -1,15 +1,14 @@
 -- A bound `distinct` is sound.
 use Rattle.std.proofs.Common.{◌≡◌, ℕ, Bool, true, false, List, [], ◌∷◌, map, refl, sym, ap, ◌∙◌, subst}
-use Rattle.std.specs.Prelude.{◌&&◌, Ok, Err, Option, None, Some, bytes_eq, find}
-use Rattle.std.specs.List.{AllByRecursion, list_all}
-use Rattle.std.proofs.lemmas.Bool.{and_from}
+use Rattle.std.specs.Prelude.{Ok, Option, None, Some, bytes_eq, find}
+use Rattle.std.specs.List.{AllByRecursion}
 use Rattle.kql_cells.specs.declared.schema.Column.{Column}
 use Rattle.kql_functions.specs.Kinds.{is_dynamic}
 use Rattle.kql_lexer.specs.declared.place.Place.{Place}
 use Rattle.kql_bound.specs.declared.parts.BItem.{BItem}
 use Rattle.kql_bound.specs.declared.parts.GroupPlan.{GroupPlan}
 use Rattle.kql_bound.specs.declared.plan.Op.TheVariants as op
-use Rattle.kql_meaning.specs.FittingOperators.{group_item_fits, key_item_fits, summarize_fits}
+use Rattle.kql_meaning.specs.FittingOperators.{key_item_fits, summarize_fits}
 use Rattle.kql_meaning.specs.Summarize.{group_columns}
 use Rattle.kql_meaning.proofs.MemberLaws.{every-of-members, of-member}
 use Rattle.kql_meaning.proofs.OperatorFitLaws.{op-Summarize}

@@ -1,11 +1,10 @@
 -- A bound `extend`, and a bound `serialize`, is sound.
-use Rattle.std.proofs.Common.{◌≡◌, refl, subst, length}
-use Rattle.std.specs.Prelude.{Bool, true, List, [], ◌∷◌, Ok}
+use Rattle.std.proofs.Common.{◌≡◌, refl, subst}
+use Rattle.std.specs.Prelude.{Bool, List, [], ◌∷◌, Ok}
 use Rattle.kql_lexer.specs.declared.place.Place.{Place}
 use Rattle.kql_bound.specs.declared.plan.Op.TheVariants as op
 use Rattle.kql_meaning.specs.declared.position.Position.TheVariants as position
 use Rattle.kql_meaning.specs.Extend.{extend_columns}
-use Rattle.kql_meaning.specs.FittingExpressions.{takes_columns}
 use Rattle.kql_meaning.specs.FittingOperators.{items_fit}
 use Rattle.kql_meaning.proofs.OperatorFitLaws.{op-Extend, op-Serialize}
 use Rattle.kql_syntax.specs.declared.query.Item.{Item}

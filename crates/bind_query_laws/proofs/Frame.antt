@@ -1,19 +1,18 @@
 -- What binding gives, taken apart; and the scopes, constants, items and answers of operators.
-use Rattle.std.proofs.Common.{◌≡◌, ℕ, Bool, true, false, List, [], ◌∷◌, ◌++◌, length, map, refl, sym, ap, ◌∙◌, subst, inl, inr}
-use Rattle.std.specs.Prelude.{not, ◌&&◌, ◌||◌, ◌==◌, Ok, Err, Option, None, Some, All, bytes_eq, find, fold, if◌then◌else◌, nat_lt}
-use Rattle.std.specs.List.{AllByRecursion, list_all, list_any}
+use Rattle.std.proofs.Common.{◌≡◌, ℕ, Bool, true, false, List, [], ◌∷◌, ◌++◌, length, refl, sym, ap, ◌∙◌, subst, inl, inr}
+use Rattle.std.specs.Prelude.{not, ◌&&◌, ◌==◌, Ok, Err, Option, None, Some, All, bytes_eq, find, fold, if◌then◌else◌, nat_lt}
+use Rattle.std.specs.List.{AllByRecursion, list_all}
 use Rattle.std.proofs.lemmas.Bool.{and_from, and_parts, cases_Bool, eq-eqb, eqb-true}
 use Rattle.std.proofs.lemmas.List.{length-map}
 use Rattle.std.proofs.lemmas.List.Elements.{recursion_from_All}
 use Rattle.std.proofs.lemmas.List.Folds.{list_all-append}
 use Rattle.std.proofs.lemmas.Slice.Eq.{bytes_eq-Decides}
-use Rattle.kql_cells.specs.Named.{HasDistinctNames, column_name}
 use Rattle.kql_cells.specs.declared.schema.Column.{Column}
 use Rattle.kql_cells.specs.declared.value.Kind.{Kind}
 use Rattle.kql_functions.specs.declared.aggregate.Aggregate.{Aggregate}
 use Rattle.kql_functions.specs.declared.aggregate.Aggregate.TheVariants as aggregate
 use Rattle.kql_lexer.specs.declared.place.Place.{Place}
-use Rattle.kql_bound.specs.declared.expr.BExpr.{BExpr, out-BExpr, out-roll-BExpr, roll-BExpr, roll-out-BExpr}
+use Rattle.kql_bound.specs.declared.expr.BExpr.{BExpr, out-BExpr, roll-BExpr, roll-out-BExpr}
 use Rattle.kql_bound.specs.declared.expr.BExpr.TheOpen.{BExpr-F}
 use Rattle.kql_bound.specs.declared.expr.BExpr.TheVariants as V
 use Rattle.kql_bound.specs.declared.literal.Lit.{Lit}
@@ -148,7 +147,7 @@ each-all p bind parts ys t e = all-of p ys (each-sound (λ y. p y ≡ true) bind
 
 -- Columns of an answer.
 
-among-one : (names : List (List ℕ)) (n : List ℕ) → is_name_among names n ≡ true → Member n names
+pub among-one : (names : List (List ℕ)) (n : List ℕ) → is_name_among names n ≡ true → Member n names
 unfolding is_name_among
 among-one names n e =
     let q = one-of-any (λ m. bytes_eq m n) names e in
@@ -278,7 +277,7 @@ constant-sound operator want known rows e l sound names is =
 
 -- Items.
 
-kinds-one : (f : Aggregate) (args : List BExpr) (one : Kind) (columns : List Column) → has_one_result f args ≡ true → length (aggregate_result_kinds f args one columns) == 1 ≡ true
+pub kinds-one : (f : Aggregate) (args : List BExpr) (one : Kind) (columns : List Column) → has_one_result f args ≡ true → length (aggregate_result_kinds f args one columns) == 1 ≡ true
 unfolding has_one_result aggregate_result_kinds
 kinds-one aggregate.ArgMax args one columns e = ap (λ n. n == 1) (length-map args (λ a. typed a columns)) ∙ e
 kinds-one aggregate.ArgMin args one columns e = ap (λ n. n == 1) (length-map args (λ a. typed a columns)) ∙ e

@@ -1,6 +1,6 @@
 -- Keys, columns that are keys, and tests of lists.
 use Rattle.std.proofs.Common.{◌≡◌, ◌+◌, ℕ, Bool, true, false, List, [], ◌∷◌, ◌++◌, length, map, refl, sym, ap, ◌∙◌, subst, inl, inr}
-use Rattle.std.specs.Prelude.{not, ◌&&◌, ◌||◌, ◌==◌, Ok, Option, Some, None, bytes_eq, find, fold}
+use Rattle.std.specs.Prelude.{not, ◌||◌, Ok, Some, bytes_eq, find, fold}
 use Rattle.std.specs.List.{AllByRecursion, list_all, list_any}
 use Rattle.std.proofs.lemmas.Bool.{and_from, and_parts, cases_Bool}
 use Rattle.std.proofs.lemmas.List.{length-append}
@@ -9,16 +9,15 @@ use Rattle.std.proofs.lemmas.Slice.Eq.{bytes_eq-Decides}
 use Rattle.kql_cells.specs.Named.{column_name}
 use Rattle.kql_cells.specs.declared.schema.Column.{Column}
 use Rattle.kql_cells.specs.declared.value.Kind.{Kind}
-use Rattle.kql_functions.specs.Kinds.{is_dynamic}
+use Rattle.kql_cells.specs.declared.value.Kind.TheVariants as kind
+use Rattle.kql_functions.specs.Kinds.{is_dynamic, same_kind}
 use Rattle.kql_bound.specs.declared.expr.BExpr.TheVariants as V
-use Rattle.kql_bound.specs.declared.parts.BItem.{BItem}
 use Rattle.kql_meaning.specs.declared.position.Position.TheVariants as position
 use Rattle.kql_meaning.specs.Expressions.{column_kind, kind_of}
 use Rattle.kql_meaning.specs.FittingExpressions.{expr_fits, fits_as, has_kind, is_key, scope_of, takes_columns}
 use Rattle.kql_meaning.specs.FittingOperators.{are_distinct, has_its_names, key_item_fits}
 use Rattle.kql_meaning.specs.Tables.{has_column, is_name_among, names_of}
 use Rattle.kql_meaning.proofs.ExpressionFitLaws.{fits-Column}
-use Rattle.kql_meaning.proofs.FirstLaws.{one-of-any}
 use Rattle.kql_meaning.proofs.KindLaws.{kind-Column}
 use Rattle.kql_meaning.proofs.MemberLaws.{Member, Pairwise, of-member}
 use Rattle.kql_syntax.specs.declared.query.Item.{Item}
@@ -32,11 +31,11 @@ use Rattle.bind_operators.specs.declared.wanted.Wanted.TheVariants as wanted
 use Rattle.bind_operators.specs.Items.{column_as, column_item, given_name, items_from, names_or_own, no_items, number_behind, with_item}
 use Rattle.bind_operators.specs.Known.{scope_at}
 use Rattle.bind_operators.specs.Places.{item_start}
-use Rattle.bind_operators.specs.Wanted.{takes, typed_bound}
+use Rattle.bind_operators.specs.Wanted.{takes}
 use Rattle.bind_operators.proofs.NameLaws.{apart, different, is_even, names-even, neither, of-ok, pairwise-of, steps-even}
 use Rattle.bind_groups.specs.Summarize.{group_key, group_keys_bound}
 use Rattle.bind_query_laws.specs.Sound.{AreColumns, IsSoundKnown}
-use Rattle.bind_query_laws.proofs.Frame.{after-ok, fits-typed, items-pass, named-well, ok-same, one-result, scope-sound, single-name, typed-sound}
+use Rattle.bind_query_laws.proofs.Frame.{after-ok, among-one, fits-typed, items-pass, named-well, ok-same, one-result, scope-sound, single-name, typed-sound}
 
 -- Tests of lists.
 
@@ -59,6 +58,16 @@ all-but bad good (x ∷ xs) h e =
 pub map-all : {X Y : Type 0} (f : X → Y) (p : Y → Bool) (xs : List X) → AllByRecursion (λ x. p (f x) ≡ true) xs → list_all p (map f xs) ≡ true
 map-all f p [] h = refl
 map-all f p (x ∷ xs) h = and_from (p (f x)) (list_all p (map f xs)) h.0 (map-all f p xs h.1)
+
+-- Types.
+
+pub same-self : (k : Kind) → same_kind k k ≡ true
+same-self kind.Bool = refl
+same-self kind.Long = refl
+same-self kind.Text = refl
+same-self kind.Moment = refl
+same-self kind.Span = refl
+same-self kind.Dynamic = refl
 
 -- Columns that are keys: the column of its name, whose type is not dynamic.
 
@@ -88,9 +97,9 @@ unfolding key_item_fits fits_as has_kind column_as takes_columns
 column-key columns c h =
     let q = found-column columns c.name c h.0 in
     let fits : expr_fits (V.Column c.name) (scope_of columns) position.Plain ≡ true = fits-Column c.name (scope_of columns) position.Plain ∙ q.0 in
-    let kind : kind_of (V.Column c.name) columns ≡ Some c.kind = kind-Column c.name columns ∙ q.1 in
+    let type : kind_of (V.Column c.name) columns ≡ Some c.kind = kind-Column c.name columns ∙ q.1 in
     and_from (fits_as is_key (V.Column c.name) (scope_of columns) position.Plain) (has_its_names (column_item c) columns)
-    (and_from (expr_fits (V.Column c.name) (scope_of columns) position.Plain) (has_kind is_key (kind_of (V.Column c.name) columns)) fits (rw kind (key-kind c.kind h.1)))
+    (and_from (expr_fits (V.Column c.name) (scope_of columns) position.Plain) (has_kind is_key (kind_of (V.Column c.name) columns)) fits (rw type (key-kind c.kind h.1)))
     (single-name c.name (V.Column c.name) columns (one-result (V.Column c.name) columns (scope_of columns) position.Plain fits))
 
 -- Keys of groups.
@@ -101,10 +110,10 @@ keys-sound known rows n keys by sound names is =
     let scope : Scope = scope_at known rows position.Plain in
     items-pass (key_item_fits rows.columns) (group_key scope) n keys by
     (λ item t k bound.
-      let h = typed-sound wanted.Key item.value scope t (scope-sound known rows position.Plain sound names) bound in
-      and_from (fits_as is_key t.expr (scope_of rows.columns) position.Plain) (has_its_names (record { names = names_or_own k (given_name item) t.expr; expr = t.expr }) rows.columns)
-      (fits-typed is_key known rows position.Plain t refl h.0 h.1)
-      (named-well k (given_name item) t.expr rows.columns (one-result t.expr rows.columns (scope_of rows.columns) position.Plain (h.0.fits refl))))
+    let h = typed-sound wanted.Key item.value scope t (scope-sound known rows position.Plain sound names) bound in
+    and_from (fits_as is_key t.expr (scope_of rows.columns) position.Plain) (has_its_names (record { names = names_or_own k (given_name item) t.expr; expr = t.expr }) rows.columns)
+    (fits-typed is_key known rows position.Plain t refl h.0 h.1)
+    (named-well k (given_name item) t.expr rows.columns (one-result t.expr rows.columns (scope_of rows.columns) position.Plain (h.0.fits refl))))
     is
 
 -- As many places as items.
@@ -124,9 +133,9 @@ fold-keeps P bind step keeps [] start done h e = h done e
 fold-keeps P bind step keeps (l ∷ ls) start done h e =
     fold-keeps P bind step keeps ls (start >>= λ d. bind l >>= λ t. Ok (step l d t)) done
     (λ d is.
-      let first = after-ok start (λ b. bind l >>= λ t. Ok (step l b t)) d is in
-      let next = after-ok (bind l) (λ t. Ok (step l first.0 t)) d first.2 in
-      subst P (ok-same (step l first.0 next.0) d next.2) (keeps l first.0 next.0 next.1 (h first.0 first.1)))
+    let first = after-ok start (λ b. bind l >>= λ t. Ok (step l b t)) d is in
+    let next = after-ok (bind l) (λ t. Ok (step l first.0 t)) d first.2 in
+    subst P (ok-same (step l first.0 next.0) d next.2) (keeps l first.0 next.0 next.1 (h first.0 first.1)))
     e
 
 pub all-push : {X : Type 0} (p : X → Bool) (xs : List X) (x : X) → list_all p xs ≡ true → p x ≡ true → list_all p (xs ++ x ∷ []) ≡ true
@@ -136,12 +145,6 @@ pub one-more : {X Y : Type 0} (xs : List X) (x : X) (ys : List Y) (y : Y) → le
 one-more xs x ys y e = length-append xs (x ∷ []) ∙ (ap (λ n. n + 1) e ∙ sym (length-append ys (y ∷ [])))
 
 -- Names that differ.
-among-one : (names : List (List ℕ)) (n : List ℕ) → is_name_among names n ≡ true → Member n names
-unfolding is_name_among
-among-one names n e =
-    let q = one-of-any (λ m. bytes_eq m n) names e in
-    subst (λ m. Member m names) ((bytes_eq-Decides q.0 n).0 q.2) q.1
-
 pub apart-distinct : (names : List (List ℕ)) → Pairwise apart names → are_distinct names ≡ true
 unfolding are_distinct
 apart-distinct [] h = refl

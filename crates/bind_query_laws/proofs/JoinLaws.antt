@@ -1,6 +1,6 @@
 -- A bound `join`, and a bound `lookup`, is sound.
-use Rattle.std.proofs.Common.{◌≡◌, ◌≤◌, ◌+◌, ℕ, Bool, true, false, List, [], ◌∷◌, ◌++◌, length, map, refl, sym, ap, ◌∙◌, inl, inr, arith}
-use Rattle.std.specs.Prelude.{nat_lt, not, ◌&&◌, ◌||◌, Ok, Option, None, Some}
+use Rattle.std.proofs.Common.{◌≡◌, ◌≤◌, ◌+◌, ℕ, suc, Bool, true, false, List, [], ◌∷◌, ◌++◌, length, map, refl, ap, ◌∙◌, inl, inr, arith}
+use Rattle.std.specs.Prelude.{nat_lt, not, ◌||◌, Ok, Option, None, Some}
 use Rattle.std.specs.List.{list_all}
 use Rattle.std.proofs.lemmas.Bool.{and_from, cases_Bool}
 use Rattle.std.proofs.lemmas.Bool.Decides.{nat_tests}
@@ -13,8 +13,8 @@ use Rattle.kql_bound.specs.declared.parts.JoinPlan.{JoinPlan}
 use Rattle.kql_bound.specs.declared.parts.OnPair.{OnPair}
 use Rattle.kql_bound.specs.declared.plan.Op.{Op}
 use Rattle.kql_bound.specs.declared.plan.Op.TheVariants as op
-use Rattle.kql_meaning.specs.Fits.{joined_columns, op_columns}
-use Rattle.kql_meaning.specs.FittingOperators.{answer_if, is_empty, is_lookup_kind, join_fits, pair_fits}
+use Rattle.kql_meaning.specs.Fits.{joined_columns}
+use Rattle.kql_meaning.specs.FittingOperators.{is_empty, is_lookup_kind, join_fits, pair_fits}
 use Rattle.kql_meaning.specs.Items.{without}
 use Rattle.kql_meaning.specs.Join.{both_columns, free_name, join_columns, renamed, shown_columns}
 use Rattle.kql_meaning.specs.Tables.{names_of}
@@ -90,7 +90,7 @@ answer-width operator faults o columns serial b e =
 renamed-length : (taken : List (List ℕ)) (cs : List Column) → length (renamed taken cs) ≡ length cs
 unfolding renamed
 renamed-length taken [] = refl
-renamed-length taken (c ∷ cs) = ap (λ n. n + 1) (renamed-length (taken ++ free_name taken c.name ∷ []) cs)
+renamed-length taken (c ∷ cs) = ap suc (renamed-length (taken ++ free_name taken c.name ∷ []) cs)
 
 -- What is shown of the right table stands there as if it were all of it.
 all-shown : (pairs : List OnPair) (left shown : List Column) → AreColumns left → AreColumns shown → length left + length shown ≤ 256 → AreColumns (left ++ renamed (names_of left) shown)

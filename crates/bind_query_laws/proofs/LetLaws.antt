@@ -1,6 +1,6 @@
 -- Let statements leave what may be named sound, and the plans of their tables have the columns that are told of them.
 use Rattle.std.proofs.Common.{◌≡◌, ℕ, List, [], ◌∷◌, ◌++◌, refl, sym, ap, ◌∙◌, subst, map}
-use Rattle.std.specs.Prelude.{All, Bool, true, false, ◌&&◌, ℤ, IfSome, Ok, Option, None, Some, fold, option_and_then, option_map}
+use Rattle.std.specs.Prelude.{All, true, false, ◌&&◌, ℤ, IfSome, Ok, Option, None, Some, fold, option_map}
 use Rattle.std.specs.List.{list_all}
 use Rattle.std.proofs.lemmas.Bool.{and_from, and_parts}
 use Rattle.std.proofs.lemmas.List.{map-append}
@@ -21,7 +21,7 @@ use Rattle.kql_syntax.specs.declared.query.LetBody.TheVariants as body
 use Rattle.kql_syntax.specs.declared.query.Pipe.{Pipe}
 use Rattle.kql_syntax.specs.declared.tree.Name.{Name}
 use Rattle.bind_expr.specs.Names.{name_bound, text_of}
-use Rattle.bind_expr.specs.Outcome.{Outcome, ◌>>=◌}
+use Rattle.bind_expr.specs.Outcome.{Outcome}
 use Rattle.bind_expr.specs.declared.scope.Const.{Const}
 use Rattle.bind_expr_laws.specs.Scopes.{const_literal}
 use Rattle.bind_expr_laws.proofs.BoundLaws.{name-sound}

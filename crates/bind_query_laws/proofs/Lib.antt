@@ -6,10 +6,14 @@ pub mod GroupFrame
 pub mod JoinLaws
 pub mod LetLaws
 pub mod ParseLaws
+pub mod PartitionLaws
 pub mod PipeLaws
 pub mod ProgramLaws
 pub mod ProjectLaws
+pub mod QueryLaws
 pub mod ReadLaws
+pub mod ScanLaws
+pub mod ScanScopes
 pub mod SeriesLaws
 pub mod SortLaws
 pub mod SourceLaws

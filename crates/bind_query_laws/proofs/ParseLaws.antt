@@ -1,8 +1,7 @@
 -- A bound `parse` is sound.
-use Rattle.std.proofs.Common.{◌≡◌, Bool, true, false, List, [], ◌∷◌, length, map, refl, sym, ap, ◌∙◌, subst}
-use Rattle.std.specs.Prelude.{not, ◌&&◌, Ok, Option}
+use Rattle.std.proofs.Common.{◌≡◌, Bool, false, List, [], ◌∷◌, refl, ap, ◌∙◌}
+use Rattle.std.specs.Prelude.{not, Ok, Option}
 use Rattle.std.proofs.lemmas.Bool.{and_from}
-use Rattle.kql_cells.specs.declared.schema.Column.{Column}
 use Rattle.kql_cells.specs.declared.value.Kind.TheVariants as kind
 use Rattle.kql_functions.specs.Kinds.{same_kind}
 use Rattle.kql_lexer.specs.declared.place.Place.{Place}
@@ -67,7 +66,7 @@ parse_sound operator form e pattern known rows b sound names some is inside =
     (op-Parse plan (read_known known) inside rows.columns)
     (λ none. (
       and_from (fits_as (same_kind kind.Text) text.expr (scope_of rows.columns) position.Plain) (not (is_empty items))
-      (fits-typed (same_kind kind.Text) known rows position.Plain text refl h.0 h.1) (ap not (pattern-some pattern items next.1 some)),
+          (fits-typed (same_kind kind.Text) known rows position.Plain text refl h.0 h.1) (ap not (pattern-some pattern items next.1 some)),
       parse-once plan pattern rows.columns (parse_columns plan rows.columns) names (pattern-named (Ok items) items pattern form text plan refl (record { holds = next.1 }) refl) none refl,
     ))
     next.2

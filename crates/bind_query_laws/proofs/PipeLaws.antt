@@ -1,5 +1,5 @@
 -- Operators one after another, and plans with more operators at their end, are sound where each operator is.
-use Rattle.std.proofs.Common.{◌≡◌, List, [], ◌∷◌, ◌++◌, refl, sym, ap, ◌∙◌, subst, map}
+use Rattle.std.proofs.Common.{◌≡◌, List, [], ◌∷◌, ◌++◌, refl, sym, ap, ◌∙◌, subst}
 use Rattle.std.specs.Prelude.{Bool, true, false, Ok, Option, None, Some, fold}
 use Rattle.std.specs.List.{AllByRecursion}
 use Rattle.kql_cells.specs.declared.schema.Column.{Column}
@@ -17,7 +17,7 @@ use Rattle.bind_operators.specs.declared.shape.Shape.{Shape}
 use Rattle.bind_query.specs.declared.bound.BoundOps.{BoundOps}
 use Rattle.bind_query.specs.Pipes.{BindsOp, BindsPlan, longer, next_op, no_ops, ops_over, piped, with_op, with_ops}
 use Rattle.bind_query_laws.specs.Sound.{AreColumns, IsSoundKnown, IsSoundOp, IsSoundPlan, read_known}
-use Rattle.bind_query_laws.proofs.Frame.{after-ok, ok-same, some-same}
+use Rattle.bind_query_laws.proofs.Frame.{after-ok, ok-same}
 use Rattle.bind_query_laws.proofs.SourceLaws.{plan-rolled}
 
 -- What operators and pipes are bound to is sound.

@@ -1,18 +1,16 @@
 -- A bound program fits, where the operators over groups and tables are sound.
-use Rattle.std.proofs.Common.{◌≡◌, ℕ, List, [], ◌∷◌, ◌++◌, refl, sym, ap, ◌∙◌, subst, map}
-use Rattle.std.specs.Prelude.{All, Bool, true, false, ◌&&◌, ℤ, IfSome, Ok, Option, None, Some, is_some, option_and_then}
+use Rattle.std.proofs.Common.{◌≡◌, List, [], ◌∷◌, ◌++◌, refl, sym, ap, ◌∙◌, subst, map}
+use Rattle.std.specs.Prelude.{true, false, Ok, Option, Some, is_some, option_and_then}
 use Rattle.std.specs.List.{list_all}
 use Rattle.std.proofs.lemmas.Bool.{and_from, and_parts}
 use Rattle.std.proofs.lemmas.List.{map-append}
 use Rattle.std.proofs.lemmas.Grind.{flat_map-append}
-use Rattle.kql_cells.specs.Values.{IsMoment}
 use Rattle.kql_cells.specs.declared.schemas.NamedSchema.{NamedSchema}
 use Rattle.kql_cells.specs.declared.schema.Column.{Column}
 use Rattle.kql_bound.specs.declared.plan.Plan.{Plan}
 use Rattle.kql_bound.specs.declared.plan.Program.{Program}
-use Rattle.kql_meaning.specs.Fits.{fits, known_of, lets_columns, plan_columns, program_columns, table_columns, tables_stand}
+use Rattle.kql_meaning.specs.Fits.{fits, known_of, lets_columns, plan_columns, program_columns, tables_stand}
 use Rattle.kql_meaning.proofs.MemberLaws.{Member, member-left, member-right}
-use Rattle.kql_syntax.specs.declared.query.Query.{Query}
 use Rattle.bind_expr.specs.Outcome.{◌>>=◌}
 use Rattle.bind_operators.specs.declared.bound.BoundPlan.{BoundPlan}
 use Rattle.bind_query.specs.declared.bound.BoundStatements.{BoundStatements}
@@ -21,7 +19,7 @@ use Rattle.bind_query.specs.Operators.{pipe_bound}
 use Rattle.bind_query.specs.TablesRead.{TableNames, all_of, plan_tables, tables_read}
 use Rattle.bind_query_laws.specs.Laws.{BoundFits}
 use Rattle.bind_query_laws.specs.Patterns.{has_patterns, let_patterns, pipe_patterns}
-use Rattle.bind_query_laws.specs.Sound.{AreColumns, IsSoundPlan, columns_of_let, read_known}
+use Rattle.bind_query_laws.specs.Sound.{IsSoundPlan, columns_of_let, read_known}
 use Rattle.bind_query_laws.proofs.Frame.{after-ok, ok-same}
 use Rattle.bind_query_laws.proofs.LetLaws.{IsSoundStatements, lets_sound}
 use Rattle.bind_query_laws.proofs.ReadLaws.{read-agrees, same-all-lets, same-plan, tables-stand}

@@ -1,7 +1,6 @@
 -- A bound `project`, and its three kin, is sound.
-use Rattle.std.proofs.Common.{◌≡◌, ℕ, refl, sym, ap, ◌∙◌, subst, inl, inr, length}
-use Rattle.std.specs.Prelude.{Bool, true, false, not, ◌&&◌, ◌==◌, List, [], ◌∷◌, Ok, bytes_eq, find, map}
-use Rattle.std.specs.List.{list_all}
+use Rattle.std.proofs.Common.{◌≡◌, ℕ, refl, ◌∙◌, inl, inr}
+use Rattle.std.specs.Prelude.{Bool, true, not, List, [], ◌∷◌, Ok, bytes_eq, find, map}
 use Rattle.std.proofs.lemmas.Bool.{and_from}
 use Rattle.kql_cells.specs.declared.schema.Column.{Column}
 use Rattle.kql_lexer.specs.declared.place.Place.{Place}
@@ -12,7 +11,6 @@ use Rattle.kql_meaning.specs.declared.position.Position.TheVariants as position
 use Rattle.kql_meaning.specs.FittingExpressions.{expr_fits, scope_of, takes_columns}
 use Rattle.kql_meaning.specs.FittingOperators.{has_its_names, item_fits, items_fit}
 use Rattle.kql_meaning.specs.Items.{items_columns, without}
-use Rattle.kql_meaning.specs.Results.{result_kinds}
 use Rattle.kql_meaning.specs.Tables.{has_column, is_name_among, names_of}
 use Rattle.kql_meaning.proofs.ExpressionFitLaws.{fits-Column}
 use Rattle.kql_meaning.proofs.MemberLaws.{Member, member-map, member-of-filter}

@@ -1,8 +1,8 @@
 -- A plan has the same columns under what agrees on the tables that it names; and the tables that a program reads agree with all tables
 -- on those that it names, and stand among them.
 use Rattle.std.proofs.Common.{◌≡◌, ℕ, List, [], ◌∷◌, ◌++◌, refl, sym, ap, ◌∙◌, subst, inl, inr, map}
-use Rattle.std.specs.Prelude.{Bool, true, false, not, ◌&&◌, Option, None, Some, bytes_eq, filter, filter_map, find, fold, option_and_then, option_map, slice_get}
-use Rattle.std.specs.List.{cons_option, flat_map, list_all}
+use Rattle.std.specs.Prelude.{Bool, true, false, not, ◌&&◌, Option, None, Some, bytes_eq, find, fold, option_and_then, option_map, slice_get}
+use Rattle.std.specs.List.{cons_option, list_all}
 use Rattle.std.proofs.lemmas.Bool.{and_from, cases_Bool}
 use Rattle.std.proofs.lemmas.Slice.Eq.{bytes_eq-Decides}
 use Rattle.kql_cells.specs.Catalogues.{schema_name}
@@ -11,7 +11,7 @@ use Rattle.kql_cells.specs.declared.schema.Column.{Column}
 use Rattle.kql_cells.specs.declared.value.Kind.{Kind}
 use Rattle.kql_cells.specs.declared.value.Kind.TheVariants as kind
 use Rattle.kql_functions.specs.Kinds.{same_kind}
-use Rattle.kql_bound.specs.declared.plan.Op.{Op, fold-roll-Op, ind-Op, map-Op, roll-Op}
+use Rattle.kql_bound.specs.declared.plan.Op.{Op, fold-roll-Op, map-Op, roll-Op}
 use Rattle.kql_bound.specs.declared.plan.Op.TheOpen.{Op-F, Plan-F}
 use Rattle.kql_bound.specs.declared.plan.Plan.{Plan, fold-roll-Plan, ind-Plan, map-Plan, roll-Plan}
 use Rattle.kql_bound.specs.declared.plan.Source.{Source}
@@ -22,7 +22,7 @@ use Rattle.kql_meaning.specs.Fits.{Known as ReadKnown, OpColumns, PlanColumns, a
 use Rattle.kql_meaning.specs.Tables.{distinct_by}
 use Rattle.kql_meaning.proofs.MemberLaws.{Member, member-filter, member-left, member-right}
 use Rattle.bind_query.specs.TablesRead.{TableNames, all_of, op_tables, op_tables_step, plan_tables, plan_tables_step, schema_named, schemas_named, table_of_source, tables_read}
-use Rattle.bind_query_laws.proofs.Frame.{found, true-or-false}
+use Rattle.bind_query_laws.proofs.Frame.{found}
 
 -- What is known agrees on the lets, and on the tables of these names.
 pub record Agrees (names : TableNames) (k l : ReadKnown) : Type 0 where

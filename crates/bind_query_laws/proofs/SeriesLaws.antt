@@ -1,5 +1,5 @@
 -- A bound `make-series` is sound.
-use Rattle.std.proofs.Common.{◌≡◌, ℕ, Bool, true, false, List, [], ◌∷◌, ◌++◌, length, refl, sym, ap, ◌∙◌, subst}
+use Rattle.std.proofs.Common.{◌≡◌, ℕ, Bool, true, false, List, ◌++◌, length, refl, subst}
 use Rattle.std.specs.Prelude.{not, ◌&&◌, Ok, Option, None, Some}
 use Rattle.std.specs.List.{list_all}
 use Rattle.std.proofs.lemmas.Bool.{and_from}
@@ -8,7 +8,6 @@ use Rattle.kql_cells.specs.declared.value.Kind.{Kind}
 use Rattle.kql_cells.specs.declared.value.Kind.TheVariants as kind
 use Rattle.kql_functions.specs.Kinds.{same_kind}
 use Rattle.kql_lexer.specs.declared.place.Place.{Place}
-use Rattle.kql_bound.specs.declared.expr.BExpr.{BExpr}
 use Rattle.kql_bound.specs.declared.literal.Lit.{Lit}
 use Rattle.kql_bound.specs.declared.parts.SeriesItem.{SeriesItem}
 use Rattle.kql_bound.specs.declared.parts.SeriesPlan.{SeriesPlan}
@@ -25,7 +24,7 @@ use Rattle.kql_syntax.specs.declared.query.MakeSeries.{MakeSeries}
 use Rattle.kql_syntax.specs.declared.query.Series.{Series}
 use Rattle.kql_syntax.specs.declared.tree.Expr.{Expr}
 use Rattle.bind_expr.specs.Bound.{bound_expr}
-use Rattle.bind_expr.specs.Outcome.{Outcome, ◌>>=◌}
+use Rattle.bind_expr.specs.Outcome.{◌>>=◌}
 use Rattle.bind_expr.specs.declared.scope.Scope.{Scope}
 use Rattle.bind_expr.specs.declared.typed.Typed.{Typed}
 use Rattle.bind_expr_laws.specs.Laws.{IsSound}
@@ -48,17 +47,9 @@ use Rattle.bind_groups.specs.declared.part.SeriesPart.{SeriesPart}
 use Rattle.bind_groups.proofs.SeriesNames.{series-once}
 use Rattle.bind_query_laws.specs.Sound.{AreColumns, IsSoundKnown, IsSoundOp, read_known}
 use Rattle.bind_query_laws.proofs.Frame.{after-ok, answer-sound, both-none, constant-sound, no-fault, not-false, ok-same, scope-sound, unless-ok}
-use Rattle.bind_query_laws.proofs.GroupFrame.{all-push, fold-keeps, keys-even, keys-sound, one-more}
+use Rattle.bind_query_laws.proofs.GroupFrame.{all-push, fold-keeps, keys-even, keys-sound, one-more, same-self}
 
 -- Defaults.
-
-same-self : (k : Kind) → same_kind k k ≡ true
-same-self kind.Bool = refl
-same-self kind.Long = refl
-same-self kind.Text = refl
-same-self kind.Moment = refl
-same-self kind.Span = refl
-same-self kind.Dynamic = refl
 
 empty-fits : (k : Kind) → literal_fits (record { kind = k; value = empty_bin k }) ≡ true
 unfolding literal_fits is_of_kind is_well_formed empty_bin absent
@@ -127,12 +118,12 @@ answer-is operator known inside rows place done axis from to step keys b well by
     (series_fits plan rows.columns)
     (op-MakeSeries plan (read_known known) inside rows.columns)
     (λ none.
-      let two = both-none (series_twice done place axis.name keys) (bin_faults operator rows plan) none in
-      let bins : bins_fit plan rows.columns ≡ true = not-false (bins_fit plan rows.columns) (no-fault (not (bins_fit plan rows.columns)) 414 operator two.1) in (
-        and_from (bins_fit plan rows.columns) (list_all (series_item_fits rows.columns) done.items && list_all (key_item_fits rows.columns) keys.items) bins
-        (and_from (list_all (series_item_fits rows.columns) done.items) (list_all (key_item_fits rows.columns) keys.items) well.0 by),
-        series-once done place (axis_over axis from to step) keys rows.columns well.1 even two.0,
-      ))
+    let two = both-none (series_twice done place axis.name keys) (bin_faults operator rows plan) none in
+    let bins : bins_fit plan rows.columns ≡ true = not-false (bins_fit plan rows.columns) (no-fault (not (bins_fit plan rows.columns)) 414 operator two.1) in (
+      and_from (bins_fit plan rows.columns) (list_all (series_item_fits rows.columns) done.items && list_all (key_item_fits rows.columns) keys.items) bins
+          (and_from (list_all (series_item_fits rows.columns) done.items) (list_all (key_item_fits rows.columns) keys.items) well.0 by),
+      series-once done place (axis_over axis from to step) keys rows.columns well.1 even two.0,
+    ))
     is
 
 pub make_series_sound : (operator : Place) (s : MakeSeries) (known : Known) (rows : Shape) (b : BoundOp) → IsSoundKnown known → AreColumns rows.columns → make_series_bound operator s known rows ≡ Ok b → (inside : Bool) → IsSoundOp known inside rows b

@@ -1,7 +1,7 @@
 -- A bound source is sound: a table or the table of a let, `range` and `print`.
-use Rattle.std.proofs.Common.{◌≡◌, ◌<◌, ◌+◌, ℕ, List, [], ◌∷◌, ◌++◌, refl, sym, ap, ◌∙◌, subst, length, get_or, map}
-use Rattle.std.specs.Prelude.{All, Bool, true, false, not, Ok, Err, Option, None, Some, bytes_eq, find, option_map, slice_get, if◌then◌else◌}
-use Rattle.std.specs.List.{list_all, position}
+use Rattle.std.proofs.Common.{◌≡◌, ℕ, List, [], ◌∷◌, ◌++◌, refl, sym, ap, ◌∙◌, subst, get_or, map}
+use Rattle.std.specs.Prelude.{All, Bool, true, false, not, Ok, Option, None, Some, bytes_eq, find, option_map, slice_get, if◌then◌else◌}
+use Rattle.std.specs.List.{list_all}
 use Rattle.std.specs.Option.{option_map_or}
 use Rattle.std.proofs.lemmas.Bool.{and_from}
 use Rattle.std.proofs.lemmas.List.Elements.{All-get_or}
@@ -12,7 +12,6 @@ use Rattle.kql_cells.specs.declared.schemas.NamedSchema.{NamedSchema}
 use Rattle.kql_cells.specs.declared.schema.Column.{Column}
 use Rattle.kql_lexer.specs.declared.place.Place.{Place}
 use Rattle.kql_bound.specs.declared.literal.Lit.{Lit}
-use Rattle.kql_bound.specs.declared.parts.BItem.{BItem}
 use Rattle.kql_bound.specs.declared.plan.Op.{Op}
 use Rattle.kql_bound.specs.declared.plan.Op.TheOpen.{Plan-F}
 use Rattle.kql_bound.specs.declared.plan.Plan.{Plan, out-roll-Plan, roll-Plan}
@@ -20,8 +19,8 @@ use Rattle.kql_bound.specs.declared.plan.Source.{Source}
 use Rattle.kql_bound.specs.declared.plan.Source.TheVariants as source
 use Rattle.kql_meaning.specs.declared.position.Position.TheVariants as position
 use Rattle.kql_meaning.specs.Fits.{Known as ReadKnown, of_columns, ops_columns, plan_columns, source_columns, table_columns}
-use Rattle.kql_meaning.specs.FittingExpressions.{expr_fits, scope_of, takes_columns}
-use Rattle.kql_meaning.specs.FittingOperators.{answer_if, has_its_names, is_empty, item_fits, items_fit, range_fits}
+use Rattle.kql_meaning.specs.FittingExpressions.{expr_fits, scope_of}
+use Rattle.kql_meaning.specs.FittingOperators.{has_its_names, is_empty, item_fits, items_fit, range_fits}
 use Rattle.kql_meaning.specs.Items.{items_columns}
 use Rattle.kql_meaning.specs.Sources.{range_columns}
 use Rattle.kql_meaning.proofs.OperatorFitLaws.{ops-start, plan-out}
@@ -31,7 +30,6 @@ use Rattle.kql_syntax.specs.declared.tree.Name.{Name}
 use Rattle.item_names.specs.ItemNames.{print_name}
 use Rattle.bind_expr.specs.Names.{text_of}
 use Rattle.bind_expr.specs.Outcome.{◌>>=◌}
-use Rattle.bind_expr.specs.declared.fault.BindFault.TheVariants as fault
 use Rattle.bind_expr.specs.declared.scope.Scope.{Scope}
 use Rattle.bind_expr.specs.declared.typed.Typed.{Typed}
 use Rattle.bind_expr_laws.proofs.BoundLaws.{bound-sound}
@@ -42,15 +40,15 @@ use Rattle.bind_operators.specs.declared.known.LetTable.{LetTable}
 use Rattle.bind_operators.specs.declared.wanted.Wanted.TheVariants as wanted
 use Rattle.bind_operators.specs.Answers.{width_faults}
 use Rattle.bind_operators.specs.Faults.{fault_if}
-use Rattle.bind_operators.specs.Items.{given_name, item_in, no_items, twice_items, with_names}
+use Rattle.bind_operators.specs.Items.{given_name, item_in, no_items, twice_items}
 use Rattle.bind_operators.specs.Known.{columns_handed_in, handed_in, is_constant_name, let_columns, let_name, let_numbered, let_or_handed_in, no_rows, or_no_table, rows_of, scope_at, serial_rows_of, straight_from, table_bound, table_named}
 use Rattle.bind_operators.specs.Places.{name_place}
-use Rattle.bind_operators.specs.Sources.{print_answer, print_bound, print_items, print_names, printed, range_bound, ranged, with_print_item}
+use Rattle.bind_operators.specs.Sources.{print_bound, print_items, print_names, printed, range_bound, ranged, with_print_item}
 use Rattle.bind_operators.specs.Wanted.{constant_bound}
 use Rattle.bind_operators.proofs.NameLaws.{projected-once, range-once}
 use Rattle.bind_operators.proofs.PrintSteps.{print-even}
 use Rattle.bind_query_laws.specs.Sound.{AreColumns, IsSoundKnown, IsSoundPlan, columns_of_let, read_known}
-use Rattle.bind_query_laws.proofs.Frame.{after-ok, answer-when, bare-scope-sound, both-none, found, items-push, no-columns, no-fault, not-false, of-all, ok-same, one-result, plain-free, single-name, some-same, steps-pass, unless-ok, width-some}
+use Rattle.bind_query_laws.proofs.Frame.{after-ok, answer-when, bare-scope-sound, both-none, found, items-push, no-fault, not-false, of-all, ok-same, one-result, plain-free, single-name, some-same, steps-pass, unless-ok, width-some}
 
 -- A plan from its source and its operators.
 pub plan-rolled : (s : Source) (ops : List Op) (k : ReadKnown) → plan_columns (roll-Plan (record { source = s; ops = ops })) k ≡ of_columns (source_columns s k) (λ cs. ops_columns ops k false cs)

@@ -1,13 +1,10 @@
 -- A bound `summarize` is sound.
-use Rattle.std.proofs.Common.{◌≡◌, ℕ, Bool, true, false, List, [], ◌∷◌, ◌++◌, length, refl, sym, ap, ◌∙◌, subst}
-use Rattle.std.specs.Prelude.{not, ◌&&◌, ◌||◌, ◌==◌, Ok, Option, None, Some, is_some, option_map}
+use Rattle.std.proofs.Common.{◌≡◌, ℕ, Bool, true, false, List, [], ◌++◌, length, refl, ◌∙◌, subst}
+use Rattle.std.specs.Prelude.{◌&&◌, ◌||◌, ◌==◌, Ok, Option, None, Some, is_some, option_map}
 use Rattle.std.specs.List.{list_all, list_any}
 use Rattle.std.proofs.lemmas.Bool.{and_from, eq-eqb}
-use Rattle.std.proofs.lemmas.List.{length-map}
 use Rattle.kql_cells.specs.declared.schema.Column.{Column}
 use Rattle.kql_cells.specs.declared.value.Kind.{Kind}
-use Rattle.kql_functions.specs.declared.aggregate.Aggregate.{Aggregate}
-use Rattle.kql_functions.specs.declared.aggregate.Aggregate.TheVariants as aggregate
 use Rattle.kql_lexer.specs.declared.place.Place.{Place}
 use Rattle.kql_bound.specs.declared.expr.BExpr.{BExpr, out-BExpr}
 use Rattle.kql_bound.specs.declared.expr.BExpr.TheOpen.{BExpr-F}
@@ -17,7 +14,7 @@ use Rattle.kql_bound.specs.declared.plan.Op.TheVariants as op
 use Rattle.kql_meaning.specs.declared.position.Position.TheVariants as position
 use Rattle.kql_meaning.specs.FittingExpressions.{call_or_expr_fits, scope_of}
 use Rattle.kql_meaning.specs.FittingOperators.{group_item_fits, has_its_names, key_item_fits, summarize_fits}
-use Rattle.kql_meaning.specs.Results.{aggregate_result_kinds, has_one_result, result_kinds, result_kinds_step, typed}
+use Rattle.kql_meaning.specs.Results.{has_one_result, result_kinds, result_kinds_step, typed}
 use Rattle.kql_meaning.specs.Summarize.{group_columns}
 use Rattle.kql_meaning.proofs.OperatorFitLaws.{op-Summarize}
 use Rattle.kql_syntax.specs.declared.query.Groups.{Groups}
@@ -47,7 +44,7 @@ use Rattle.bind_operators.specs.Places.{expr_start}
 use Rattle.bind_groups.specs.Summarize.{group_faults, group_item, group_item_faults, group_items_bound, group_keys_bound, group_plan, group_scope, groups_bound, has_bad_count, has_bare_column, has_several_columns, several_step, summarize_bound, summarized}
 use Rattle.bind_groups.proofs.GroupNames.{grouped-once}
 use Rattle.bind_query_laws.specs.Sound.{AreColumns, IsSoundKnown, IsSoundOp, read_known}
-use Rattle.bind_query_laws.proofs.Frame.{after-ok, answer-sound, both-none, items-pass, no-fault, not-false, single-name, unless-ok}
+use Rattle.bind_query_laws.proofs.Frame.{after-ok, answer-sound, both-none, items-pass, kinds-one, no-fault, not-false, single-name, unless-ok}
 use Rattle.bind_query_laws.proofs.GroupFrame.{all-but, even-from, keys-even, keys-sound, or-else}
 
 -- What binding refuses is what the law of expressions asks for.
@@ -65,13 +62,6 @@ same-count e = refl
 group-scope-sound : (known : Known) (rows : Shape) (keys : List Item) → IsSoundKnown known → AreColumns rows.columns → IsSoundScope (group_scope known rows keys)
 unfolding group_scope scope_at
 group-scope-sound known rows keys sound names = record { names = names; consts = sound.consts; records = tt; moment = sound.moment }
-
-kinds-one : (f : Aggregate) (args : List BExpr) (one : Kind) (columns : List Column) → has_one_result f args ≡ true → length (aggregate_result_kinds f args one columns) == 1 ≡ true
-unfolding has_one_result aggregate_result_kinds
-kinds-one aggregate.ArgMax args one columns e = rw (length-map args (λ a. typed a columns)) e
-kinds-one aggregate.ArgMin args one columns e = rw (length-map args (λ a. typed a columns)) e
-kinds-one aggregate.TakeAny args one columns e = rw (length-map args (λ a. typed a columns)) e
-kinds-one _ args one columns e = refl
 
 several-layer : (y : BExpr-F BExpr) (one : Kind) (columns : List Column) → several_step y ≡ false → length (result_kinds_step y one columns) == 1 ≡ true
 several-layer (BExpr-F.Aggregate f args) one columns e = kinds-one f args one columns (not-false (has_one_result f args) e)
@@ -145,8 +135,8 @@ groups_sound operator items keys known rows b sound names is inside =
     (op-Summarize plan (read_known known) inside rows.columns)
     (λ none. (
       and_from (list_all (group_item_fits rows.columns) done.items) (list_all (key_item_fits rows.columns) by.items)
-      (group-items-sound operator known rows items keys done sound names first.1 (bad-none operator done by none))
-      (keys-sound known rows done.next keys by sound names next.1),
+          (group-items-sound operator known rows items keys done sound names first.1 (bad-none operator done by none))
+          (keys-sound known rows done.next keys by sound names next.1),
       grouped-once operator done by rows.columns (items-even operator known rows items keys done first.1) (keys-even known rows done.next keys by next.1) none,
     ))
     next.2

@@ -1,7 +1,6 @@
 -- A bound `take`, and `count`, is sound.
 use Rattle.std.proofs.Common.{◌≡◌, refl, subst}
 use Rattle.std.specs.Prelude.{Bool, Ok}
-use Rattle.kql_bound.specs.declared.literal.Lit.{Lit}
 use Rattle.kql_bound.specs.declared.plan.Op.TheVariants as op
 use Rattle.kql_lexer.specs.declared.place.Place.{Place}
 use Rattle.kql_meaning.specs.TakeAndCount.{count_columns}

@@ -1,6 +1,6 @@
 -- Every operator and every pipe of a query is bound to what is sound: by induction over the syntax tree.
-use Rattle.std.proofs.Common.{◌≡◌, List, [], ◌∷◌, refl, sym, ap, ◌∙◌, subst, map}
-use Rattle.std.specs.Prelude.{Bool, true, false, Ok, Option}
+use Rattle.std.proofs.Common.{◌≡◌, List, [], ◌∷◌, sym, ◌∙◌, subst, map}
+use Rattle.std.specs.Prelude.{Bool, true, false, Option}
 use Rattle.std.specs.List.{AllByRecursion}
 use Rattle.std.proofs.lemmas.Bool.{and_parts}
 use Rattle.kql_lexer.specs.declared.place.Place.{Place}
@@ -33,11 +33,6 @@ use Rattle.kql_syntax.specs.declared.query.TableOp.{TableOp, fold-roll-TableOp, 
 use Rattle.kql_syntax.specs.declared.query.Union.{Union, fold-roll-Union, map-Union, roll-Union}
 use Rattle.kql_syntax.specs.declared.tree.Expr.{Expr}
 use Rattle.kql_syntax.specs.declared.tree.Name.{Name}
-use Rattle.bind_expr.specs.Outcome.{Outcome}
-use Rattle.bind_operators.specs.declared.bound.BoundOp.{BoundOp}
-use Rattle.bind_operators.specs.declared.bound.BoundPlan.{BoundPlan}
-use Rattle.bind_operators.specs.declared.known.Known.{Known}
-use Rattle.bind_operators.specs.declared.shape.Shape.{Shape}
 use Rattle.bind_groups.specs.MakeSeries.{make_series_bound}
 use Rattle.bind_groups.specs.MvExpand.{mv_expand_bound}
 use Rattle.bind_groups.specs.Parse.{parse_bound}
@@ -49,7 +44,6 @@ use Rattle.bind_query.specs.Pipes.{BindsArg, BindsOp, BindsPlan, UnionParts}
 use Rattle.bind_query.specs.Scan.{scan_bound}
 use Rattle.bind_query.specs.Union.{union_bound, union_source_bound}
 use Rattle.bind_query_laws.specs.Patterns.{all_have, arg_patterns, arg_patterns_step, has_pattern, join_patterns, join_patterns_step, op_patterns, op_patterns_step, partition_patterns, partition_patterns_step, pipe_patterns, pipe_patterns_step, source_patterns, source_patterns_step, table_op_patterns, table_op_patterns_step, union_patterns, union_patterns_step}
-use Rattle.bind_query_laws.specs.Sound.{AreColumns, IsSoundKnown, IsSoundOp, IsSoundPlan}
 use Rattle.bind_query_laws.proofs.Frame.{not-true}
 use Rattle.bind_query_laws.proofs.ExtendLaws.{extend_sound, serialize_sound}
 use Rattle.bind_query_laws.proofs.PipeLaws.{SoundOp, SoundPlan, piped_sound}

@@ -1,19 +1,15 @@
 -- A bound `union` is sound.
-use Rattle.std.proofs.Common.{◌≡◌, ◌+◌, ℕ, Bool, true, false, List, [], ◌∷◌, ◌++◌, filter, length, map, refl, sym, ap, ◌∙◌, subst, inl, inr, arith}
-use Rattle.std.specs.Prelude.{not, ◌&&◌, ◌||◌, Ok, Option, None, Some, bytes_eq, find}
+use Rattle.std.proofs.Common.{◌≡◌, suc, Bool, true, false, List, [], ◌∷◌, ◌++◌, length, map, refl, ap, ◌∙◌, subst, inl, inr, arith}
+use Rattle.std.specs.Prelude.{not, ◌||◌, Ok, Option, Some, bytes_eq, find}
 use Rattle.std.specs.List.{AllByRecursion, list_all}
-use Rattle.std.proofs.lemmas.Bool.{and_from, and_parts, cases_Bool}
+use Rattle.std.proofs.lemmas.Bool.{and_from, and_parts}
 use Rattle.std.proofs.lemmas.Slice.Eq.{bytes_eq-Decides}
 use Rattle.kql_cells.specs.Named.{column_name}
 use Rattle.kql_cells.specs.declared.schema.Column.{Column}
-use Rattle.kql_cells.specs.declared.value.Kind.{Kind}
-use Rattle.kql_cells.specs.declared.value.Kind.TheVariants as kind
-use Rattle.kql_functions.specs.Kinds.{same_kind}
 use Rattle.kql_lexer.specs.declared.place.Place.{Place}
 use Rattle.kql_bound.specs.declared.plan.Op.TheVariants as op
-use Rattle.kql_bound.specs.declared.plan.Plan.{Plan}
 use Rattle.kql_meaning.specs.Expressions.{column_kind}
-use Rattle.kql_meaning.specs.Fits.{all_columns, plan_columns, plans_columns, united_columns}
+use Rattle.kql_meaning.specs.Fits.{all_columns, plans_columns, united_columns}
 use Rattle.kql_meaning.specs.FittingExpressions.{has_kind, is_kind}
 use Rattle.kql_meaning.specs.FittingOperators.{is_of_type_in, union_fits}
 use Rattle.kql_meaning.specs.Tables.{distinct_by, has_column, is_name_among, names_of}
@@ -21,30 +17,20 @@ use Rattle.kql_meaning.specs.Union.{all_in_order, same_name, union_columns}
 use Rattle.kql_meaning.proofs.MemberLaws.{Member, every-of-members, member-of-filter}
 use Rattle.kql_meaning.proofs.OperatorFitLaws.{op-Union}
 use Rattle.kql_meaning.proofs.TableLaws.{union_names_differ}
-use Rattle.bind_expr.specs.Outcome.{Outcome, ◌>>=◌}
-use Rattle.bind_expr.specs.declared.fault.BindFault.{BindFault}
 use Rattle.bind_operators.specs.declared.bound.BoundOp.{BoundOp}
 use Rattle.bind_operators.specs.declared.bound.BoundPlan.{BoundPlan}
 use Rattle.bind_operators.specs.declared.known.Known.{Known}
 use Rattle.bind_operators.specs.declared.shape.Shape.{Shape}
-use Rattle.bind_operators.specs.Faults.{each_bound, fault_if}
+use Rattle.bind_operators.specs.Faults.{fault_if}
 use Rattle.bind_query.specs.Pipes.{BindsArg, UnionParts}
-use Rattle.bind_query.specs.Union.{columns_behind, places_of, plan_of, stand_behind, table_clashes, tables_bound, union_answer, union_bound, united}
+use Rattle.bind_query.specs.Union.{columns_behind, places_of, plan_of, stand_behind, table_clashes, tables_bound, union_bound, united}
 use Rattle.bind_query.proofs.UnionSteps.{united-once}
 use Rattle.bind_groups.proofs.EachLaws.{each-relates}
 use Rattle.bind_query_laws.specs.Sound.{AreColumns, IsSoundOp, IsSoundPlan, read_known}
 use Rattle.bind_query_laws.proofs.Frame.{after-ok, all-of, answer-ok, answer-sound, both-none, no-fault, not-false, not-true, true-or-false}
-use Rattle.bind_query_laws.proofs.GroupFrame.{column-found, found-column}
+use Rattle.bind_query_laws.proofs.GroupFrame.{column-found, found-column, same-self}
 
 -- Columns of the answer in the first table.
-
-same-self : (k : Kind) → same_kind k k ≡ true
-same-self kind.Bool = refl
-same-self kind.Long = refl
-same-self kind.Text = refl
-same-self kind.Moment = refl
-same-self kind.Span = refl
-same-self kind.Dynamic = refl
 
 or-kind : (a b : Bool) → b ≡ true → not a || b ≡ true
 or-kind true b e = e
@@ -152,7 +138,7 @@ pub tables-sound : (known : Known) (inside : Bool) (tables : List BindsArg) (oth
 unfolding tables_bound
 tables-sound known inside tables others sound is =
     each-relates (λ (t : BindsArg). t.1 known inside) (AreTables known inside) (λ s. (tt, refl))
-    (λ t p ts ps e h s. let rest = h s.1 in ((s.0 p e, rest.0), ap (λ n. n + 1) rest.1))
+    (λ t p ts ps e h s. let rest = h s.1 in ((s.0 p e, rest.0), ap suc rest.1))
     tables others is sound
 
 pub union_sound : (operator : Place) (u : UnionParts) (known : Known) (inside : Bool) (rows : Shape) (b : BoundOp) → AreColumns rows.columns → AllByRecursion (SoundArg known inside) u.1 → union_bound operator u known inside rows ≡ Ok b → IsSoundOp known inside rows b
