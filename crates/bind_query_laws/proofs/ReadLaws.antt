@@ -8,8 +8,6 @@ use Rattle.std.proofs.lemmas.Slice.Eq.{bytes_eq-Decides}
 use Rattle.kql_cells.specs.Catalogues.{schema_name}
 use Rattle.kql_cells.specs.declared.schemas.NamedSchema.{NamedSchema}
 use Rattle.kql_cells.specs.declared.schema.Column.{Column}
-use Rattle.kql_cells.specs.declared.value.Kind.{Kind}
-use Rattle.kql_cells.specs.declared.value.Kind.TheVariants as kind
 use Rattle.kql_functions.specs.Kinds.{same_kind}
 use Rattle.kql_bound.specs.declared.plan.Op.{Op, fold-roll-Op, map-Op, roll-Op}
 use Rattle.kql_bound.specs.declared.plan.Op.TheOpen.{Op-F, Plan-F}
@@ -23,6 +21,7 @@ use Rattle.kql_meaning.specs.Tables.{distinct_by}
 use Rattle.kql_meaning.proofs.MemberLaws.{Member, member-filter, member-left, member-right}
 use Rattle.bind_query.specs.TablesRead.{TableNames, all_of, op_tables, op_tables_step, plan_tables, plan_tables_step, schema_named, schemas_named, table_of_source, tables_read}
 use Rattle.bind_query_laws.proofs.Frame.{found}
+use Rattle.bind_query_laws.proofs.GroupFrame.{same-self}
 
 -- What is known agrees on the lets, and on the tables of these names.
 pub record Agrees (names : TableNames) (k l : ReadKnown) : Type 0 where
@@ -247,14 +246,6 @@ read-agrees schemas ps n at =
     (read-same schemas n (distinct_by bytes_eq (all_of (map plan_tables ps))) (once-member (all_of (map plan_tables ps)) n at) (schema_named schemas n) refl)
 
 -- They stand there.
-
-same-self : (k : Kind) → same_kind k k ≡ true
-same-self kind.Bool = refl
-same-self kind.Long = refl
-same-self kind.Text = refl
-same-self kind.Moment = refl
-same-self kind.Span = refl
-same-self kind.Dynamic = refl
 
 columns-same : (cs : List Column) → same_columns cs cs ≡ true
 unfolding same_columns
