@@ -10,6 +10,8 @@ pub mod Logic
 pub mod Outcomes
 pub mod Parts
 pub mod Paths
+pub mod PlaceLaws
+pub mod PlaceSteps
 pub mod RefusedSteps
 pub mod Shapes
 pub mod Standing
