@@ -72,7 +72,7 @@ program-table schemas catalogue name columns tables stand (Some s) e f =
     let table = stands-there catalogue s tables (table_found catalogue s.name) refl told in
     subst (λ (n : List ℕ). IsTableOf columns (table_of (table_found catalogue n))) here (subst (λ (cs : List Column). IsTableOf cs (table_of (table_found catalogue s.name))) same table)
 
-all-stand : (schemas : List NamedSchema) (catalogue : List Named) → AreTables catalogue → tables_stand schemas (schemas_of catalogue) ≡ true → TablesStand schemas catalogue
+pub all-stand : (schemas : List NamedSchema) (catalogue : List Named) → AreTables catalogue → tables_stand schemas (schemas_of catalogue) ≡ true → TablesStand schemas catalogue
 unfolding table_columns
 all-stand schemas catalogue tables stand name columns e = program-table schemas catalogue name columns tables stand (find (λ s. bytes_eq (schema_name s) name) schemas) refl e
 

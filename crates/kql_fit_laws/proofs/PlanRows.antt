@@ -34,7 +34,7 @@ use Rattle.kql_fit_laws.specs.LawsOfRows.{IsTable, IsTableOf, JoinKeeps, OpKeeps
 
 -- Outside subqueries.
 
-outside-some : (inside : Bool) (columns : Option (List Column)) (cs : List Column) → outside_subqueries inside columns ≡ Some cs → columns ≡ Some cs
+pub outside-some : (inside : Bool) (columns : Option (List Column)) (cs : List Column) → outside_subqueries inside columns ≡ Some cs → columns ≡ Some cs
 unfolding outside_subqueries
 outside-some true columns cs e = cc
 outside-some false columns cs e = e
@@ -58,10 +58,10 @@ join_keeps k w j right keeps inside t cs h fits =
 -- Union.
 
 -- What plans mean.
-abbrev grids : List Plan → World → List Grid
+abbrev pub grids : List Plan → World → List Grid
 grids plans w = map (λ (plan : Gives). plan w) (map plan_means plans)
 
-AllKeep : List Plan → World → List (List Column) → Type 0
+pub AllKeep : List Plan → World → List (List Column) → Type 0
 AllKeep plans w all = (map columns_of (grids plans w) ≡ all) × ((t : Grid) → Member t (grids plans w) → IsTable t)
 
 plans-next : (k : Known) (w : World) (p : Plan) (ps : List Plan) (all : List (List Column)) → PlanKeeps k w p → ((ms : List (List Column)) → all_columns (map plan_columns ps) k ≡ Some ms → AllKeep ps w ms) → (o : Option (List Column)) → plan_columns p k ≡ o → (r : Option (List (List Column))) → all_columns (map plan_columns ps) k ≡ r → option_and_then (λ one. option_map (λ more. one ∷ more) r) o ≡ Some all → AllKeep (p ∷ ps) w all
@@ -79,7 +79,7 @@ plans-next k w p ps all keeps rest (Some c) e (Some ms) f g =
       ],
     )
 
-plans-keep : (k : Known) (w : World) (ps : List Plan) → ((p : Plan) → Member p ps → PlanKeeps k w p) → (all : List (List Column)) → plans_columns ps k ≡ Some all → AllKeep ps w all
+pub plans-keep : (k : Known) (w : World) (ps : List Plan) → ((p : Plan) → Member p ps → PlanKeeps k w p) → (all : List (List Column)) → plans_columns ps k ≡ Some all → AllKeep ps w all
 unfolding plans_columns all_columns AllKeep
 plans-keep k w [] keeps all e = let none : [] ≡ all = cc in (none, λ t m. absurd m)
 plans-keep k w (p ∷ ps) keeps all e =
@@ -119,10 +119,10 @@ ops-keep k w inside (o ∷ os) keeps t before cs h e =
     (ap (λ (b : Option (List Column)). fold (after k inside) b os) (sym (after-some k inside before o)) ∙ e)
 
 -- A subquery.
-abbrev subquery_of : List Op → World → Grid → Grid
+abbrev pub subquery_of : List Op → World → Grid → Grid
 subquery_of ops w u = one_after_another (map op_means ops) w u
 
-subquery-keeps : (k : Known) (w : World) (ops : List Op) → ((o : Op) → Member o ops → OpKeeps k w o) → (t : Grid) (cs : List Column) → IsTable t → ops_columns ops k true t.columns ≡ Some cs → IsTableOf cs (subquery_of ops w t)
+pub subquery-keeps : (k : Known) (w : World) (ops : List Op) → ((o : Op) → Member o ops → OpKeeps k w o) → (t : Grid) (cs : List Column) → IsTable t → ops_columns ops k true t.columns ≡ Some cs → IsTableOf cs (subquery_of ops w t)
 subquery-keeps k w ops keeps t cs h e =
     subst (IsTableOf cs) (sym (ops_mean-map ops w t)) (ops-keep k w true ops keeps t t.columns cs (refl, h) (sym (ops-fold ops k true t.columns) ∙ e))
 
@@ -130,15 +130,15 @@ pub group-table : (key : ℕ → List Value) (t : Grid) (v : List Value) → IsT
 unfolding group_of
 group-table key t v h = gathered-table t (filter (λ i. same_keys (key i) v) (places t)) h (All-filter (λ i. same_keys (key i) v) (λ i. i < length t.lines) (places t) (places-inside t))
 
-group-columns : (key : ℕ → List Value) (t : Grid) (v : List Value) → (group_of key t v).columns ≡ t.columns
+pub group-columns : (key : ℕ → List Value) (t : Grid) (v : List Value) → (group_of key t v).columns ≡ t.columns
 unfolding group_of
 group-columns key t v = refl
 
-emptied-table : (t : Grid) → IsTable t → IsTable (emptied t)
+pub emptied-table : (t : Grid) → IsTable t → IsTable (emptied t)
 unfolding emptied
 emptied-table t h = (h.0, All-nil (RowFits t.columns))
 
-emptied-columns : (t : Grid) → (emptied t).columns ≡ t.columns
+pub emptied-columns : (t : Grid) → (emptied t).columns ≡ t.columns
 unfolding emptied
 emptied-columns t = refl
 

@@ -47,7 +47,7 @@ parts_keep_plan k w p source ops cs e =
 
 -- Programs.
 
-lets-push : (columns : List (List Column)) (ts : List Grid) (c : List Column) (t : Grid) → LetsStand columns ts → IsTableOf c t → LetsStand (columns ++ c ∷ []) (ts ++ t ∷ [])
+pub lets-push : (columns : List (List Column)) (ts : List Grid) (c : List Column) (t : Grid) → LetsStand columns ts → IsTableOf c t → LetsStand (columns ++ c ∷ []) (ts ++ t ∷ [])
 lets-push [] [] c t h k = (k, tt)
 lets-push [] (u ∷ us) c t h k = absurd h
 lets-push (d ∷ more) [] c t h k = absurd h
