@@ -1,7 +1,9 @@
 pub mod BuiltSteps
-pub mod ColumnSteps
+pub mod FitSteps
+pub mod KeySteps
 pub mod LetSteps
 pub mod OperatorSteps
+pub mod PartitionSteps
 pub mod PlanSteps
 pub mod ProgramSteps
 pub mod SourceSteps

@@ -1,41 +1,50 @@
--- What operators mean and ask of the columns before them, variant by variant, and one after another.
-use Rattle.std.proofs.Common.{◌≡◌, ℕ, true, false, List, [], ◌∷◌, length, map, refl, sym, ap, ◌∙◌, rules}
+-- What operators mean, variant by variant, and one after another.
+use Rattle.std.proofs.Common.{◌≡◌, ◌<◌, ◌≤◌, ◌+◌, ℕ, zero, suc, arith, drop, get_or, length, Bool, true, List, [], ◌∷◌, map, refl, sym, ap, ◌∙◌, subst, rules}
 use Rattle.std.specs.Prelude.{None, Option, Some, fold, is_some}
 use Rattle.std.specs.List.{list_all}
 use Rattle.std.proofs.lemmas.Bool.{and_parts}
-use Rattle.std.proofs.lemmas.List.{nil_from_length}
-use Rattle.kql_cells.specs.Named.{HasDistinctNames, column_name}
 use Rattle.kql_cells.specs.Table.{Grid}
 use Rattle.kql_cells.specs.declared.schema.Column.{Column}
 use Rattle.kql_bound.specs.declared.expr.BExpr.{BExpr}
 use Rattle.kql_bound.specs.declared.parts.BItem.{BItem}
 use Rattle.kql_bound.specs.declared.parts.BKey.{BKey}
+use Rattle.kql_bound.specs.declared.parts.Expand.{Expand}
+use Rattle.kql_bound.specs.declared.parts.GroupPlan.{GroupPlan}
+use Rattle.kql_bound.specs.declared.parts.JoinPlan.{JoinPlan}
+use Rattle.kql_bound.specs.declared.parts.ParsePlan.{ParsePlan}
+use Rattle.kql_bound.specs.declared.parts.ScanPlan.{ScanPlan}
+use Rattle.kql_bound.specs.declared.parts.SeriesPlan.{SeriesPlan}
 use Rattle.kql_bound.specs.declared.plan.Op.{Op, out-Op, the_lemmas}
 use Rattle.kql_bound.specs.declared.plan.Op.TheFolds.{map-Op}
 use Rattle.kql_bound.specs.declared.plan.Op.TheOpen.{Op-F}
 use Rattle.kql_bound.specs.declared.plan.Op.TheVariants as V
 use Rattle.kql_bound.specs.declared.plan.Plan.{Plan}
-use Rattle.kql_meaning.specs.declared.position.Position.TheVariants as position
-use Rattle.kql_meaning.specs.Extend.{extend_columns, extend_table}
+use Rattle.kql_meaning.specs.Extend.{extend_table}
 use Rattle.kql_meaning.specs.Fits.{Known, op_columns, ops_columns}
-use Rattle.kql_meaning.specs.FittingOperators.{items_fit, sort_fits, where_fits}
-use Rattle.kql_meaning.specs.Items.{items_columns}
+use Rattle.kql_meaning.specs.Join.{join_table}
+use Rattle.kql_meaning.specs.MakeSeries.{series_table}
+use Rattle.kql_meaning.specs.MvExpand.{expand_table}
+use Rattle.kql_meaning.specs.Parse.{parse_table}
 use Rattle.kql_meaning.specs.Plans.{Gives, Makes, World, one_after_another, op_means, op_step, plan_means}
 use Rattle.kql_meaning.specs.Project.{project_table}
+use Rattle.kql_meaning.specs.Scan.{scan_table}
 use Rattle.kql_meaning.specs.Sort.{sort_table, top_table}
+use Rattle.kql_meaning.specs.Summarize.{summarize_table}
 use Rattle.kql_meaning.specs.TakeAndCount.{count_table, take_table}
+use Rattle.kql_meaning.specs.Union.{union_table}
 use Rattle.kql_meaning.specs.Where.{where_table}
-use Rattle.kql_meaning.proofs.OperatorFitLaws.{after, after-none, after-some, op-Extend, op-Project, op-Sort, op-Top, op-Where, ops-fold, stays-none}
+use Rattle.kql_meaning.proofs.OperatorFitLaws.{after, after-none, after-some, ops-fold, stays-none}
 use Rattle.kql_meaning.proofs.PlanLaws.{op_means-out}
-use Rattle.kql_fit_laws.proofs.RowFacts.{columns-some}
-use Rattle.kql_plain.specs.AtHand.{known_in, op_fits, ops_fit}
-use Rattle.kql_plain.specs.Built.{op_is_built}
-use Rattle.kql_plain.proofs.BuiltSteps.{built_steps}
-use Rattle.kql_plain.proofs.ColumnSteps.{answer-there, columns-there, made-columns}
+use Rattle.kql_fit_laws.proofs.OperatorLaws.{each_op_keeps}
+use Rattle.kql_fit_laws.specs.LawsOfRows.{IsTable}
+use Rattle.kql_plain.specs.AtHand.{IsSo, OpFits, OpsFit, PlanFits, PlansFit, plans_mean}
+use Rattle.kql_plain.specs.Built.{op_is_built, plan_is_built}
+use Rattle.kql_plain.proofs.BuiltSteps.{built-Join, built-Union, built_steps}
+use Rattle.kql_plain.proofs.FitSteps.{fit_steps, means-each, plan-Join, plans-Union}
 
 -- What each means.
 
-step : (o : Op) (f : Op-F Op Plan) → out-Op o ≡ f → (w : World) (t : Grid) → op_means o w t ≡ op_step (map-Op Op Plan Makes Gives op_means plan_means f) w t
+pub step : (o : Op) (f : Op-F Op Plan) → out-Op o ≡ f → (w : World) (t : Grid) → op_means o w t ≡ op_step (map-Op Op Plan Makes Gives op_means plan_means f) w t
 step o f e w t = op_means-out o w t ∙ ap (λ (g : Op-F Op Plan). op_step (map-Op Op Plan Makes Gives op_means plan_means g) w t) e
 
 pub means-Where : (e : BExpr) (w : World) (t : Grid) → op_means (V.Where e) w t ≡ where_table e t
@@ -62,46 +71,59 @@ means-Top n keys w t = step (V.Top n keys) (Op-F.Top n keys) (search (rules, the
 pub means-Serialize : (w : World) (t : Grid) → op_means V.Serialize w t ≡ t
 means-Serialize w t = step V.Serialize Op-F.Serialize (search (rules, the_lemmas)) w t
 
--- What each asks.
+pub means-Summarize : (g : GroupPlan) (w : World) (t : Grid) → op_means (V.Summarize g) w t ≡ summarize_table g t
+means-Summarize g w t = step (V.Summarize g) (Op-F.Summarize g) (search (rules, the_lemmas)) w t
 
-pub fits-Where : (e : BExpr) (w : World) (cs : List Column) → op_fits (V.Where e) w cs ≡ true → where_fits e cs ≡ true
-unfolding op_fits
-fits-Where e w cs f =
-    (columns-some (where_fits e cs) cs cs (columns-there (where_fits e cs) cs (sym (ap is_some (op-Where e (known_in w) false cs)) ∙ f))).0
+pub means-MakeSeries : (p : SeriesPlan) (w : World) (t : Grid) → op_means (V.MakeSeries p) w t ≡ series_table p t
+means-MakeSeries p w t = step (V.MakeSeries p) (Op-F.MakeSeries p) (search (rules, the_lemmas)) w t
 
-pub fits-Sort : (keys : List BKey) (w : World) (cs : List Column) → op_fits (V.Sort keys) w cs ≡ true → sort_fits keys cs ≡ true
-unfolding op_fits
-fits-Sort keys w cs f =
-    (columns-some (sort_fits keys cs) cs cs (columns-there (sort_fits keys cs) cs (sym (ap is_some (op-Sort keys (known_in w) false cs)) ∙ f))).0
+pub means-MvExpand : (x : Expand) (w : World) (t : Grid) → op_means (V.MvExpand x) w t ≡ expand_table x t
+means-MvExpand x w t = step (V.MvExpand x) (Op-F.MvExpand x) (search (rules, the_lemmas)) w t
 
-pub fits-Top : (n : ℕ) (keys : List BKey) (w : World) (cs : List Column) → op_fits (V.Top n keys) w cs ≡ true → sort_fits keys cs ≡ true
-unfolding op_fits
-fits-Top n keys w cs f =
-    (columns-some (sort_fits keys cs) cs cs (columns-there (sort_fits keys cs) cs (sym (ap is_some (op-Top n keys (known_in w) false cs)) ∙ f))).0
+pub means-Parse : (p : ParsePlan) (w : World) (t : Grid) → op_means (V.Parse p) w t ≡ parse_table p t
+means-Parse p w t = step (V.Parse p) (Op-F.Parse p) (search (rules, the_lemmas)) w t
 
-extend-fits : (items : List BItem) (w : World) (cs : List Column) → op_fits (V.Extend items) w cs ≡ true → (items_fit items cs position.Window ≡ true) × HasDistinctNames column_name (extend_columns items cs)
-unfolding op_fits
-extend-fits items w cs f =
-    answer-there (items_fit items cs position.Window) (extend_columns items cs) (sym (ap is_some (op-Extend items (known_in w) false cs)) ∙ f)
+pub means-Join : (j : JoinPlan) (right : Plan) (w : World) (t : Grid) → op_means (V.Join j right) w t ≡ join_table j t (plan_means right w)
+means-Join j right w t = step (V.Join j right) (Op-F.Join j right) (search (rules, the_lemmas)) w t
 
-pub fits-Extend : (items : List BItem) (w : World) (cs : List Column) → op_fits (V.Extend items) w cs ≡ true → items_fit items cs position.Window ≡ true
-fits-Extend items w cs f = (extend-fits items w cs f).0
+pub means-Union : (inner : Bool) (others : List Plan) (w : World) (t : Grid) → op_means (V.Union inner others) w t ≡ union_table inner t (plans_mean others w)
+means-Union inner others w t =
+    step (V.Union inner others) (Op-F.Union inner others) (search (rules, the_lemmas)) w t ∙ ap (λ (ts : List Grid). union_table inner t ts) (means-each others w)
 
-pub names-Extend : (items : List BItem) (w : World) (cs : List Column) → op_fits (V.Extend items) w cs ≡ true → HasDistinctNames column_name (extend_columns items cs)
-names-Extend items w cs f = (extend-fits items w cs f).1
+pub means-Scan : (p : ScanPlan) (w : World) (t : Grid) → op_means (V.Scan p) w t ≡ scan_table p t
+means-Scan p w t = step (V.Scan p) (Op-F.Scan p) (search (rules, the_lemmas)) w t
 
-project-fits : (items : List BItem) (w : World) (cs : List Column) → op_fits (V.Project items) w cs ≡ true → (items_fit items cs position.Window ≡ true) × HasDistinctNames column_name (items_columns items cs)
-unfolding op_fits
-project-fits items w cs f =
-    answer-there (items_fit items cs position.Window) (items_columns items cs) (sym (ap is_some (op-Project items (known_in w) false cs)) ∙ f)
+pub ruleset op_steps = (built_steps, fit_steps, means-Where, means-Extend, means-Project, means-Take, means-Count, means-Sort, means-Top, means-Serialize, means-Summarize, means-MakeSeries, means-MvExpand, means-Parse, means-Join, means-Union, means-Scan)
 
-pub fits-Project : (items : List BItem) (w : World) (cs : List Column) → op_fits (V.Project items) w cs ≡ true → items_fit items cs position.Window ≡ true
-fits-Project items w cs f = (project-fits items w cs f).0
+-- The plans in an operator are built and fit.
 
-pub names-Project : (items : List BItem) (w : World) (cs : List Column) → op_fits (V.Project items) w cs ≡ true → HasDistinctNames column_name (items_columns items cs)
-names-Project items w cs f = (project-fits items w cs f).1
+pub right-built : (o : Op) (j : JoinPlan) (right : Plan) → o ≡ V.Join j right → op_is_built o ≡ true → plan_is_built right ≡ true
+right-built o j right is b = sym (ap op_is_built is ∙ built-Join j right) ∙ b
 
-pub ruleset op_steps = (built_steps, means-Where, means-Extend, means-Project, means-Take, means-Count, means-Sort, means-Top, means-Serialize, fits-Where, fits-Sort, fits-Top, fits-Extend, names-Extend, fits-Project, names-Project)
+pub right-fits : (o : Op) (j : JoinPlan) (right : Plan) (w : World) (t : Grid) → o ≡ V.Join j right → OpFits o w t → PlanFits right w
+right-fits o j right w t is f = plan-Join j right w t (subst (λ (p : Op). OpFits p w t) is f)
+
+pub others-are-built : (o : Op) (inner : Bool) (others seen : List Plan) → o ≡ V.Union inner others → seen ≡ others → op_is_built o ≡ true → list_all plan_is_built seen ≡ true
+others-are-built o inner others seen is same b = ap (λ (ps : List Plan). list_all plan_is_built ps) same ∙ (sym (ap op_is_built is ∙ built-Union inner others) ∙ b)
+
+pub others-all-fit : (o : Op) (inner : Bool) (others seen : List Plan) (w : World) (t : Grid) → o ≡ V.Union inner others → seen ≡ others → OpFits o w t → PlansFit seen w
+others-all-fit o inner others seen w t is same f =
+    subst (λ (ps : List Plan). PlansFit ps w) (sym same) (plans-Union inner others w t (subst (λ (p : Op). OpFits p w t) is f))
+
+-- What is left of a list from a place on.
+
+pub rest-at : {X : Type 0} (xs : List X) (i : ℕ) (x : X) → i < length xs → x ≡ get_or xs i x → drop i xs ≡ x ∷ drop (i + 1) xs
+rest-at [] i x lt is = absurd (omega arith)
+rest-at (y ∷ ys) zero x lt is = ap (λ z. z ∷ ys) (sym is)
+rest-at (y ∷ ys) (suc i) x lt is =
+    let same : suc (i + 1) ≡ suc i + 1 = omega arith in
+    rest-at ys i x (omega arith) is ∙ ap (λ k. x ∷ drop k (y ∷ ys)) same
+
+pub rest-none : {X : Type 0} (xs : List X) (i : ℕ) → length xs ≤ i → drop i xs ≡ []
+rest-none [] zero le = refl
+rest-none [] (suc i) le = refl
+rest-none (y ∷ ys) zero le = absurd (omega arith)
+rest-none (y ∷ ys) (suc i) le = rest-none ys i (omega arith)
 
 -- One after another.
 
@@ -109,8 +131,8 @@ pub no-more : (w : World) (t : Grid) → one_after_another (map op_means []) w t
 unfolding one_after_another
 no-more w t = refl
 
-pub all-done : (left : List Op) (w : World) (t all : Grid) → length left ≡ 0 → one_after_another (map op_means left) w t ≡ all → t ≡ all
-all-done left w t all none rest = sym (ap (λ (os : List Op). one_after_another (map op_means os) w t) (nil_from_length left none) ∙ no-more w t) ∙ rest
+pub all-done : (left : List Op) (w : World) (t all : Grid) → left ≡ [] → one_after_another (map op_means left) w t ≡ all → t ≡ all
+all-done left w t all none rest = sym (ap (λ (os : List Op). one_after_another (map op_means os) w t) none ∙ no-more w t) ∙ rest
 
 pub one-more : (o : Op) (os : List Op) (w : World) (t : Grid) → one_after_another (map op_means (o ∷ os)) w t ≡ one_after_another (map op_means os) w (op_means o w t)
 unfolding one_after_another
@@ -122,26 +144,34 @@ first-built o os b = (and_parts (op_is_built o) (list_all op_is_built os) b).0
 pub others-built : (o : Op) (os : List Op) → list_all op_is_built (o ∷ os) ≡ true → list_all op_is_built os ≡ true
 others-built o os b = (and_parts (op_is_built o) (list_all op_is_built os) b).1
 
-pub columns-more : (o : Op) (os : List Op) (k : Known) (cs : List Column) → ops_columns (o ∷ os) k false cs ≡ fold (after k false) (op_columns o k false cs) os
-columns-more o os k cs = ops-fold (o ∷ os) k false cs ∙ ap (λ (b : Option (List Column)). fold (after k false) b os) (after-some k false cs o)
+columns-more : (o : Op) (os : List Op) (k : Known) (inside : Bool) (cs : List Column) → ops_columns (o ∷ os) k inside cs ≡ fold (after k inside) (op_columns o k inside cs) os
+columns-more o os k inside cs = ops-fold (o ∷ os) k inside cs ∙ ap (λ (b : Option (List Column)). fold (after k inside) b os) (after-some k inside cs o)
 
--- Where operators over a table fit, the first does, and the others over what it makes.
-parted : (o : Op) (os : List Op) (w : World) (t : Grid) (next : Option (List Column)) → op_is_built o ≡ true → op_columns o (known_in w) false t.columns ≡ next → is_some (fold (after (known_in w) false) next os) ≡ true → (is_some next ≡ true) × (is_some (ops_columns os (known_in w) false (op_means o w t).columns) ≡ true)
-parted o os w t None b e f =
-    let gone : is_some {T = List Column} None ≡ true = sym (ap is_some (stays-none (after (known_in w) false) (after-none (known_in w) false) os)) ∙ f in
+-- Where operators fit a table, the first does, and the others fit what it makes.
+parted : (o : Op) (os : List Op) (w : World) (t : Grid) (k : Known) (inside : Bool) → IsSo k w → IsTable t → (next : Option (List Column)) → op_columns o k inside t.columns ≡ next → is_some (fold (after k inside) next os) ≡ true → OpFits o w t × OpsFit os w (op_means o w t)
+unfolding OpFits OpsFit
+parted o os w t k inside s h None e f =
+    let gone : is_some {T = List Column} None ≡ true = sym (ap is_some (stays-none (after k inside) (after-none k inside) os)) ∙ f in
     absurd cc
-parted o os w t (Some cs) b e f =
-    let same = made-columns o (known_in w) w t cs b e in
-    (refl, ap (λ (ds : List Column). is_some (ops_columns os (known_in w) false ds)) same ∙ (ap is_some (ops-fold os (known_in w) false cs) ∙ f))
+parted o os w t k inside s h (Some cs) e f =
+    let keeps = each_op_keeps k w s.0 o inside t cs h e in
+    (
+      (k, inside, s, h, ap is_some e),
+      (k, inside, s, keeps.1, ap (λ (ds : List Column). is_some (ops_columns os k inside ds)) keeps.0 ∙ (ap is_some (ops-fold os k inside cs) ∙ f)),
+    )
 
-both-fit : (o : Op) (os : List Op) (w : World) (t : Grid) → op_is_built o ≡ true → ops_fit (o ∷ os) w t.columns ≡ true → (op_fits o w t.columns ≡ true) × (ops_fit os w (op_means o w t).columns ≡ true)
-unfolding op_fits ops_fit
-both-fit o os w t b f = parted o os w t (op_columns o (known_in w) false t.columns) b refl (sym (ap is_some (columns-more o os (known_in w) t.columns)) ∙ f)
+both-fit : (o : Op) (os : List Op) (w : World) (t : Grid) → OpsFit (o ∷ os) w t → OpFits o w t × OpsFit os w (op_means o w t)
+unfolding OpsFit
+both-fit o os w t f =
+    parted o os w t f.0 f.1 f.2 f.3 (op_columns o f.0 f.1 t.columns) refl (sym (ap is_some (columns-more o os f.0 f.1 t.columns)) ∙ f.4)
 
-pub first-fits : (o : Op) (os : List Op) (w : World) (t : Grid) → op_is_built o ≡ true → ops_fit (o ∷ os) w t.columns ≡ true → op_fits o w t.columns ≡ true
-first-fits o os w t b f = (both-fit o os w t b f).0
+pub first-fits : (o : Op) (os : List Op) (w : World) (t : Grid) → OpsFit (o ∷ os) w t → OpFits o w t
+first-fits o os w t f = (both-fit o os w t f).0
 
-pub others-fit : (o : Op) (os : List Op) (w : World) (t : Grid) → op_is_built o ≡ true → ops_fit (o ∷ os) w t.columns ≡ true → ops_fit os w (op_means o w t).columns ≡ true
-others-fit o os w t b f = (both-fit o os w t b f).1
+pub others-fit : (o : Op) (os : List Op) (w : World) (t : Grid) → OpsFit (o ∷ os) w t → OpsFit os w (op_means o w t)
+others-fit o os w t f = (both-fit o os w t f).1
 
-pub ruleset ops_steps = (no-more, one-more, first-built, others-built, first-fits, others-fit)
+pub more-done : (o : Op) (os left : List Op) (w : World) (t next all : Grid) → left ≡ o ∷ os → next ≡ op_means o w t → one_after_another (map op_means left) w t ≡ all → one_after_another (map op_means os) w next ≡ all
+more-done o os left w t next all is made rest =
+    ap (λ (u : Grid). one_after_another (map op_means os) w u) made
+    ∙ (sym (one-more o os w t) ∙ (ap (λ (ps : List Op). one_after_another (map op_means ps) w t) (sym is) ∙ rest))

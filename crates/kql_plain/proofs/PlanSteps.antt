@@ -1,69 +1,73 @@
--- A plan: its source, and then its operators.
-use Rattle.std.proofs.Common.{◌≡◌, true, false, List, [], ◌∷◌, map, refl, sym, ap, ◌∙◌}
-use Rattle.std.specs.Prelude.{None, Option, Some, fold, is_some}
+-- A plan: its source, and then its operators. Plans, one after another.
+use Rattle.std.proofs.Common.{◌≡◌, ℕ, true, false, List, [], ◌∷◌, ◌++◌, map, refl, sym, ap, ◌∙◌}
+use Rattle.std.specs.Prelude.{None, Option, Some, is_some, option_and_then, option_map}
 use Rattle.std.specs.List.{list_all}
+use Rattle.std.proofs.lemmas.Bool.{and_parts}
+use Rattle.std.proofs.lemmas.List.{append_assoc}
 use Rattle.kql_cells.specs.Table.{Grid}
 use Rattle.kql_cells.specs.declared.schema.Column.{Column}
-use Rattle.kql_bound.specs.declared.plan.Op.{Op}
 use Rattle.kql_bound.specs.declared.plan.Plan.{Plan}
-use Rattle.kql_meaning.specs.Fits.{of_columns, op_columns, ops_columns, plan_columns, source_columns}
+use Rattle.kql_meaning.specs.Fits.{Known, all_columns, of_columns, ops_columns, plan_columns, plans_columns, source_columns}
 use Rattle.kql_meaning.specs.Plans.{World, one_after_another, op_means, plan_means, source_table}
-use Rattle.kql_meaning.proofs.OperatorFitLaws.{after, after-none, ops-fold, plan-out, stays-none}
+use Rattle.kql_meaning.proofs.OperatorFitLaws.{plan-out}
 use Rattle.kql_meaning.proofs.PlanLaws.{ops_mean-map, plan_means-out}
-use Rattle.kql_plain.specs.AtHand.{known_in, ops_fit, plan_fits, source_fits}
+use Rattle.kql_fit_laws.proofs.OperatorLaws.{each_source_keeps}
+use Rattle.kql_plain.specs.AtHand.{IsSo, OpsFit, PlanFits, PlansFit, SourceFits, plans_mean}
 use Rattle.kql_plain.specs.Built.{op_is_built, plan_is_built}
-use Rattle.kql_plain.proofs.ColumnSteps.{made-columns}
-use Rattle.kql_plain.proofs.OperatorSteps.{columns-more, first-built, others-built}
-use Rattle.kql_plain.proofs.SourceSteps.{source-columns}
+use Rattle.kql_plain.proofs.BuiltSteps.{built-plan}
 
 pub plan-means : (p : Plan) (w : World) → plan_means p w ≡ one_after_another (map op_means p.ops) w (source_table p.source w)
 plan-means p w = plan_means-out p w ∙ sym (ops_mean-map p.ops w (source_table p.source w))
 
 pub ops-built : (p : Plan) → plan_is_built p ≡ true → list_all op_is_built p.ops ≡ true
-unfolding plan_is_built
-ops-built p b = b
+ops-built p b = sym (built-plan p) ∙ b
 
--- Where a plan fits, its source does, and its operators over the table of the source.
+-- Where a plan fits, its source does, and its operators fit the table of the source.
 
-parted : (p : Plan) (w : World) (o : Option (List Column)) → source_columns p.source (known_in w) ≡ o → is_some (of_columns o (λ cs. ops_columns p.ops (known_in w) false cs)) ≡ true → (is_some o ≡ true) × (is_some (ops_columns p.ops (known_in w) false (source_table p.source w).columns) ≡ true)
-unfolding of_columns
-parted p w None e f = absurd cc
-parted p w (Some cs) e f =
-    let same = source-columns p.source w cs e in
-    (refl, ap (λ (ds : List Column). is_some (ops_columns p.ops (known_in w) false ds)) same ∙ f)
+parted : (p : Plan) (w : World) (k : Known) → IsSo k w → (o : Option (List Column)) → source_columns p.source k ≡ o → is_some (of_columns o (λ cs. ops_columns p.ops k false cs)) ≡ true → SourceFits p.source w × OpsFit p.ops w (source_table p.source w)
+unfolding of_columns SourceFits OpsFit
+parted p w k s None e f = absurd cc
+parted p w k s (Some cs) e f =
+    let keeps = each_source_keeps k w s.0 p.source cs e in
+    ((k, s, ap is_some e), (k, false, s, keeps.1, ap (λ (ds : List Column). is_some (ops_columns p.ops k false ds)) keeps.0 ∙ f))
 
-both-fit : (p : Plan) (w : World) → plan_fits p w ≡ true → (source_fits p.source w ≡ true) × (ops_fit p.ops w (source_table p.source w).columns ≡ true)
-unfolding plan_fits source_fits ops_fit
-both-fit p w f = parted p w (source_columns p.source (known_in w)) refl (sym (ap is_some (plan-out p (known_in w))) ∙ f)
+both-fit : (p : Plan) (w : World) → PlanFits p w → SourceFits p.source w × OpsFit p.ops w (source_table p.source w)
+unfolding PlanFits
+both-fit p w f = parted p w f.0 f.1 (source_columns p.source f.0) refl (sym (ap is_some (plan-out p f.0)) ∙ f.2)
 
-pub source-fits : (p : Plan) (w : World) → plan_fits p w ≡ true → source_fits p.source w ≡ true
+pub source-fits : (p : Plan) (w : World) → PlanFits p w → SourceFits p.source w
 source-fits p w f = (both-fit p w f).0
 
-pub ops-fit : (p : Plan) (w : World) → plan_fits p w ≡ true → ops_fit p.ops w (source_table p.source w).columns ≡ true
+pub ops-fit : (p : Plan) (w : World) → PlanFits p w → OpsFit p.ops w (source_table p.source w)
 ops-fit p w f = (both-fit p w f).1
 
 pub ruleset plan_steps = (plan-means, ops-built, source-fits, ops-fit)
 
--- The columns of operators, one after another, and of a plan.
+-- Plans.
 
-ops-next : (o : Op) (os : List Op) (w : World) (t : Grid) (cs : List Column) → op_is_built o ≡ true → ((u : Grid) → ops_columns os (known_in w) false u.columns ≡ Some cs → (one_after_another (map op_means os) w u).columns ≡ cs) → (next : Option (List Column)) → op_columns o (known_in w) false t.columns ≡ next → fold (after (known_in w) false) next os ≡ Some cs → (one_after_another (map op_means os) w (op_means o w t)).columns ≡ cs
-ops-next o os w t cs b rest None e f = let gone : None ≡ Some cs = sym (stays-none (after (known_in w) false) (after-none (known_in w) false) os) ∙ f in cc
-ops-next o os w t cs b rest (Some ds) e f =
-    rest (op_means o w t) (ap (λ (es : List Column). ops_columns os (known_in w) false es) (made-columns o (known_in w) w t ds b e) ∙ (ops-fold os (known_in w) false ds ∙ f))
+pub first-plan : (p : Plan) (ps : List Plan) → list_all plan_is_built (p ∷ ps) ≡ true → plan_is_built p ≡ true
+first-plan p ps b = (and_parts (plan_is_built p) (list_all plan_is_built ps) b).0
 
-ops-columns : (ops : List Op) (w : World) (t : Grid) (cs : List Column) → list_all op_is_built ops ≡ true → ops_columns ops (known_in w) false t.columns ≡ Some cs → (one_after_another (map op_means ops) w t).columns ≡ cs
-unfolding one_after_another
-ops-columns [] w t cs b e = let same : Some t.columns ≡ Some cs = sym (ops-fold [] (known_in w) false t.columns) ∙ e in cc
-ops-columns (o ∷ os) w t cs b e =
-    ops-next o os w t cs (first-built o os b) (λ u f. ops-columns os w u cs (others-built o os b) f) (op_columns o (known_in w) false t.columns) refl (sym (columns-more o os (known_in w) t.columns) ∙ e)
+pub other-plans : (p : Plan) (ps : List Plan) → list_all plan_is_built (p ∷ ps) ≡ true → list_all plan_is_built ps ≡ true
+other-plans p ps b = (and_parts (plan_is_built p) (list_all plan_is_built ps) b).1
 
-from-source : (p : Plan) (w : World) (cs : List Column) → plan_is_built p ≡ true → (o : Option (List Column)) → source_columns p.source (known_in w) ≡ o → of_columns o (λ ds. ops_columns p.ops (known_in w) false ds) ≡ Some cs → (one_after_another (map op_means p.ops) w (source_table p.source w)).columns ≡ cs
-unfolding of_columns
-from-source p w cs b None e f = cc
-from-source p w cs b (Some ds) e f =
-    ops-columns p.ops w (source_table p.source w) cs (ops-built p b) (ap (λ (es : List Column). ops_columns p.ops (known_in w) false es) (source-columns p.source w ds e) ∙ f)
+plans-parted : (p : Plan) (ps : List Plan) (w : World) (k : Known) → IsSo k w → (o : Option (List Column)) → plan_columns p k ≡ o → (r : Option (List (List Column))) → all_columns (map plan_columns ps) k ≡ r → is_some (option_and_then (λ one. option_map (λ more. one ∷ more) r) o) ≡ true → PlanFits p w × PlansFit ps w
+unfolding PlanFits PlansFit plans_columns
+plans-parted p ps w k s None e r f g = absurd cc
+plans-parted p ps w k s (Some c) e None f g = absurd cc
+plans-parted p ps w k s (Some c) e (Some ms) f g = ((k, s, ap is_some e), (k, s, ap is_some f))
 
--- What a built plan gives has the columns that it has there.
-pub plan-columns : (p : Plan) (w : World) (cs : List Column) → plan_is_built p ≡ true → plan_columns p (known_in w) ≡ Some cs → (plan_means p w).columns ≡ cs
-plan-columns p w cs b e =
-    ap (λ (g : Grid). g.columns) (plan-means p w) ∙ from-source p w cs b (source_columns p.source (known_in w)) refl (sym (plan-out p (known_in w)) ∙ e)
+both-plans : (p : Plan) (ps : List Plan) (w : World) → PlansFit (p ∷ ps) w → PlanFits p w × PlansFit ps w
+unfolding PlansFit plans_columns all_columns
+both-plans p ps w f = plans-parted p ps w f.0 f.1 (plan_columns p f.0) refl (all_columns (map plan_columns ps) f.0) refl f.2
+
+pub first-fits : (p : Plan) (ps : List Plan) (w : World) → PlansFit (p ∷ ps) w → PlanFits p w
+first-fits p ps w f = (both-plans p ps w f).0
+
+pub others-fit : (p : Plan) (ps : List Plan) (w : World) → PlansFit (p ∷ ps) w → PlansFit ps w
+others-fit p ps w f = (both-plans p ps w f).1
+
+pub more-tables : (p : Plan) (ps left : List Plan) (w : World) (made next all : List Grid) (t : Grid) → left ≡ p ∷ ps → t ≡ plan_means p w → next ≡ made ++ t ∷ [] → made ++ plans_mean left w ≡ all → next ++ plans_mean ps w ≡ all
+more-tables p ps left w made next all t is table pushed rest =
+    ap (λ (ts : List Grid). ts ++ plans_mean ps w) (pushed ∙ ap (λ (u : Grid). made ++ u ∷ []) table)
+    ∙ (append_assoc made (plan_means p w ∷ []) (plans_mean ps w) ∙ (ap (λ (qs : List Plan). made ++ plans_mean qs w) (sym is) ∙ rest))

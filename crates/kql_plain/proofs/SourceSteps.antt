@@ -1,4 +1,4 @@
--- Sources: what fits them is at hand, and its columns are those that they have.
+-- Sources: what they name is at hand where they fit, and what they mean.
 use Rattle.std.proofs.Common.{◌≡◌, ◌<◌, ℕ, zero, suc, true, List, [], ◌∷◌, length, get_or, refl, sym, ap, ◌∙◌, subst, inl, inr, arith}
 use Rattle.std.specs.Prelude.{None, Option, Some, bytes_eq, find, is_some, option_map, slice_get, slice_index_or}
 use Rattle.std.proofs.lemmas.Bool.{cases_Bool}
@@ -19,9 +19,9 @@ use Rattle.kql_meaning.specs.Plans.{World, source_table}
 use Rattle.kql_meaning.specs.Project.{project_table}
 use Rattle.kql_meaning.specs.Sources.{let_table, named_table, print_table, range_columns, range_table, table_of}
 use Rattle.kql_meaning.specs.Tables.{nothing}
-use Rattle.kql_fit_laws.proofs.RowFacts.{answer-some}
-use Rattle.kql_plain.specs.AtHand.{columns_of, known_in, source_fits}
-use Rattle.kql_plain.proofs.ColumnSteps.{answer-there}
+use Rattle.kql_fit_laws.specs.LawsOfPrograms.{LetsStand}
+use Rattle.kql_plain.specs.AtHand.{SourceFits}
+use Rattle.kql_plain.proofs.FitSteps.{answer-there}
 
 -- The table of a name, and its schema.
 
@@ -39,34 +39,31 @@ pub schema-columns : (tables : List Named) (name : List ℕ) → table_columns (
 unfolding table_columns
 schema-columns tables name = ap (λ (o : Option NamedSchema). option_map (λ (s : NamedSchema). s.schema) o) (schema-found tables name)
 
-is-there : (o : Option Named) → is_some (option_map (λ (s : NamedSchema). s.schema) (option_map schema_of o)) ≡ true → is_some o ≡ true
+pub is-there : (o : Option Named) → is_some (option_map (λ (s : NamedSchema). s.schema) (option_map schema_of o)) ≡ true → is_some o ≡ true
 is-there None e = e
 is-there (Some n) e = refl
 
-pub table-there : (name : List ℕ) (w : World) → source_fits (source.Table name) w ≡ true → is_some (table_found w.tables name) ≡ true
-unfolding source_fits source_columns
-table-there name w f = is-there (table_found w.tables name) (sym (ap is_some (schema-columns w.tables name)) ∙ f)
+pub table-there : (name : List ℕ) (w : World) → SourceFits (source.Table name) w → is_some (table_found w.tables name) ≡ true
+unfolding SourceFits source_columns
+table-there name w f = f.1.1 name f.2
 
 -- The same of a table that is looked for by a name and among tables that are these.
-pub named-there : (s : Source) (name told : List ℕ) (w : World) (seen : List Named) → s ≡ source.Table name → source_fits s w ≡ true → told ≡ name → seen ≡ w.tables → is_some (table_found seen told) ≡ true
+pub named-there : (s : Source) (name told : List ℕ) (w : World) (seen : List Named) → s ≡ source.Table name → SourceFits s w → told ≡ name → seen ≡ w.tables → is_some (table_found seen told) ≡ true
 named-there s name told w seen is fits same all =
     ap (λ (n : List ℕ). is_some (table_found seen n)) same
-    ∙ (ap (λ (ns : List Named). is_some (table_found ns name)) all ∙ table-there name w (subst (λ (x : Source). source_fits x w ≡ true) is fits))
+    ∙ (ap (λ (ns : List Named). is_some (table_found ns name)) all ∙ table-there name w (subst (λ (x : Source). SourceFits x w) is fits))
 
 -- The table of a let.
 
-let-at : (lets : List Grid) (i : ℕ) (cs : List Column) → slice_get (columns_of lets) i ≡ Some cs → (i < length lets) × ((slice_index_or lets i nothing).columns ≡ cs)
-let-at [] i cs e = cc
-let-at (t ∷ ts) zero cs e = (omega arith, cc)
-let-at (t ∷ ts) (suc i) cs e = let q = let-at ts i cs e in (omega (arith, q.0), q.1)
+let-at : (columns : List (List Column)) (lets : List Grid) (i : ℕ) → LetsStand columns lets → is_some (slice_get columns i) ≡ true → i < length lets
+let-at [] lets i h f = absurd cc
+let-at (cs ∷ more) [] i h f = absurd h
+let-at (cs ∷ more) (t ∷ ts) zero h f = omega arith
+let-at (cs ∷ more) (t ∷ ts) (suc i) h f = let q = let-at more ts i h.1 f in omega (arith, q)
 
-let-some : (lets : List Grid) (i : ℕ) (o : Option (List Column)) → slice_get (columns_of lets) i ≡ o → is_some o ≡ true → i < length lets
-let-some lets i None e f = absurd cc
-let-some lets i (Some cs) e f = (let-at lets i cs e).0
-
-pub let-there : (i : ℕ) (w : World) → source_fits (source.Let i) w ≡ true → i < length w.lets
-unfolding source_fits source_columns
-let-there i w f = let-some w.lets i (slice_get (columns_of w.lets) i) refl f
+pub let-there : (i : ℕ) (w : World) → SourceFits (source.Let i) w → i < length w.lets
+unfolding SourceFits source_columns
+let-there i w f = let-at f.0.lets w.lets i f.1.0.1 f.2
 
 -- What each means.
 
@@ -83,9 +80,9 @@ pub means-Let : (i : ℕ) (w : World) (t : Grid) → i < length w.lets → t ≡
 unfolding source_table let_table
 means-Let i w t lt e = e ∙ other-default w.lets i t nothing lt
 
-pub means-let : (s : Source) (i : ℕ) (w : World) (t : Grid) → s ≡ source.Let i → source_fits s w ≡ true → t ≡ get_or w.lets i t → t ≡ source_table s w
+pub means-let : (s : Source) (i : ℕ) (w : World) (t : Grid) → s ≡ source.Let i → SourceFits s w → t ≡ get_or w.lets i t → t ≡ source_table s w
 means-let s i w t is fits e =
-    let lt = let-there i w (subst (λ (x : Source). source_fits x w ≡ true) is fits) in
+    let lt = let-there i w (subst (λ (x : Source). SourceFits x w) is fits) in
     means-Let i w t lt e ∙ ap (λ (x : Source). source_table x w) (sym is)
 
 pub means-Range : (column : List ℕ) (from to step : Lit) (w : World) → source_table (source.Range column from to step) w ≡ range_table column from to step
@@ -98,30 +95,16 @@ means-Print items w = refl
 
 -- What `range` and `print` ask.
 
-pub fits-Range : (column : List ℕ) (from to step : Lit) (w : World) → source_fits (source.Range column from to step) w ≡ true → range_fits from to step ≡ true
-unfolding source_fits source_columns
-fits-Range column from to step w f = (answer-there (range_fits from to step) (range_columns column from) f).0
+pub fits-Range : (column : List ℕ) (from to step : Lit) (w : World) → SourceFits (source.Range column from to step) w → range_fits from to step ≡ true
+unfolding SourceFits source_columns
+fits-Range column from to step w f = (answer-there (range_fits from to step) (range_columns column from) f.2).0
 
-pub fits-Print : (items : List BItem) (w : World) → source_fits (source.Print items) w ≡ true → items_fit items [] position.Plain ≡ true
-unfolding source_fits source_columns
-fits-Print items w f = (answer-there (items_fit items [] position.Plain) (items_columns items []) f).0
+pub fits-Print : (items : List BItem) (w : World) → SourceFits (source.Print items) w → items_fit items [] position.Plain ≡ true
+unfolding SourceFits source_columns
+fits-Print items w f = (answer-there (items_fit items [] position.Plain) (items_columns items []) f.2).0
 
-pub names-Print : (items : List BItem) (w : World) → source_fits (source.Print items) w ≡ true → HasDistinctNames column_name (items_columns items [])
-unfolding source_fits source_columns
-names-Print items w f = (answer-there (items_fit items [] position.Plain) (items_columns items []) f).1
+pub names-Print : (items : List BItem) (w : World) → SourceFits (source.Print items) w → HasDistinctNames column_name (items_columns items [])
+unfolding SourceFits source_columns
+names-Print items w f = (answer-there (items_fit items [] position.Plain) (items_columns items []) f.2).1
 
 pub ruleset source_steps = (table-there, let-there, means-Table, means-Let, means-Range, means-Print, fits-Range, fits-Print, names-Print)
-
--- The columns of a source.
-
-of-named : (o : Option Named) (cs : List Column) → option_map (λ (s : NamedSchema). s.schema) (option_map schema_of o) ≡ Some cs → (table_of o).columns ≡ cs
-unfolding table_of
-of-named None cs e = cc
-of-named (Some n) cs e = cc
-
-pub source-columns : (s : Source) (w : World) (cs : List Column) → source_columns s (known_in w) ≡ Some cs → (source_table s w).columns ≡ cs
-unfolding source_columns source_table named_table let_table range_table print_table project_table
-source-columns (source.Table name) w cs e = of-named (table_found w.tables name) cs (sym (schema-columns w.tables name) ∙ e)
-source-columns (source.Let i) w cs e = (let-at w.lets i cs e).1
-source-columns (source.Range column from to step) w cs e = (answer-some (range_fits from to step) (range_columns column from) cs e).1
-source-columns (source.Print items) w cs e = (answer-some (items_fit items [] position.Plain) (items_columns items []) cs e).1

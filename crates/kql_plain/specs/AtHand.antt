@@ -1,40 +1,52 @@
--- The tables at hand while a program is evaluated, and whether its parts fit their columns.
-use Rattle.std.specs.Prelude.{Bool, false, List, is_some, map}
-use Rattle.kql_cells.specs.Catalogues.{Named, schemas_of}
+-- The tables at hand while a program is evaluated, and that its parts fit them.
+use Rattle.std.specs.Prelude.{ℕ, Bool, IsTrue, List, Some, bytes_eq, find, fold, is_some, map}
+use Rattle.kql_cells.specs.Catalogues.{Named, table_name}
 use Rattle.kql_cells.specs.Table.{Grid}
 use Rattle.kql_cells.specs.declared.schema.Column.{Column}
+use Rattle.kql_cells.specs.declared.schemas.NamedSchema.{NamedSchema}
 use Rattle.kql_bound.specs.declared.plan.Op.{Op}
 use Rattle.kql_bound.specs.declared.plan.Plan.{Plan}
 use Rattle.kql_bound.specs.declared.plan.Source.{Source}
-use Rattle.kql_meaning.specs.Fits.{Known, known_of, lets_columns, op_columns, ops_columns, plan_columns, source_columns}
-use Rattle.kql_meaning.specs.Plans.{World}
+use Rattle.kql_meaning.specs.Fits.{Known, known_of, let_after, op_columns, ops_columns, plan_columns, plans_columns, source_columns, table_columns}
+use Rattle.kql_meaning.specs.Plans.{World, plan_means}
+use Rattle.kql_fit_laws.specs.LawsOfPrograms.{Stands}
+use Rattle.kql_fit_laws.specs.LawsOfRows.{IsTable}
 
 -- The tables of a catalogue, and those of the lets so far.
 abbrev pub world_of : List Named → List Grid → World
 world_of tables lets = record { tables = tables; lets = lets }
 
--- The columns of tables.
-abbrev pub columns_of : List Grid → List (List Column)
-columns_of tables = map (λ (t : Grid). t.columns) tables
+-- The tables of plans.
+abbrev pub plans_mean : List Plan → World → List Grid
+plans_mean plans w = map (λ (p : Plan). plan_means p w) plans
 
--- What is known of the tables at hand: their columns.
-abbrev pub known_in : World → Known
-known_in w = known_of (schemas_of w.tables) (columns_of w.lets)
+-- What is known of the tables is so: those that are known by a name, and those of the lets, stand with these columns.
 
--- Whether a source, operators over a table of these columns, and a plan fit the tables at hand.
+abbrev pub AreAtHand : List NamedSchema → List Named → Type 0
+AreAtHand schemas tables = (name : List ℕ) → IsTrue (is_some (table_columns schemas name)) → IsTrue (is_some (find (λ n. bytes_eq (table_name n) name) tables))
 
-unfoldable pub source_fits : Source → World → Bool
-source_fits s w = is_some (source_columns s (known_in w))
+abbrev pub IsSo : Known → World → Type 0
+IsSo k w = Stands k w × AreAtHand k.tables w.tables
 
-unfoldable pub op_fits : Op → World → List Column → Bool
-op_fits o w columns = is_some (op_columns o (known_in w) false columns)
+-- A source, a plan or plans fit the tables at hand where they have columns over something that is known of these, and is so.
 
-unfoldable pub ops_fit : List Op → World → List Column → Bool
-ops_fit ops w columns = is_some (ops_columns ops (known_in w) false columns)
+unfoldable pub SourceFits : Source → World → Type 0
+SourceFits s w = (k : Known) × IsSo k w × IsTrue (is_some (source_columns s k))
 
-unfoldable pub plan_fits : Plan → World → Bool
-plan_fits p w = is_some (plan_columns p (known_in w))
+unfoldable pub PlanFits : Plan → World → Type 0
+PlanFits p w = (k : Known) × IsSo k w × IsTrue (is_some (plan_columns p k))
 
--- Whether lets fit the tables of a catalogue, each with the tables of those before it.
-unfoldable pub lets_fit : List Plan → List Named → Bool
-lets_fit lets tables = is_some (lets_columns lets (schemas_of tables))
+unfoldable pub PlansFit : List Plan → World → Type 0
+PlansFit ps w = (k : Known) × IsSo k w × IsTrue (is_some (plans_columns ps k))
+
+-- An operator, or operators one after another, fit a table of them. The Bool tells whether they stand in a subquery of `partition`.
+
+unfoldable pub OpFits : Op → World → Grid → Type 0
+OpFits o w t = (k : Known) × (inside : Bool) × IsSo k w × IsTable t × IsTrue (is_some (op_columns o k inside t.columns))
+
+unfoldable pub OpsFit : List Op → World → Grid → Type 0
+OpsFit ops w t = (k : Known) × (inside : Bool) × IsSo k w × IsTable t × IsTrue (is_some (ops_columns ops k inside t.columns))
+
+-- Lets fit the tables of a catalogue where these tables of lets stand before them.
+unfoldable pub LetsFit : List Plan → List Named → List Grid → Type 0
+LetsFit lets tables made = (schemas : List NamedSchema) × (columns : List (List Column)) × IsSo (known_of schemas columns) (world_of tables made) × IsTrue (is_some (fold (let_after schemas) (Some columns) lets))

@@ -1,3 +1,4 @@
 pub mod AtHand
 pub mod Built
 pub mod Inputs
+pub mod Keys

@@ -13,39 +13,39 @@ pub(crate) fn is_built(p: &Program) -> bool
     plans_are_built(p.lets.as_slice()) && plan_is_built(&p.main)
 }
 
+#[cycle(plan_is_built)]
 fn plans_are_built(plans: &[Plan]) -> bool
     ensures built { result ≡ list_all plan_is_built plans.now }
 {
-    let mut left = plans;
-    'plans: while let Some((plan, more)) = left.split_first() {
+    for plan in plans {
         if !plan_is_built(plan) {
             return false;
         }
-        left = more;
     }
     true
 }
 
-#[tactic(auto, unfolding(crate::specs::Built::plan_is_built))]
+#[cycle(plan_is_built)]
+#[tactic(auto, using(crate::proofs::BuiltSteps::built_steps))]
 fn plan_is_built(plan: &Plan) -> bool
     ensures built { result ≡ plan_is_built plan.now }
 {
     ops_are_built(plan.ops.as_slice())
 }
 
+#[cycle(plan_is_built)]
 fn ops_are_built(ops: &[Op]) -> bool
     ensures built { result ≡ list_all op_is_built ops.now }
 {
-    let mut left = ops;
-    'ops: while let Some((op, more)) = left.split_first() {
+    for op in ops {
         if !op_is_built(op) {
             return false;
         }
-        left = more;
     }
     true
 }
 
+#[cycle(plan_is_built)]
 #[tactic(auto, using(crate::proofs::BuiltSteps::built_steps))]
 fn op_is_built(op: &Op) -> bool
     ensures built { result ≡ op_is_built op.now }
@@ -59,13 +59,13 @@ fn op_is_built(op: &Op) -> bool
         Op::Serialize => true,
         Op::Sort(_) => true,
         Op::Top(_, _) => true,
-        Op::Summarize(_) => false,
+        Op::Summarize(_) => true,
         Op::MakeSeries(_) => false,
-        Op::MvExpand(_) => false,
-        Op::Parse(_) => false,
-        Op::Join(_, _) => false,
-        Op::Union(_, _) => false,
-        Op::Scan(_) => false,
-        Op::Partition(_, _) => false,
+        Op::MvExpand(_) => true,
+        Op::Parse(_) => true,
+        Op::Join(_, right) => plan_is_built(right),
+        Op::Union(_, others) => plans_are_built(others.as_slice()),
+        Op::Scan(_) => true,
+        Op::Partition(_, ops) => ops_are_built(ops.as_slice()),
     }
 }

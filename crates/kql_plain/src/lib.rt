@@ -7,7 +7,8 @@
 mod building;
 mod fault;
 mod input;
-mod operators;
+mod keys;
+mod lets;
 mod plans;
 mod programs;
 mod sources;

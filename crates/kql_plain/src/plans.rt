@@ -1,18 +1,33 @@
-//! Plans, and the tables of lets.
-ghost use Rattle.std.specs.Prelude.{◌≡◌, IfOk, IsTrue};
+//! Plans: a source, and operators one after another, each a call of the crate that has its body.
+ghost use Rattle.std.specs.Prelude.{◌≡◌, map, IfOk, IsTrue};
 ghost use Rattle.std.specs.List.{list_all};
-ghost use Rattle.kql_meaning.specs.Plans.{lets_mean, plan_means};
-ghost use Rattle.kql_plain.specs.AtHand.{lets_fit, plan_fits, world_of};
-ghost use Rattle.kql_plain.specs.Built.{plan_is_built};
+ghost use Rattle.kql_cells.specs.Named.{HasDistinctNames, column_name};
+ghost use Rattle.kql_meaning.specs.FittingOperators.{items_fit};
+ghost use Rattle.kql_meaning.specs.Items.{items_columns};
+ghost use Rattle.kql_meaning.specs.Plans.{one_after_another, op_means, plan_means};
+ghost use Rattle.kql_meaning.specs.Project.{project_table};
+ghost use Rattle.kql_meaning.specs.declared.position.Position.TheVariants as position;
+ghost use Rattle.kql_plain.specs.AtHand.{OpFits, OpsFit, PlanFits, PlansFit, plans_mean, world_of};
+ghost use Rattle.kql_plain.specs.Built.{op_is_built, plan_is_built};
+ghost use Rattle.kql_plain.specs.Inputs.{input_table};
 
-use crate::operators::ops_table;
+use crate::input::Input;
+use crate::keys::{emptied, rows_by_key};
 use crate::sources::source_table;
-use kql_bound::Plan;
+use join_op::join_tables;
+use kql_bound::{BItem, Op, Plan};
 use kql_items::Items;
 use kql_values::{Catalogue, Table, Tables};
+use order_ops::{sort_rows, top_rows};
+use parse_op::parse_rows;
+use row_ops::{computed_rows, count_rows, extend_rows, project_rows, where_rows};
+use scan_ops::scan_rows;
 use std::alloc::{AllocError, Global};
+use summarize_op::summarize_rows;
+use table_ops::{expand_rows, union_tables};
 
 /// The table of a plan: its source, and then its operators.
+#[cycle(plan_table)]
 #[tactic(auto, using(crate::proofs::PlanSteps::plan_steps))]
 pub(crate) fn plan_table(
     alloc: Global,
@@ -21,7 +36,7 @@ pub(crate) fn plan_table(
     lets: &[Table],
 ) -> Result<Table, AllocError>
     requires built { IsTrue (plan_is_built plan.now) }
-    requires fits { IsTrue (plan_fits plan.now (world_of catalogue.now lets.now)) }
+    requires fits { PlanFits plan.now (world_of catalogue.now lets.now) }
     ensures table { IfOk result (λ t. t ≡ plan_means plan.now (world_of catalogue.now lets.now)) }
 {
     match source_table(alloc, &plan.source, catalogue, lets) {
@@ -30,23 +45,114 @@ pub(crate) fn plan_table(
     }
 }
 
-/// The tables of lets, in order: each stands as a table for those after it.
-#[tactic(auto, using(crate::proofs::LetSteps::let_steps))]
-pub(crate) fn let_tables(
+// The tables of plans, in order.
+#[cycle(plan_table)]
+fn plans_tables(
     alloc: Global,
-    lets: &[Plan],
+    plans: &[Plan],
     catalogue: &Catalogue,
+    lets: &[Table],
 ) -> Result<Tables, AllocError>
-    requires built { IsTrue (list_all plan_is_built lets.now) }
-    requires fits { IsTrue (lets_fit lets.now catalogue.now) }
-    ensures tables { IfOk result (λ ts. ts ≡ lets_mean lets.now catalogue.now) }
+    requires built { IsTrue (list_all plan_is_built plans.now) }
+    requires fits { PlansFit plans.now (world_of catalogue.now lets.now) }
+    ensures tables { IfOk result (λ ts. ts ≡ plans_mean plans.now (world_of catalogue.now lets.now)) }
 {
-    let mut made = Items::new(alloc);
-    let mut left = lets;
-    'lets: while let Some((plan, more)) = left.split_first() {
-        let table = plan_table(alloc, plan, catalogue, made.as_slice())?;
+    let mut made = Items::with_capacity(alloc, plans.len())?;
+    for plan in plans {
+        let table = plan_table(alloc, plan, catalogue, lets)?;
         made.push(table)?;
-        left = more;
     }
     Ok(made)
+}
+
+// What operators make of a table, one after another.
+#[cycle(plan_table)]
+fn ops_table(
+    alloc: Global,
+    ops: &[Op],
+    catalogue: &Catalogue,
+    lets: &[Table],
+    from: Input<'_>,
+) -> Result<Table, AllocError>
+    requires built { IsTrue (list_all op_is_built ops.now) }
+    requires fits { OpsFit ops.now (world_of catalogue.now lets.now) (input_table from) }
+    ensures table { IfOk result (λ t. t ≡ one_after_another (map op_means ops.now) (world_of catalogue.now lets.now) (input_table from.entry)) }
+{
+    let mut made = from;
+    for op in ops {
+        let next = op_table(alloc, op, catalogue, lets, made)?;
+        made = Input::Owned(next);
+    }
+    made.into_table(alloc)
+}
+
+// What one operator makes of a table.
+#[cycle(plan_table)]
+#[tactic(auto, using(crate::proofs::OperatorSteps::op_steps))]
+fn op_table(
+    alloc: Global,
+    op: &Op,
+    catalogue: &Catalogue,
+    lets: &[Table],
+    from: Input<'_>,
+) -> Result<Table, AllocError>
+    requires built { IsTrue (op_is_built op.now) }
+    requires fits { OpFits op.now (world_of catalogue.now lets.now) (input_table from) }
+    ensures table { IfOk result (λ t. t ≡ op_means op.now (world_of catalogue.now lets.now) (input_table from.entry)) }
+{
+    match op {
+        Op::Where(e) => where_rows(alloc, from.as_table(), e),
+        Op::Extend(items) => {
+            let table = from.into_table(alloc)?;
+            extend_rows(alloc, table, items.as_slice())
+        }
+        Op::Project(items) => projected(alloc, items.as_slice(), from),
+        Op::Take(n) => from.into_first(alloc, *n),
+        Op::Count => count_rows(alloc, from.as_table()),
+        Op::Serialize => from.into_table(alloc),
+        Op::Sort(keys) => sort_rows(alloc, from.as_table(), keys.as_slice()),
+        Op::Top(n, keys) => top_rows(alloc, from.as_table(), *n, keys.as_slice()),
+        Op::Summarize(group) => summarize_rows(alloc, from.as_table(), group),
+        Op::MakeSeries(_) => unreachable!(),
+        Op::MvExpand(expand) => expand_rows(alloc, from.as_table(), expand),
+        Op::Parse(parse) => {
+            let table = from.into_table(alloc)?;
+            parse_rows(alloc, table, parse)
+        }
+        Op::Join(join, right) => {
+            let right = plan_table(alloc, right, catalogue, lets)?;
+            join_tables(alloc, from.as_table(), &right, join)
+        }
+        Op::Union(inner, others) => {
+            let others = plans_tables(alloc, others.as_slice(), catalogue, lets)?;
+            union_tables(alloc, *inner, from.as_table(), others.as_slice())
+        }
+        Op::Scan(scan) => scan_rows(alloc, from.as_table(), scan),
+        Op::Partition(key, ops) => {
+            let table = from.as_table();
+            let none = emptied(alloc, table)?;
+            let mut made = ops_table(alloc, ops.as_slice(), catalogue, lets, Input::Owned(none))?;
+            made.truncate(0);
+            let keyed = rows_by_key(alloc, table, key.as_str())?;
+            let lists = &keyed;
+            for number in 0..lists.len() {
+                let rows = table.gather(alloc, lists.get(number))?;
+                let part = ops_table(alloc, ops.as_slice(), catalogue, lets, Input::Owned(rows))?;
+                made.append(part)?;
+            }
+            Ok(made)
+        }
+    }
+}
+
+// `project`: of a table that is lent no more than the items is copied, and columns of one that is owned are moved.
+fn projected(alloc: Global, items: &[BItem], from: Input<'_>) -> Result<Table, AllocError>
+    requires fits { IsTrue (items_fit items.now (input_table from).columns position.Window) }
+    requires names { HasDistinctNames column_name (items_columns items.now (input_table from).columns) }
+    ensures table { IfOk result (λ t. t ≡ project_table items.now (input_table from.entry)) }
+{
+    match from {
+        Input::Lent(t) => computed_rows(alloc, t, items),
+        Input::Owned(t) => project_rows(alloc, t, items),
+    }
 }

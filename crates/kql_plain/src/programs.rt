@@ -1,6 +1,8 @@
 //! Whole programs.
-ghost use Rattle.std.specs.Prelude.{◌≡◌, ◌↔◌, false, IfOk, IsErrOf, IsTrue, OnOk};
-ghost use Rattle.kql_cells.specs.Catalogues.{schemas_of};
+ghost use Rattle.std.specs.Prelude.{◌≡◌, ◌↔◌, false, All, IfOk, IsErrOf, IsTrue, OnOk};
+ghost use Rattle.kql_cells.specs.Catalogues.{Named as Seen, schemas_of};
+ghost use Rattle.kql_values.specs.Kept.{all_named};
+ghost use Rattle.kql_fit_laws.specs.LawsOfRows.{IsTable};
 ghost use Rattle.kql_meaning.specs.Fits.{fits};
 ghost use Rattle.kql_meaning.specs.Plans.{means};
 ghost use Rattle.kql_plain.specs.Built.{is_built};
@@ -8,9 +10,10 @@ ghost use Rattle.kql_plain.specs.declared.fault.PlainFault.TheVariants.{NotBuilt
 
 use crate::building::is_built;
 use crate::fault::PlainFault;
-use crate::plans::{let_tables, plan_table};
+use crate::lets::let_tables;
+use crate::plans::plan_table;
 use kql_bound::Program;
-use kql_values::{Catalogue, Table};
+use kql_values::{Catalogue, Named, Table};
 use std::alloc::{AllocError, Global};
 
 /// The table of a program that fits the schemas of a catalogue: its lets one after another, and then its plan.
@@ -35,6 +38,18 @@ fn program_table(alloc: Global, p: &Program, catalogue: &Catalogue) -> Result<Ta
     requires fits { IsTrue (fits p.now (schemas_of catalogue.now)) }
     ensures table { IfOk result (λ t. t ≡ means p.now catalogue.now) }
 {
+    know_tables(catalogue.tables());
     let lets = let_tables(alloc, p.lets.as_slice(), catalogue)?;
     plan_table(alloc, &p.main, catalogue, lets.as_slice())
+}
+
+// Each table's rows fit its columns, and no two of these have one name: so tables are made.
+fn know_tables(tables: &[Named])
+    ensures tables { All (λ (n : Seen). IsTable n.table) (all_named tables.now) }
+{
+    let mut left = tables;
+    'tables: while let Some((named, more)) = left.split_first() {
+        named.table.schema().columns();
+        left = more;
+    }
 }

@@ -4,7 +4,7 @@ ghost use Rattle.kql_cells.specs.Catalogues.{table_name};
 ghost use Rattle.kql_values.specs.Kept.{all_named};
 ghost use Rattle.kql_meaning.specs.Plans.{source_table};
 ghost use Rattle.kql_meaning.specs.Sources.{named_table};
-ghost use Rattle.kql_plain.specs.AtHand.{source_fits, world_of};
+ghost use Rattle.kql_plain.specs.AtHand.{SourceFits, world_of};
 ghost use Rattle.kql_plain.specs.Inputs.{input_table};
 
 use crate::input::Input;
@@ -21,7 +21,7 @@ pub(crate) fn source_table<'a>(
     catalogue: &'a Catalogue,
     lets: &'a [Table],
 ) -> Result<Input<'a>, AllocError>
-    requires fits { IsTrue (source_fits source.now (world_of catalogue.now lets.now)) }
+    requires fits { SourceFits source.now (world_of catalogue.now lets.now) }
     ensures table { IfOk result (λ t. input_table t ≡ source_table source.now (world_of catalogue.now lets.now)) }
 {
     match source {

@@ -1,6 +1,6 @@
 use Rattle.std.proofs.lemmas.Option.{MatchOption-at_none}
 use Rattle.kql_plain.proofs.LetSteps.{all-made}
-use Rattle.kql_plain.proofs.plans.let_tables.Goals as goal
+use Rattle.kql_plain.proofs.lets.let_tables.Goals as goal
 
 pub returns : goal.returns
 returns c = record {

@@ -1,0 +1,45 @@
+//! The rows of each key of a column.
+ghost use Rattle.std.specs.Prelude.{◌≡◌, IfOk, IsTrue, is_some, length};
+ghost use Rattle.kql_cells.specs.Named.{column_name, place_of};
+ghost use Rattle.kql_meaning.specs.Tables.{emptied};
+ghost use Rattle.kql_plain.specs.Keys.{column_cells, rows_by_key};
+
+use kql_keys::{Numbered, PlaceLists, number_keys, places_by_number};
+use kql_values::{Table, Vector};
+use std::alloc::{AllocError, Global};
+
+/// The places of the rows of each key of a column, in one pass: keys in order of first occurrence, places rising. Null is a key.
+#[tactic(auto, using(crate::proofs::KeySteps::key_steps))]
+pub(crate) fn rows_by_key(
+    alloc: Global,
+    t: &Table,
+    key: &str,
+) -> Result<PlaceLists, AllocError>
+    requires column { IsTrue (is_some (place_of column_name key.now t.now.columns)) }
+    ensures rows { IfOk result (λ lists. lists ≡ rows_by_key key.now t.now) }
+{
+    let columns = [key_column(t, key)];
+    let Numbered { numbers, firsts } = number_keys(alloc, &columns, t.len())?;
+    places_by_number(alloc, numbers.as_slice(), firsts.len())
+}
+
+/// The columns of a table, without rows.
+#[tactic(auto, unfolding(kql_meaning::specs::Tables::emptied))]
+pub(crate) fn emptied(alloc: Global, t: &Table) -> Result<Table, AllocError>
+    ensures rows { IfOk result (λ r. r ≡ emptied t.now) }
+{
+    t.slice(alloc, 0, 0)
+}
+
+// The column of a name.
+#[tactic(auto, using(crate::proofs::KeySteps::column_steps))]
+fn key_column<'a>(t: &'a Table, name: &str) -> &'a Vector
+    requires stands { IsTrue (is_some (place_of column_name name.now t.now.columns)) }
+    ensures cells { result.now ≡ column_cells t.now name.now }
+    ensures count { length result.now ≡ length t.now.lines }
+{
+    match t.schema().find(name) {
+        Some(place) => t.column(place),
+        None => unreachable!(),
+    }
+}
