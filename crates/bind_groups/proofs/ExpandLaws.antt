@@ -19,12 +19,12 @@ use Rattle.bind_expr.proofs.AnswerFacts.{answers-along, goes_on, goes_under}
 use Rattle.bind_operators.specs.Faults.{unless}
 use Rattle.bind_operators.specs.Items.{given_name, names_or_own, one_name, twice}
 use Rattle.bind_operators.specs.Places.{item_start}
-use Rattle.bind_operators.proofs.NameLaws.{apart, different}
+use Rattle.bind_operators.proofs.NameLaws.{apart, different, pairwise-of}
 use Rattle.bind_groups.specs.MvExpand.{expand_faults, expand_link, expand_part_bound, expands_bound, no_expands, with_expand}
 use Rattle.bind_groups.specs.Names.{singles}
 use Rattle.bind_groups.specs.declared.part.ExpandPart.{ExpandPart}
 use Rattle.bind_groups.specs.declared.part.NamedExpands.{NamedExpands}
-use Rattle.bind_groups.proofs.NameSteps.{apart-of, not-among, pairwise-of, written-once}
+use Rattle.bind_groups.proofs.NameSteps.{apart-of, not-among, written-once}
 
 -- Items from left to right.
 

@@ -1,18 +1,16 @@
 -- What `summarize` asks of the form of an item, one equation for each variant of an expression.
-use Rattle.std.proofs.Common.{◌≡◌, ◌||◌, ℕ, Bool, true, false, List, [], ◌∷◌, map, refl, sym, ap, ◌∙◌, rules}
-use Rattle.std.specs.Prelude.{not}
+use Rattle.std.proofs.Common.{◌≡◌, ◌||◌, ℕ, Bool, true, false, List, [], ◌∷◌, map, refl, sym, ap, ◌∙◌}
 use Rattle.std.specs.List.{list_any}
 use Rattle.kql_functions.specs.declared.aggregate.Aggregate.{Aggregate}
 use Rattle.kql_functions.specs.declared.func.Func.{Func}
 use Rattle.kql_functions.specs.declared.window.Window.{Window}
-use Rattle.kql_bound.specs.declared.expr.BExpr.{BExpr, fold-roll-BExpr, para-roll-BExpr, the_lemmas}
+use Rattle.kql_bound.specs.declared.expr.BExpr.{BExpr, fold-roll-BExpr, para-roll-BExpr}
 use Rattle.kql_bound.specs.declared.expr.BExpr.TheOpen.{BExpr-F}
 use Rattle.kql_bound.specs.declared.expr.BExpr.TheVariants as V
 use Rattle.kql_bound.specs.declared.expr.ChainSign.{ChainSign}
 use Rattle.kql_bound.specs.declared.expr.StepColumn.{StepColumn}
 use Rattle.kql_bound.specs.declared.literal.Lit.{Lit}
-use Rattle.kql_meaning.specs.Results.{has_one_result}
-use Rattle.bind_groups.specs.Summarize.{Looked, any_looked, bad_count_step, bare_column_step, counts_badly, has_bad_count, has_bare_column, has_several_columns}
+use Rattle.bind_expr.specs.GroupForms.{Looked, any_looked, bad_count_step, bare_column_step, counts_badly, has_bad_count, has_bare_column}
 
 any-map : {X Y : Type 0} (p : Y → Bool) (f : X → Y) (xs : List X) → list_any p (map f xs) ≡ list_any (λ x. p (f x)) xs
 any-map p f [] = refl
@@ -56,42 +54,6 @@ unfolding has_bare_column
 bare-Aggregate f args = ap has_bare_column (sym (V.rolls-Aggregate f args)) ∙ fold-roll-BExpr Bool bare_column_step (BExpr-F.Aggregate f args)
 
 pub ruleset bare_steps = (bare-Literal, bare-Column, bare-Step, bare-Call, bare-Chain, bare-Path, bare-Window, bare-Aggregate)
-
--- Several result columns.
-
-pub several-Literal : (l : Lit) → has_several_columns (V.Literal l) ≡ false
-unfolding has_several_columns
-several-Literal l = search (rules, the_lemmas)
-
-pub several-Column : (n : List ℕ) → has_several_columns (V.Column n) ≡ false
-unfolding has_several_columns
-several-Column n = search (rules, the_lemmas)
-
-pub several-Step : (c : StepColumn) → has_several_columns (V.Step c) ≡ false
-unfolding has_several_columns
-several-Step c = search (rules, the_lemmas)
-
-pub several-Call : (f : Func) (args : List BExpr) → has_several_columns (V.Call f args) ≡ false
-unfolding has_several_columns
-several-Call f args = search (rules, the_lemmas)
-
-pub several-Chain : (first : BExpr) (links : List (ChainSign × BExpr)) → has_several_columns (V.Chain first links) ≡ false
-unfolding has_several_columns
-several-Chain first links = search (rules, the_lemmas)
-
-pub several-Path : (whole : BExpr) (steps : List BExpr) → has_several_columns (V.Path whole steps) ≡ false
-unfolding has_several_columns
-several-Path whole steps = search (rules, the_lemmas)
-
-pub several-Window : (f : Window) (args : List BExpr) → has_several_columns (V.Window f args) ≡ false
-unfolding has_several_columns
-several-Window f args = search (rules, the_lemmas)
-
-pub several-Aggregate : (f : Aggregate) (args : List BExpr) → has_several_columns (V.Aggregate f args) ≡ not (has_one_result f args)
-unfolding has_several_columns
-several-Aggregate f args = search (rules, the_lemmas)
-
-pub ruleset several_steps = (several-Literal, several-Column, several-Step, several-Call, several-Chain, several-Path, several-Window, several-Aggregate)
 
 -- Counts of lists and sets.
 
