@@ -1,5 +1,5 @@
 -- Every expression that is bound, by induction over its tree.
-use Rattle.std.proofs.Common.{◌≡◌, ◌≢◌, ℕ, true, List, [], ◌∷◌, ◌++◌, map, refl, sym, ap, ◌∙◌, subst}
+use Rattle.std.proofs.Common.{◌≡◌, ◌≢◌, ℕ, true, false, List, [], ◌∷◌, ◌++◌, map, refl, sym, ap, ◌∙◌, subst}
 use Rattle.std.specs.Prelude.{Ok, Err, Option, None, Some, fold}
 use Rattle.std.proofs.lemmas.Bool.{and_parts, and_from}
 use Rattle.kql_cells.specs.declared.value.Kind.TheVariants as kind
@@ -43,7 +43,7 @@ use Rattle.bind_expr.specs.Outcome.{Outcome, ◌>>=◌}
 use Rattle.bind_expr.specs.Paths.{step_bound, step_named}
 use Rattle.bind_expr.specs.declared.scope.Scope.{Scope}
 use Rattle.bind_expr.specs.declared.typed.Typed.{Typed}
-use Rattle.bind_expr_laws.specs.Laws.{BoundIsSound, IsSingle, IsSound, NameIsSound, SingleIsSound}
+use Rattle.bind_expr_laws.specs.Laws.{BoundIsSound, IsSound, NameIsSound, SingleIsSound}
 use Rattle.bind_expr_laws.specs.Scopes.{IsSoundScope, read_scope}
 use Rattle.bind_expr_laws.proofs.Aggregates.{aggregate-bound}
 use Rattle.bind_expr_laws.proofs.Arguments.{HasArgs, IsArg, aggregate-slots, args-taken, scalar-slots, window-slots}

@@ -1,5 +1,5 @@
 -- A refusal is told at a place of the tree, by induction over the tree.
-use Rattle.std.proofs.Common.{◌≡◌, ℕ, true, List, [], ◌∷◌, ◌++◌, map, refl, sym, subst, inl, inr}
+use Rattle.std.proofs.Common.{◌≡◌, ℕ, true, false, List, [], ◌∷◌, ◌++◌, map, refl, sym, subst, inl, inr}
 use Rattle.std.specs.Prelude.{Ok, Err, Option, None, Some, fold}
 use Rattle.std.specs.List.{flat_map}
 use Rattle.kql_functions.specs.Find.{found_as}

@@ -29,12 +29,12 @@ abbrev pub BoundIsSound : Type 0
 BoundIsSound = (e : Expr) (scope : Scope) (t : Typed) → IsSoundScope scope → bound_expr e scope ≡ Ok t → IsSound scope t
 
 -- One that is to have one column is sound too, and fits as an item of `summarize` with one column, but for what `summarize` refuses then.
-pub record IsSingle (scope : Scope) (t : Typed) : Type 0 where
+pub record IsSoundSingle (scope : Scope) (t : Typed) : Type 0 where
   pub sound : IsSound scope t
   pub group : scope.position ≡ position.Group → has_bare_column t.expr ≡ false → has_bad_count t.expr ≡ false → expr_fits t.expr (read_scope scope) position.Group ≡ true
 
 abbrev pub SingleIsSound : Type 0
-SingleIsSound = (e : Expr) (scope : Scope) (t : Typed) → IsSoundScope scope → bound_single e scope ≡ Ok t → IsSingle scope t
+SingleIsSound = (e : Expr) (scope : Scope) (t : Typed) → IsSoundScope scope → bound_single e scope ≡ Ok t → IsSoundSingle scope t
 
 -- The same of a name alone.
 abbrev pub NameIsSound : Type 0
