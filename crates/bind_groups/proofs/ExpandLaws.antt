@@ -49,7 +49,7 @@ pub ruleset turn_steps = (expands-start, expands-turn)
 abbrev is_even : NamedExpands → Type 0
 is_even d = length d.places ≡ length d.items
 
-one-more : {X Y : Type 0} (xs : List X) (x : X) (ys : List Y) (y : Y) → length xs ≡ length ys → length (xs ++ x ∷ []) ≡ length (ys ++ y ∷ [])
+pub one-more : {X Y : Type 0} (xs : List X) (x : X) (ys : List Y) (y : Y) → length xs ≡ length ys → length (xs ++ x ∷ []) ≡ length (ys ++ y ∷ [])
 one-more xs x ys y e = length-append xs (x ∷ []) ∙ (ap (λ n. n + 1) e ∙ sym (length-append ys (y ∷ [])))
 
 link-even : (before : Outcome NamedExpands) (item : Item) (next : Outcome ExpandPart) → IfOk before is_even → IfOk (expand_link before item next) is_even

@@ -32,7 +32,7 @@ use Rattle.bind_groups.specs.declared.part.NamedSeries.{NamedSeries}
 use Rattle.bind_groups.specs.declared.part.SeriesPart.{SeriesPart}
 use Rattle.bind_groups.specs.MakeSeries.{axis_bound, axis_over, bin_faults, bins_bound, make_series_bound, no_series, plan_over, series_answer, series_bound, series_link, series_part_bound, series_twice, with_series}
 use Rattle.bind_groups.specs.Summarize.{group_keys_bound}
-use Rattle.bind_groups.proofs.GroupSteps.{one-more}
+use Rattle.bind_groups.proofs.ExpandLaws.{one-more}
 
 -- Items from left to right.
 
