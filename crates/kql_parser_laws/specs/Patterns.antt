@@ -1,7 +1,6 @@
--- Queries in which each `parse` has a pattern, as each has that is read from a text: without one, nothing fits that `parse` is bound to.
-use Rattle.std.specs.Prelude.{Bool, true, not, ◌&&◌, List}
+-- Queries in which each `parse` has a pattern that is not empty, as each has that is read from a text.
+use Rattle.std.specs.Prelude.{Bool, true, false, ◌&&◌, List, [], ◌∷◌}
 use Rattle.std.specs.List.{list_all}
-use Rattle.kql_meaning.specs.FittingOperators.{is_empty}
 use Rattle.kql_syntax.specs.declared.query.GroupOp.{GroupOp}
 use Rattle.kql_syntax.specs.declared.query.GroupOp.TheVariants as group
 use Rattle.kql_syntax.specs.declared.query.Join.{Join, fold-Join}
@@ -18,11 +17,15 @@ use Rattle.kql_syntax.specs.declared.query.TableArg.{TableArg, fold-TableArg}
 use Rattle.kql_syntax.specs.declared.query.TableOp.{TableOp, fold-TableOp}
 use Rattle.kql_syntax.specs.declared.query.Union.{Union, fold-Union}
 
+abbrev pub has_items : {A : Type 0} → List A → Bool
+has_items [] = false
+has_items (x ∷ xs) = true
+
 abbrev pub has_pattern : GroupOp → Bool
 has_pattern (group.Summarize operator s) = true
 has_pattern (group.MakeSeries operator s) = true
 has_pattern (group.MvExpand operator form items) = true
-has_pattern (group.Parse operator form e pattern) = not (is_empty pattern)
+has_pattern (group.Parse operator form e pattern) = has_items pattern
 
 abbrev pub all_have : List Bool → Bool
 all_have parts = list_all (λ b. b) parts
