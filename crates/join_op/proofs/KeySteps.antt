@@ -117,6 +117,10 @@ key-stands s on cs k pair n e lt is same =
 abbrev now : Bor (List Value) → List Value
 now c = c.now
 
+pub keys-none : (s : Side) (t : Grid) → [] ≡ key_cells s [] t
+unfolding key_cells
+keys-none s t = refl
+
 pub keys-more : (s : Side) (on : List OnPair) (t : Grid) (k : ℕ) (pair : OnPair) (n : List ℕ) (old new : List (Bor (List Value))) (col : Bor (List Value)) → k < length on → pair ≡ get_or on k pair → n ≡ key_name s pair
     → map now old ≡ key_cells s (take k on) t → col.now ≡ column_cells t n → new ≡ old ++ col ∷ [] → map now new ≡ key_cells s (take (k + 1) on) t
 unfolding key_cells

@@ -76,9 +76,9 @@ unfolding beside
 beside-pairs f g [] = refl
 beside-pairs f g (p ∷ ps) = ap (λ rows. (f p ++ g p) ∷ rows) (beside-pairs f g ps)
 
-pub beside-append : {X : Type 0} (as bs cs ds : List (List X)) → length as ≡ length cs → beside (as ++ bs) (cs ++ ds) ≡ beside as cs ++ beside bs ds
+pub beside-append : {X : Type 0} (xs bs cs ds : List (List X)) → length xs ≡ length cs → beside (xs ++ bs) (cs ++ ds) ≡ beside xs cs ++ beside bs ds
 unfolding beside
 beside-append [] bs [] ds e = refl
 beside-append [] bs (c ∷ cs) ds e = absurd (omega (arith, e))
-beside-append (a ∷ as) bs [] ds e = absurd (omega (arith, e))
-beside-append (a ∷ as) bs (c ∷ cs) ds e = ap (λ rows. (a ++ c) ∷ rows) (beside-append as bs cs ds (omega (arith, e)))
+beside-append (x ∷ xs) bs [] ds e = absurd (omega (arith, e))
+beside-append (x ∷ xs) bs (c ∷ cs) ds e = ap (λ rows. (x ++ c) ∷ rows) (beside-append xs bs cs ds (omega (arith, e)))

@@ -8,6 +8,7 @@ use Rattle.std.proofs.lemmas.List.FromFn.{map-range_with_len_more}
 use Rattle.kql_cells.specs.declared.value.Value.{Value}
 use Rattle.join_op.specs.Pairs.{given, pairs_by}
 use Rattle.join_op.specs.declared.pairs.RowRule.{RowRule}
+use Rattle.join_op.specs.declared.pairs.RowRule.TheVariants as rule
 
 range-more : (n : ℕ) → range_with_len 0 (n + 1) ≡ range_with_len 0 n ++ n ∷ []
 range-more n = sym (map-id (range_with_len 0 (n + 1))) ∙ (map-range_with_len_more (λ (x : ℕ). x) 0 n n (omega arith) ∙ ap (λ xs. xs ++ n ∷ []) (map-id (range_with_len 0 n)))
@@ -55,3 +56,18 @@ others-more r m leads k i found old new lt is ef before added =
     added ∙ (ap₂ (λ (xs : List (Option ℕ)) (js : List ℕ). xs ++ given r js) before ef
     ∙ (ap (λ l. map f (pairs_by r m (take k leads)) ++ l) (sym (seconds-of i (given r (m i))))
     ∙ sym (ap (map f) (pairs-more r m leads k i lt is) ∙ map-append f (pairs_by r m (take k leads)) (one_row r m i))))
+
+-- The row that leads stands beside each of its matches.
+
+some-leads : (i : ℕ) (js : List ℕ) → map (λ (o : Option ℕ). i) (map (λ j. Some j) js) ≡ map (λ (j : ℕ). i) js
+some-leads i [] = refl
+some-leads i (j ∷ js) = ap (λ l. i ∷ l) (some-leads i js)
+
+pub given-each : (r : RowRule) (i : ℕ) (js : List ℕ) → r ≡ rule.EachMatch → map (λ (o : Option ℕ). i) (given r js) ≡ map (λ (j : ℕ). i) js
+unfolding given
+given-each r i js e = ap (λ q. map (λ (o : Option ℕ). i) (given q js)) e ∙ some-leads i js
+
+pub given-some : (r : RowRule) (i : ℕ) (js : List ℕ) → r ≡ rule.EachMatchOrAlone → 0 < length js → map (λ (o : Option ℕ). i) (given r js) ≡ map (λ (j : ℕ). i) js
+unfolding given
+given-some r i [] e lt = absurd (omega (arith, lt))
+given-some r i (j ∷ js) e lt = ap (λ q. map (λ (o : Option ℕ). i) (given q (j ∷ js))) e ∙ some-leads i (j ∷ js)

@@ -154,8 +154,8 @@ fn right_table(
         let made = with_right(alloc, kept, right, j, rights.as_slice())?;
         Ok(made)
     } else {
-        let made = right.gather(alloc, leads)?;
-        Ok(made)
+        let alone = right.gather(alloc, leads)?;
+        Ok(alone)
     }
 }
 

@@ -49,7 +49,8 @@ fn shown_vectors(
     let mut shown = Vec::new(alloc);
     for p in 0..columns.len() {
         if is_shown(j, &columns[p]) {
-            shown.push(shown_vector(alloc, right, p, places)?)?;
+            let vector = shown_vector(alloc, right, p, places)?;
+            shown.push(vector)?;
         }
     }
     Ok(shown)
