@@ -1,0 +1,318 @@
+-- One value more behind the best of several, and its place.
+use Rattle.std.proofs.Common.{◌≡◌, ◌⊎◌, ◌||◌, ◌&&◌, ◌++◌, ◌∷◌, ◌∙◌, ◌==◌, ℕ, ℤ, suc, Bool, true, false, not, if◌then◌else◌, List, [], fold, length, refl, sym, ap, inl, inr, arith}
+use Rattle.std.specs.Prelude.{◌<ℤ◌}
+use Rattle.std.specs.List.{list_any, position_or_len}
+use Rattle.std.specs.Cmp.{int_ranks}
+use Rattle.std.specs.Ordering.{MatchOrdering, int_cmp, is_lt}
+use Rattle.std.specs.declared.cmp.Ordering.{Ordering}
+use Rattle.std.specs.declared.cmp.Ordering.TheVariants as ordering
+use Rattle.std.proofs.lemmas.Bool.{cases_Bool}
+use Rattle.std.proofs.lemmas.Int.{ints}
+use Rattle.std.proofs.lemmas.List.Sums.{fold-append}
+use Rattle.kql_cells.specs.Keys.{is_null, same_key, same_key-decides}
+use Rattle.kql_cells.specs.declared.value.Value.{Value}
+use Rattle.kql_cells.specs.declared.value.Value.TheVariants as value
+use Rattle.kql_scalar_fns.specs.Choice.{greater, greatest, is_below, least, lesser}
+use Rattle.kql_scalar_fns.specs.Comparison.{order}
+use Rattle.kql_meaning.specs.Results.{greatest_row, least_row, row_of}
+use Rattle.agg_folds.specs.declared.best.Best.{Best}
+use Rattle.agg_folds.specs.declared.best.Prefer.{Prefer}
+use Rattle.agg_folds.specs.declared.best.Prefer.TheVariants as prefer
+use Rattle.agg_folds.specs.Kept.{is_better, met}
+use Rattle.agg_folds.proofs.ListLaws.{position-last, position-more}
+
+-- Null.
+
+pub null-is : (v : Value) → is_null v ≡ true → v ≡ value.Null
+unfolding is_null
+null-is value.Null e = refl
+null-is (value.Bool b) e = cc
+null-is (value.Long n) e = cc
+null-is (value.Text t) e = cc
+null-is (value.Moment n) e = cc
+null-is (value.Span n) e = cc
+null-is (value.Dynamic d) e = cc
+
+-- The order of numbers of one type.
+
+lt-of : (o : Ordering) (P Q R : Type 0) → MatchOrdering o P Q R → is_lt o ≡ true → P
+lt-of ordering.Less P Q R h e = h
+lt-of ordering.Equal P Q R h e = cc
+lt-of ordering.Greater P Q R h e = cc
+
+of-lt : (o : Ordering) (x y : ℤ) → MatchOrdering o (x <ℤ y) (x ≡ y) (y <ℤ x) → x <ℤ y → is_lt o ≡ true
+of-lt ordering.Less x y h l = refl
+of-lt ordering.Equal x y h l = absurd (grind (arith, h, l))
+of-lt ordering.Greater x y h l = absurd (grind (arith, h, l))
+
+below-of : (x y : ℤ) → is_lt (int_cmp x y) ≡ true → x <ℤ y
+below-of x y e = lt-of (int_cmp x y) (x <ℤ y) (x ≡ y) (y <ℤ x) (int_ranks x y) e
+
+of-below : (x y : ℤ) → x <ℤ y → is_lt (int_cmp x y) ≡ true
+of-below x y l = of-lt (int_cmp x y) x y (int_ranks x y) l
+
+not-below-self : (x : ℤ) → is_lt (int_cmp x x) ≡ false
+not-below-self x = elim (cases_Bool (is_lt (int_cmp x x))) [
+  | inl t ↦ let l : x <ℤ x = below-of x x t in absurd (grind (arith, l))
+  | inr f ↦ f
+]
+
+below-chain : (x y z : ℤ) → is_lt (int_cmp x y) ≡ true → is_lt (int_cmp y z) ≡ true → is_lt (int_cmp x z) ≡ true
+below-chain x y z p q = of-below x z (grind (arith, below-of x y p, below-of y z q))
+
+above-long : (x : ℤ) (v : Value) → is_below (value.Long x) v ≡ true → (y : ℤ) × (v ≡ value.Long y) × (is_lt (int_cmp x y) ≡ true)
+unfolding order
+above-long x value.Null e = cc
+above-long x (value.Bool b) e = cc
+above-long x (value.Long n) e = (n, refl, e)
+above-long x (value.Text t) e = cc
+above-long x (value.Moment n) e = cc
+above-long x (value.Span n) e = cc
+above-long x (value.Dynamic d) e = cc
+
+above-moment : (x : ℤ) (v : Value) → is_below (value.Moment x) v ≡ true → (y : ℤ) × (v ≡ value.Moment y) × (is_lt (int_cmp x y) ≡ true)
+unfolding order
+above-moment x value.Null e = cc
+above-moment x (value.Bool b) e = cc
+above-moment x (value.Long n) e = cc
+above-moment x (value.Text t) e = cc
+above-moment x (value.Moment n) e = (n, refl, e)
+above-moment x (value.Span n) e = cc
+above-moment x (value.Dynamic d) e = cc
+
+above-span : (x : ℤ) (v : Value) → is_below (value.Span x) v ≡ true → (y : ℤ) × (v ≡ value.Span y) × (is_lt (int_cmp x y) ≡ true)
+unfolding order
+above-span x value.Null e = cc
+above-span x (value.Bool b) e = cc
+above-span x (value.Long n) e = cc
+above-span x (value.Text t) e = cc
+above-span x (value.Moment n) e = cc
+above-span x (value.Span n) e = (n, refl, e)
+above-span x (value.Dynamic d) e = cc
+
+pub null-below : (v : Value) → is_below value.Null v ≡ false
+unfolding order
+null-below v = refl
+
+pub below-null : (v : Value) → is_below v value.Null ≡ false
+unfolding order
+below-null value.Null = refl
+below-null (value.Bool b) = refl
+below-null (value.Long n) = refl
+below-null (value.Text t) = refl
+below-null (value.Moment n) = refl
+below-null (value.Span n) = refl
+below-null (value.Dynamic d) = refl
+
+pub below-self : (v : Value) → is_below v v ≡ false
+unfolding order
+below-self value.Null = refl
+below-self (value.Bool b) = refl
+below-self (value.Long n) = not-below-self n
+below-self (value.Text t) = refl
+below-self (value.Moment n) = not-below-self n
+below-self (value.Span n) = not-below-self n
+below-self (value.Dynamic d) = refl
+
+pub below-through : (a b c : Value) → is_below a b ≡ true → is_below b c ≡ true → is_below a c ≡ true
+unfolding order
+below-through value.Null b c p q = cc
+below-through (value.Bool x) b c p q = cc
+below-through (value.Long x) b c p q =
+    let m = above-long x b p in
+    let n = above-long m.0 c (rw m.1 at q) in
+    rw n.1 (below-chain x m.0 n.0 m.2 n.2)
+below-through (value.Text x) b c p q = cc
+below-through (value.Moment x) b c p q =
+    let m = above-moment x b p in
+    let n = above-moment m.0 c (rw m.1 at q) in
+    rw n.1 (below-chain x m.0 n.0 m.2 n.2)
+below-through (value.Span x) b c p q =
+    let m = above-span x b p in
+    let n = above-span m.0 c (rw m.1 at q) in
+    rw n.1 (below-chain x m.0 n.0 m.2 n.2)
+below-through (value.Dynamic x) b c p q = cc
+
+-- The best of several, where a test says that one value is worse than another.
+
+module _
+    (worse : Value → Value → Bool)
+    (worse-null : (v : Value) → worse v value.Null ≡ false)
+    (null-worse : (v : Value) → worse value.Null v ≡ false)
+    (worse-self : (v : Value) → worse v v ≡ false)
+    (worse-through : (a b c : Value) → worse a b ≡ true → worse b c ≡ true → worse a c ≡ true)
+  where
+    abbrev pick : Value → Value → Value
+    pick b v = if is_null b then v else if worse b v then v else b
+
+    abbrev better : Value → Value → Bool
+    better b v = (is_null b && not (is_null v)) || worse b v
+
+    -- Nothing is better than itself, and no null is better than anything.
+    not-itself : (v : Value) → better v v ≡ false
+    not-itself v = elim (cases_Bool (is_null v)) [ inl t ↦ rw (t, worse-self v) refl | inr f ↦ rw (f, worse-self v) refl ]
+
+    not-null : (b v : Value) → is_null v ≡ true → better b v ≡ false
+    not-null b v t =
+        let e : v ≡ value.Null = null-is v t in
+        let w : worse b v ≡ false = rw e (worse-null b) in
+        elim (cases_Bool (is_null b)) [ inl s ↦ rw (s, t, w) refl | inr f ↦ rw (f, w) refl ]
+
+    -- What was picked is not null, where the one it beat was worse.
+    given-where-better : (b v : Value) → worse b v ≡ true → is_null v ≡ false
+    given-where-better b v e = elim (cases_Bool (is_null v)) [
+      | inl t ↦ let n : v ≡ value.Null = null-is v t in let w : worse b v ≡ false = rw n (worse-null b) in let c : true ≡ false = sym e ∙ w in cc
+      | inr f ↦ f
+    ]
+
+    beaten : (b w : Value) → better (pick b w) w ≡ false
+    beaten b w = elim (cases_Bool (is_null b)) [
+      | inl t ↦ rw t (not-itself w)
+      | inr f ↦ elim (cases_Bool (worse b w)) [
+        | inl s ↦ rw (f, s) (not-itself w)
+        | inr g ↦ rw (f, g, f, g) refl
+      ]
+    ]
+
+    still-beaten : (b w x : Value) → better b x ≡ false → better (pick b w) x ≡ false
+    still-beaten b w x h = elim (cases_Bool (is_null x)) [
+      | inl n ↦ not-null (pick b w) x n
+      | inr g ↦ elim (cases_Bool (is_null b)) [
+        | inl t ↦ let c : true ≡ false = rw (t, g) at h in cc
+        | inr f ↦
+            let bx : worse b x ≡ false = rw f at h in
+            elim (cases_Bool (worse b w)) [
+              | inl s ↦
+                  let wn = given-where-better b w s in
+                  elim (cases_Bool (worse w x)) [
+                    | inl u ↦ let c : true ≡ false = sym (worse-through b w x s u) ∙ bx in cc
+                    | inr u ↦ rw (f, s, wn, u) refl
+                  ]
+              | inr s ↦ rw (f, s, f, bx) refl
+            ]
+      ]
+    ]
+
+    stays-beaten : (vs : List Value) (b x : Value) → better b x ≡ false → better (fold pick b vs) x ≡ false
+    stays-beaten [] b x h = h
+    stays-beaten (v ∷ vs) b x h = stays-beaten vs (pick b v) x (still-beaten b v x h)
+
+    -- What is better than all is none of them.
+    pub not-among : (vs : List Value) (b v : Value) → better (fold pick b vs) v ≡ true → list_any (same_key v) vs ≡ false
+    not-among [] b v h = refl
+    not-among (w ∷ vs) b v h = elim (cases_Bool (same_key v w)) [
+      | inl t ↦
+          let e : v ≡ w = (same_key-decides v w).0 t in
+          let beat : better (fold pick (pick b w) vs) v ≡ false = rw e (stays-beaten vs (pick b w) w (beaten b w)) in
+          let c : true ≡ false = sym h ∙ beat in
+          cc
+      | inr f ↦ rw f (not-among vs (pick b w) v h)
+    ]
+
+    -- The best is one of them.
+    among : (vs : List Value) (b : Value) → (fold pick b vs ≡ b) ⊎ (list_any (same_key (fold pick b vs)) vs ≡ true)
+    among [] b = inl refl
+    among (w ∷ vs) b = elim (among vs (pick b w)) [
+      | inr a ↦ elim (cases_Bool (same_key (fold pick (pick b w) vs) w)) [
+        | inl t ↦ inr (rw t refl)
+        | inr f ↦ inr (rw f a)
+      ]
+      | inl e ↦ elim (cases_Bool (is_null b)) [
+        | inl t ↦
+            let p : pick b w ≡ w = rw t refl in
+            let s : same_key (fold pick (pick b w) vs) w ≡ true = (same_key-decides (fold pick (pick b w) vs) w).1 (e ∙ p) in
+            inr (rw s refl)
+        | inr f ↦ elim (cases_Bool (worse b w)) [
+          | inl u ↦
+              let p : pick b w ≡ w = rw (f, u) refl in
+              let s : same_key (fold pick (pick b w) vs) w ≡ true = (same_key-decides (fold pick (pick b w) vs) w).1 (e ∙ p) in
+              inr (rw s refl)
+          | inr u ↦ let p : pick b w ≡ b = rw (f, u) refl in inl (e ∙ p)
+        ]
+      ]
+    ]
+
+    pub one-of-them : (w : Value) (ws : List Value) → list_any (same_key (fold pick value.Null (w ∷ ws))) (w ∷ ws) ≡ true
+    one-of-them w ws = elim (among ws w) [
+      | inl e ↦ let s : same_key (fold pick w ws) w ≡ true = (same_key-decides (fold pick w ws) w).1 e in rw s refl
+      | inr a ↦ elim (cases_Bool (same_key (fold pick w ws) w)) [ inl t ↦ rw t refl | inr f ↦ rw f a ]
+    ]
+
+    abbrev best : List Value → Value
+    best vs = fold pick value.Null vs
+
+    abbrev place : List Value → ℕ
+    place vs = position_or_len (same_key (best vs)) vs
+
+    picked : (b v : Value) → better b v ≡ true → pick b v ≡ v
+    picked b v h = elim (cases_Bool (is_null b)) [
+      | inl t ↦ rw t refl
+      | inr f ↦ let w : worse b v ≡ true = rw f at h in rw (f, w) refl
+    ]
+
+    not-picked : (b v : Value) → better b v ≡ false → pick b v ≡ b
+    not-picked b v h = elim (cases_Bool (is_null b)) [
+      | inl t ↦ elim (cases_Bool (is_null v)) [
+        | inl s ↦ rw t (null-is v s ∙ sym (null-is b t))
+        | inr g ↦ let c : true ≡ false = rw (t, g) at h in cc
+      ]
+      | inr f ↦ let w : worse b v ≡ false = rw f at h in rw (f, w) refl
+    ]
+
+    best-push : (vs : List Value) (v : Value) → best (vs ++ v ∷ []) ≡ pick (best vs) v
+    best-push vs v = fold-append pick value.Null vs (v ∷ [])
+
+    pub pushed-first : (v : Value) → (best (v ∷ []) ≡ v) × (place (v ∷ []) ≡ 0)
+    pushed-first v = let s : same_key v v ≡ true = (same_key-decides v v).1 refl in (refl, rw s refl)
+
+    pub pushed-better : (vs : List Value) (v : Value) → better (best vs) v ≡ true → (best (vs ++ v ∷ []) ≡ v) × (place (vs ++ v ∷ []) ≡ length vs)
+    pushed-better vs v h =
+        let e : best (vs ++ v ∷ []) ≡ v = best-push vs v ∙ picked (best vs) v h in
+        let s : same_key v v ≡ true = (same_key-decides v v).1 refl in
+        (e, ap (λ m. position_or_len (same_key m) (vs ++ v ∷ [])) e ∙ position-last (same_key v) vs v (not-among vs value.Null v h) s)
+
+    pub pushed-other : (w : Value) (ws : List Value) (v : Value) → better (best (w ∷ ws)) v ≡ false → (best ((w ∷ ws) ++ v ∷ []) ≡ best (w ∷ ws)) × (place ((w ∷ ws) ++ v ∷ []) ≡ place (w ∷ ws))
+    pushed-other w ws v h =
+        let vs = w ∷ ws in
+        let e : best (vs ++ v ∷ []) ≡ best vs = best-push vs v ∙ not-picked (best vs) v h in
+        (e, ap (λ m. position_or_len (same_key m) (vs ++ v ∷ [])) e ∙ position-more (same_key (best vs)) vs (v ∷ []) (one-of-them w ws))
+
+-- The greatest and the least.
+
+abbrev above : Value → Value → Bool
+above b v = is_below v b
+
+above-through : (a b c : Value) → above a b ≡ true → above b c ≡ true → above a c ≡ true
+above-through a b c p q = below-through c b a q p
+
+abbrev greatest_best : List Value → Best
+greatest_best vs = record { prefer = prefer.Greatest; value = greatest vs; place = greatest_row vs }
+
+abbrev least_best : List Value → Best
+least_best vs = record { prefer = prefer.Least; value = least vs; place = least_row vs }
+
+abbrev best_as : Prefer → Value → ℕ → Best
+best_as p v i = record { prefer = p; value = v; place = i }
+
+same-best : (p : Prefer) (a b : Value) (i j : ℕ) → a ≡ b → i ≡ j → best_as p a i ≡ best_as p b j
+same-best p a b i j e f = rw (e, f) refl
+
+pub greatest-push : (vs : List Value) (v : Value) → greatest_best (vs ++ v ∷ []) ≡ met (greatest_best vs) (length vs) v
+unfolding met is_better greatest greater greatest_row row_of
+greatest-push [] v =
+    let q = pushed-first is_below below-null null-below below-self below-through v in
+    same-best prefer.Greatest _ _ _ _ q.0 q.1
+greatest-push (w ∷ ws) v = elim (cases_Bool (is_better prefer.Greatest (greatest (w ∷ ws)) v)) [
+  | inl t ↦ let q = pushed-better is_below below-null null-below below-self below-through (w ∷ ws) v t in rw t (same-best prefer.Greatest _ _ _ _ q.0 q.1)
+  | inr f ↦ let q = pushed-other is_below below-null null-below below-self below-through w ws v f in rw f (same-best prefer.Greatest _ _ _ _ q.0 q.1)
+]
+
+pub least-push : (vs : List Value) (v : Value) → least_best (vs ++ v ∷ []) ≡ met (least_best vs) (length vs) v
+unfolding met is_better least lesser least_row row_of
+least-push [] v =
+    let q = pushed-first above null-below below-null below-self above-through v in
+    same-best prefer.Least _ _ _ _ q.0 q.1
+least-push (w ∷ ws) v = elim (cases_Bool (is_better prefer.Least (least (w ∷ ws)) v)) [
+  | inl t ↦ let q = pushed-better above null-below below-null below-self above-through (w ∷ ws) v t in rw t (same-best prefer.Least _ _ _ _ q.0 q.1)
+  | inr f ↦ let q = pushed-other above null-below below-null below-self above-through w ws v f in rw f (same-best prefer.Least _ _ _ _ q.0 q.1)
+]
