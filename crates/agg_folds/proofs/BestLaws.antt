@@ -233,6 +233,7 @@ module _
     ]
 
     pub one-of-them : (w : Value) (ws : List Value) → list_any (same_key (fold pick value.Null (w ∷ ws))) (w ∷ ws) ≡ true
+    unfolding is_null
     one-of-them w ws = elim (among ws w) [
       | inl e ↦ let s : same_key (fold pick w ws) w ≡ true = (same_key-decides (fold pick w ws) w).1 e in rw s refl
       | inr a ↦ elim (cases_Bool (same_key (fold pick w ws) w)) [ inl t ↦ rw t refl | inr f ↦ rw f a ]
@@ -263,6 +264,7 @@ module _
     best-push vs v = fold-append pick value.Null vs (v ∷ [])
 
     pub pushed-first : (v : Value) → (best (v ∷ []) ≡ v) × (place (v ∷ []) ≡ 0)
+    unfolding is_null
     pushed-first v = let s : same_key v v ≡ true = (same_key-decides v v).1 refl in (refl, rw s refl)
 
     pub pushed-better : (vs : List Value) (v : Value) → better (best vs) v ≡ true → (best (vs ++ v ∷ []) ≡ v) × (place (vs ++ v ∷ []) ≡ length vs)
@@ -297,14 +299,17 @@ best_as p v i = record { prefer = p; value = v; place = i }
 same-best : (p : Prefer) (a b : Value) (i j : ℕ) → a ≡ b → i ≡ j → best_as p a i ≡ best_as p b j
 same-best p a b i j e f = rw (e, f) refl
 
+pub some-rows : (w : Value) (ws : List Value) → (length (w ∷ ws) == 0) ≡ false
+some-rows w ws = grind arith
+
 pub greatest-push : (vs : List Value) (v : Value) → greatest_best (vs ++ v ∷ []) ≡ met (greatest_best vs) (length vs) v
 unfolding met is_better greatest greater greatest_row row_of
 greatest-push [] v =
     let q = pushed-first is_below below-null null-below below-self below-through v in
     same-best prefer.Greatest _ _ _ _ q.0 q.1
 greatest-push (w ∷ ws) v = elim (cases_Bool (is_better prefer.Greatest (greatest (w ∷ ws)) v)) [
-  | inl t ↦ let q = pushed-better is_below below-null null-below below-self below-through (w ∷ ws) v t in rw t (same-best prefer.Greatest _ _ _ _ q.0 q.1)
-  | inr f ↦ let q = pushed-other is_below below-null null-below below-self below-through w ws v f in rw f (same-best prefer.Greatest _ _ _ _ q.0 q.1)
+  | inl t ↦ let q = pushed-better is_below below-null null-below below-self below-through (w ∷ ws) v t in rw (some-rows w ws, t) (same-best prefer.Greatest _ _ _ _ q.0 q.1)
+  | inr f ↦ let q = pushed-other is_below below-null null-below below-self below-through w ws v f in rw (some-rows w ws, f) (same-best prefer.Greatest _ _ _ _ q.0 q.1)
 ]
 
 pub least-push : (vs : List Value) (v : Value) → least_best (vs ++ v ∷ []) ≡ met (least_best vs) (length vs) v
@@ -313,6 +318,6 @@ least-push [] v =
     let q = pushed-first above null-below below-null below-self above-through v in
     same-best prefer.Least _ _ _ _ q.0 q.1
 least-push (w ∷ ws) v = elim (cases_Bool (is_better prefer.Least (least (w ∷ ws)) v)) [
-  | inl t ↦ let q = pushed-better above null-below below-null below-self above-through (w ∷ ws) v t in rw t (same-best prefer.Least _ _ _ _ q.0 q.1)
-  | inr f ↦ let q = pushed-other above null-below below-null below-self above-through w ws v f in rw f (same-best prefer.Least _ _ _ _ q.0 q.1)
+  | inl t ↦ let q = pushed-better above null-below below-null below-self above-through (w ∷ ws) v t in rw (some-rows w ws, t) (same-best prefer.Least _ _ _ _ q.0 q.1)
+  | inr f ↦ let q = pushed-other above null-below below-null below-self above-through w ws v f in rw (some-rows w ws, f) (same-best prefer.Least _ _ _ _ q.0 q.1)
 ]

@@ -1,5 +1,10 @@
 pub mod BestLaws
+pub mod CallFacts
 pub mod CellFacts
+pub mod FoldLaws
+pub mod FormFacts
 pub mod KeyFacts
 pub mod ListLaws
+pub mod RowLaws
+pub mod StateLaws
 pub mod TotalFacts

@@ -39,7 +39,7 @@ position-more p (x ∷ xs) more e = elim (cases_Bool (p x)) [
 
 pub position-last : {X : Type 0} (p : X → Bool) (xs : List X) (x : X) → list_any p xs ≡ false → p x ≡ true → position_or_len p (xs ++ x ∷ []) ≡ length xs
 position-last p [] x e t = rw t refl
-position-last p (y ∷ xs) x e t = let q = or-none (p y) (list_any p xs) e in rw q.0 (ap (λ n. 1 + n) (position-last p xs x q.1 t))
+position-last p (y ∷ xs) x e t = let q = or-none (p y) (list_any p xs) e in let next : 1 + length xs ≡ suc (length xs) = omega arith in rw q.0 (ap (λ n. 1 + n) (position-last p xs x q.1 t) ∙ next)
 
 -- The distinct ones.
 

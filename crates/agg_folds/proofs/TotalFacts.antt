@@ -27,4 +27,4 @@ sum-of-both n m a b h k = record { low = grind arith; high = grind arith }
 pub sum-of-further : (n m : ℕ) (a : ℤ) → IsSumOf n a → IsSumOf (n + m) a
 sum-of-further n m a h = record { low = grind arith; high = grind arith }
 
-pub ruleset total_facts = (added-none, added-some, sum-of-none, sum-of-more, sum-of-same, sum-of-both)
+pub ruleset total_facts = (added-none, added-some, sum-of-none, sum-of-more, sum-of-same, sum-of-both, sum-of-further)

@@ -64,9 +64,14 @@ value_by aggregate.BinaryAllXor kind limit vs = combined (int_bit_xor w64) vs
 unfoldable pub folded : FoldCall → List (List Value) → Value
 folded call rows = value_by call.aggregate call.kind call.limit (taken_of call.aggregate rows)
 
--- The row that is chosen, among these values: for `arg_max` and `arg_min` the first with the greatest or least value, and else the first.
+-- The place, among the values that were taken, of the one that is chosen: the first with the greatest or least value, and else the first.
+-- For `arg_max`, `arg_min` and `take_any` it is that of the row.
 unfoldable pub row_by : Aggregate → List Value → ℕ
+row_by aggregate.Max vs = greatest_row vs
+row_by aggregate.MaxIf vs = greatest_row vs
 row_by aggregate.ArgMax vs = greatest_row vs
+row_by aggregate.Min vs = least_row vs
+row_by aggregate.MinIf vs = least_row vs
 row_by aggregate.ArgMin vs = least_row vs
 row_by _ vs = 0
 

@@ -14,6 +14,7 @@ use Rattle.kql_meaning.specs.Numbers.{added, counted, fitted, sum_of}
 use Rattle.kql_meaning.specs.Results.{greatest_row, least_row}
 use Rattle.kql_meaning.specs.Values.{number_of}
 use Rattle.agg_folds.specs.declared.best.Best.{Best}
+use Rattle.agg_folds.specs.declared.best.Prefer.{Prefer}
 use Rattle.agg_folds.specs.declared.best.Prefer.TheVariants as prefer
 use Rattle.agg_folds.specs.declared.bits.BitOp.{BitOp}
 use Rattle.agg_folds.specs.declared.bits.BitOp.TheVariants as op
@@ -25,6 +26,12 @@ use Rattle.agg_folds.specs.Kept.{IsSumOf, bits_of, both_of, joined_best, joined_
 
 -- What is kept of values.
 
+unfoldable pub list_of : Option ℕ → List Value → State
+list_of limit vs = state.List (record { limit = limit; values = up_to limit (given vs) })
+
+unfoldable pub set_of : Option ℕ → List Value → State
+set_of limit vs = state.Set (record { limit = limit; values = up_to limit (distinct_given vs) })
+
 unfoldable pub greatest_of : List Value → State
 greatest_of vs = state.Best (record { prefer = prefer.Greatest; value = greatest vs; place = greatest_row vs })
 
@@ -35,7 +42,7 @@ unfoldable pub first_of : List Value → State
 first_of vs = state.Best (record { prefer = prefer.First; value = argument vs 0; place = 0 })
 
 unfoldable pub bits_in : BitOp → List Value → State
-bits_in o vs = state.Bits o (reduce (bits_of o) (filter_map number_of vs))
+bits_in o vs = state.Bits (record { op = o; number = reduce (bits_of o) (filter_map number_of vs) })
 
 unfoldable pub state_by : Aggregate → Option Kind → Option ℕ → List Value → State
 state_by aggregate.Count kind limit vs = state.Count
@@ -48,10 +55,10 @@ state_by aggregate.Min kind limit vs = least_of vs
 state_by aggregate.MinIf kind limit vs = least_of vs
 state_by aggregate.Max kind limit vs = greatest_of vs
 state_by aggregate.MaxIf kind limit vs = greatest_of vs
-state_by aggregate.MakeList kind limit vs = state.List limit (up_to limit (given vs))
-state_by aggregate.MakeListIf kind limit vs = state.List limit (up_to limit (given vs))
-state_by aggregate.MakeSet kind limit vs = state.Set limit (up_to limit (distinct_given vs))
-state_by aggregate.MakeSetIf kind limit vs = state.Set limit (up_to limit (distinct_given vs))
+state_by aggregate.MakeList kind limit vs = list_of limit vs
+state_by aggregate.MakeListIf kind limit vs = list_of limit vs
+state_by aggregate.MakeSet kind limit vs = set_of limit vs
+state_by aggregate.MakeSetIf kind limit vs = set_of limit vs
 state_by aggregate.ArgMax kind limit vs = greatest_of vs
 state_by aggregate.ArgMin kind limit vs = least_of vs
 state_by aggregate.TakeAny kind limit vs = first_of vs
@@ -63,6 +70,19 @@ unfoldable pub state_of : FoldCall → List Value → State
 state_of call vs = state_by call.aggregate call.kind call.limit vs
 
 -- What is kept before a value came.
+
+abbrev pub no_best : Prefer → State
+no_best p = state.Best (record { prefer = p; value = value.Null; place = 0 })
+
+abbrev pub no_bits : BitOp → State
+no_bits o = state.Bits (record { op = o; number = None })
+
+abbrev pub no_list : Option ℕ → State
+no_list limit = state.List (record { limit = limit; values = [] })
+
+abbrev pub no_set : Option ℕ → State
+no_set limit = state.Set (record { limit = limit; values = [] })
+
 unfoldable pub started : FoldCall → State
 started call = state_of call []
 
@@ -84,29 +104,36 @@ unfoldable pub pushed : State → ℕ → Value → State
 pushed state.Count n v = state.Count
 pushed (state.Total kind total) n v = state.Total kind (total +ℤ added (number_of v))
 pushed (state.Best b) n v = state.Best (met b n v)
-pushed (state.Bits o bits) n v = state.Bits o (both_of o bits (number_of v))
-pushed (state.List limit vs) n v = state.List limit (with_listed limit vs v)
-pushed (state.Set limit vs) n v = state.Set limit (with_member limit vs v)
+pushed (state.Bits b) n v = state.Bits (record { op = b.op; number = both_of b.op b.number (number_of v) })
+pushed (state.List l) n v = state.List (record { limit = l.limit; values = with_listed l.limit l.values v })
+pushed (state.Set s) n v = state.Set (record { limit = s.limit; values = with_member s.limit s.values v })
 pushed (state.Distinct vs) n v = state.Distinct (with_member None vs v)
 
 -- What is kept of others of the same aggregate, behind so many here.
 unfoldable pub joined : State → ℕ → State → State
 joined (state.Total kind total) n (state.Total _ more) = state.Total kind (total +ℤ more)
 joined (state.Best b) n (state.Best c) = state.Best (joined_best b n c)
-joined (state.Bits o bits) n (state.Bits _ more) = state.Bits o (both_of o bits more)
-joined (state.List limit vs) n (state.List _ more) = state.List limit (joined_list limit vs more)
-joined (state.Set limit vs) n (state.Set _ more) = state.Set limit (joined_set limit vs more)
+joined (state.Bits b) n (state.Bits c) = state.Bits (record { op = b.op; number = both_of b.op b.number c.number })
+joined (state.List l) n (state.List m) = state.List (record { limit = l.limit; values = joined_list l.limit l.values m.values })
+joined (state.Set s) n (state.Set r) = state.Set (record { limit = s.limit; values = joined_set s.limit s.values r.values })
 joined (state.Distinct vs) n (state.Distinct more) = state.Distinct (joined_set None vs more)
 joined s n _ = s
+
+-- One value more, and what is kept of others.
+unfoldable pub with_value : Kept → Value → Kept
+with_value k v = record { aggregate = k.aggregate; count = k.count + 1; state = pushed k.state k.count v }
+
+unfoldable pub with_fold : Kept → Kept → Kept
+with_fold k l = record { aggregate = k.aggregate; count = k.count + l.count; state = joined k.state k.count l.state }
 
 -- The value that the aggregate has over so many values, of which this is kept.
 unfoldable pub value_in : State → ℕ → Value
 value_in state.Count n = long_or_null (fit (pos n))
 value_in (state.Total kind total) n = fitted kind total
 value_in (state.Best b) n = b.value
-value_in (state.Bits o bits) n = long_or_null bits
-value_in (state.List limit vs) n = listed vs
-value_in (state.Set limit vs) n = listed vs
+value_in (state.Bits b) n = long_or_null b.number
+value_in (state.List l) n = listed l.values
+value_in (state.Set s) n = listed s.values
 value_in (state.Distinct vs) n = counted vs
 
 -- The place of the value that is chosen.

@@ -54,7 +54,9 @@ impl<'a> Best<'a> {
     #[tactic(auto, unfolding(crate::specs::Kept::met))]
     pub(crate) fn meet(&mut self, cell: CellRef<'a>, count: usize)
         requires form { IsWellFormed (seen cell) }
+        requires within { self.old.place ≤ count }
         ensures met { self.new ≡ met self.old count (seen cell.entry) }
+        ensures within { self.new.place ≤ count }
     {
         if count == 0 || is_better(self.prefer, self.value.cell(), cell) {
             self.value = Held::new(cell);
@@ -62,11 +64,13 @@ impl<'a> Best<'a> {
         }
     }
 
-    /// Those of another behind so many here; the other has at least one.
+    /// Those of another, behind so many here.
     #[tactic(auto, unfolding(crate::specs::Kept::joined_best))]
     pub(crate) fn join(&mut self, other: &Best<'a>, count: usize)
         requires room { count + other.now.place < 2 ^ 64 }
+        requires within { self.old.place ≤ count }
         ensures joined { self.new ≡ joined_best self.old count other.now }
+        ensures within { self.new.place ≤ count + other.now.place }
     {
         let cell = other.value.cell();
         if count == 0 || is_better(self.prefer, self.value.cell(), cell) {

@@ -1,4 +1,4 @@
-ghost use Rattle.std.specs.Prelude.{◌≡◌, ◌<◌, ◌++◌, ◌∷◌, [], OnOk, OnErr, length, if◌then◌else◌};
+ghost use Rattle.std.specs.Prelude.{◌≡◌, ◌↔◌, [], IsTrue, OnErr, OnOk, length};
 ghost use Rattle.indexmap.specs.IndexSet.{insert_key};
 ghost use Rattle.kql_cells.specs.Keys.{same_key};
 ghost use Rattle.kql_cells.specs.Seen.{seen};
@@ -48,6 +48,13 @@ impl<'a> Held<'a> {
     }
 }
 
+// Whether two show the same value.
+fn same_value(a: &Held<'_>, b: &Held<'_>) -> bool
+    ensures { IsTrue result ↔ (a.now ≡ b.now) }
+{
+    a.cell().is_same(b.cell())
+}
+
 impl<'a> PartialEq for Held<'a> {
     ghost use Rattle.std.specs.Cmp.{partial_equiv_from_equiv};
     ghost use Rattle.kql_cells.specs.Keys.{same_key};
@@ -57,9 +64,8 @@ impl<'a> PartialEq for Held<'a> {
 
     ghost laws = { partial_equiv_from_equiv same_key-equiv };
 
-    #[tactic(auto, using(crate::proofs::KeyFacts::key_facts))]
     fn eq(&self, other: &Held<'a>) -> bool {
-        self.cell.is_same(other.cell)
+        same_value(self, other)
     }
 }
 

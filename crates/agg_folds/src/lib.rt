@@ -14,6 +14,7 @@ mod fold;
 mod held;
 mod laws;
 mod lists;
+mod rows;
 mod state;
 mod totals;
 

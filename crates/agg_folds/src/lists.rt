@@ -9,8 +9,55 @@ use kql_cells::CellRef;
 use kql_items::Items;
 use std::alloc::AllocError;
 
-/// Values that are lent, in their order.
-pub(crate) type HeldList<'a> = Items<Held<'a>>;
+/// Values that are lent, in their order, up to a limit where there is one.
+#[derive(Drop)]
+pub(crate) struct Listed<'a> {
+    pub(crate) limit: Option<usize>,
+    pub(crate) values: Items<Held<'a>>,
+}
+
+/// Different values that are lent, in the order in which they came, up to a limit where there is one.
+#[derive(Drop)]
+pub(crate) struct Members<'a> {
+    pub(crate) limit: Option<usize>,
+    pub(crate) values: HeldSet<'a>,
+}
+
+impl<'a> Listed<'a> {
+    /// Adds a value, where it is not null and there is room.
+    pub(crate) fn push(&mut self, cell: CellRef<'a>) -> Result<(), AllocError>
+        requires form { IsWellFormed (seen cell) }
+        ensures added { OnOk result (self.new ≡ record { limit = self.old.limit; values = with_listed self.old.limit self.old.values (seen cell.entry) }) }
+        ensures kept { OnErr result (self.new ≡ self.old) }
+    {
+        push_given(&mut self.values, self.limit, cell)
+    }
+
+    /// Adds the values of another, as far as there is room.
+    pub(crate) fn join(&mut self, other: &Listed<'a>) -> Result<(), AllocError>
+        ensures joined { OnOk result (self.new ≡ record { limit = self.old.limit; values = joined_list self.old.limit self.old.values other.now.values }) }
+    {
+        push_all(&mut self.values, self.limit, other.values.as_slice())
+    }
+}
+
+impl<'a> Members<'a> {
+    /// Adds a value, where it is not null and not there and there is room.
+    pub(crate) fn insert(&mut self, cell: CellRef<'a>) -> Result<(), AllocError>
+        requires form { IsWellFormed (seen cell) }
+        ensures added { OnOk result (self.new ≡ record { limit = self.old.limit; values = with_member self.old.limit self.old.values (seen cell.entry) }) }
+        ensures kept { OnErr result (self.new ≡ self.old) }
+    {
+        insert_given(&mut self.values, self.limit, cell)
+    }
+
+    /// Adds the values of another, as far as there is room.
+    pub(crate) fn join(&mut self, other: &Members<'a>) -> Result<(), AllocError>
+        ensures joined { OnOk result (self.new ≡ record { limit = self.old.limit; values = joined_set self.old.limit self.old.values other.now.values }) }
+    {
+        insert_all(&mut self.values, self.limit, other.values.as_slice())
+    }
+}
 
 #[tactic(auto, unfolding(crate::specs::Kept::has_room))]
 fn has_room(limit: Option<usize>, count: usize) -> bool
@@ -24,8 +71,8 @@ fn has_room(limit: Option<usize>, count: usize) -> bool
 
 /// Adds a value to a list, where it is not null and there is room.
 #[tactic(auto, unfolding(crate::specs::Kept::with_listed))]
-pub(crate) fn push_given<'a>(
-    list: &mut HeldList<'a>,
+fn push_given<'a>(
+    list: &mut Items<Held<'a>>,
     limit: Option<usize>,
     cell: CellRef<'a>,
 ) -> Result<(), AllocError>
@@ -58,8 +105,8 @@ pub(crate) fn insert_given<'a>(
 
 /// Adds the values of another list, as far as there is room.
 #[tactic(auto, unfolding(crate::specs::Kept::joined_list))]
-pub(crate) fn push_all<'a>(
-    list: &mut HeldList<'a>,
+fn push_all<'a>(
+    list: &mut Items<Held<'a>>,
     limit: Option<usize>,
     more: &[Held<'a>],
 ) -> Result<(), AllocError>

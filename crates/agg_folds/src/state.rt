@@ -1,16 +1,16 @@
-ghost use Rattle.std.specs.Prelude.{◌≡◌, ◌<◌, ◌≤◌, ◌+◌, ◌^◌, [], IfOk, OnOk, OnErr};
+ghost use Rattle.std.specs.Prelude.{◌≡◌, ◌<◌, ◌≤◌, ◌+◌, ◌^◌, IfOk, OnErr, OnOk};
 ghost use Rattle.kql_cells.specs.Seen.{seen};
 ghost use Rattle.kql_cells.specs.Values.{IsWellFormed};
 ghost use Rattle.kql_scalar_fns.specs.Arguments.{long_or_null};
-ghost use Rattle.agg_folds.specs.States.{IsBounded, joined, place_in, pushed, started, value_in};
+ghost use Rattle.agg_folds.specs.States.{IsBounded, joined, no_best, no_bits, no_list, no_set, place_in, pushed, started, value_in};
 
 use crate::best::{Best, Prefer};
-use crate::bits::{BitOp, both_of};
+use crate::bits::{BitOp, Bits};
 use crate::call::FoldCall;
 use crate::cells::number_of;
 use crate::elements::listed;
 use crate::held::HeldSet;
-use crate::lists::{HeldList, insert_all, insert_given, push_all, push_given};
+use crate::lists::{Listed, Members, insert_all, insert_given};
 use crate::totals::{counted, fitted, with_number, with_total};
 use kql_cells::{CellRef, Kind, Value};
 use kql_functions::Aggregate;
@@ -26,46 +26,43 @@ pub(crate) enum State<'a> {
     Total(Option<Kind>, i128),
     /// The one that is chosen.
     Best(Best<'a>),
-    /// The bits of all, and none where no number came.
-    Bits(BitOp, Option<i64>),
-    /// Those that are not null, up to a limit.
-    List(Option<usize>, HeldList<'a>),
-    /// Those that are not null, each once, up to a limit.
-    Set(Option<usize>, HeldSet<'a>),
+    /// The bits of all.
+    Bits(Bits),
+    /// Those that are not null.
+    List(Listed<'a>),
+    /// Those that are not null, each once.
+    Set(Members<'a>),
     /// Those that are not null, each once, to be counted.
     Distinct(HeldSet<'a>),
 }
 
 impl<'a> State<'a> {
     /// What is kept before a value came.
-    #[tactic(auto, unfolding(crate::specs::States::started))]
+    #[tactic(auto, using(crate::proofs::StateLaws::started_facts), unfolding(crate::specs::States::started, crate::specs::States::state_of))]
     pub(crate) fn new(alloc: Global, call: FoldCall) -> State<'a>
         ensures { result ≡ started call }
     {
         match call.aggregate {
-            Aggregate::Count | Aggregate::CountIf => State::Count,
-            Aggregate::CountDistinct | Aggregate::CountDistinctIf => State::Distinct(HeldSet::new(
-                alloc,
-            )),
-            Aggregate::Sum | Aggregate::SumIf => State::Total(call.kind, 0),
-            Aggregate::Min | Aggregate::MinIf | Aggregate::ArgMin => State::Best(Best::new(
-                Prefer::Least,
-            )),
-            Aggregate::Max | Aggregate::MaxIf | Aggregate::ArgMax => State::Best(Best::new(
-                Prefer::Greatest,
-            )),
-            Aggregate::MakeList | Aggregate::MakeListIf => State::List(
-                call.limit,
-                Items::new(alloc),
-            ),
-            Aggregate::MakeSet | Aggregate::MakeSetIf => State::Set(
-                call.limit,
-                HeldSet::new(alloc),
-            ),
-            Aggregate::TakeAny => State::Best(Best::new(Prefer::First)),
-            Aggregate::BinaryAllAnd => State::Bits(BitOp::And, None),
-            Aggregate::BinaryAllOr => State::Bits(BitOp::Or, None),
-            Aggregate::BinaryAllXor => State::Bits(BitOp::Xor, None),
+            Aggregate::Count => State::Count,
+            Aggregate::CountIf => State::Count,
+            Aggregate::CountDistinct => State::Distinct(HeldSet::new(alloc)),
+            Aggregate::CountDistinctIf => State::Distinct(HeldSet::new(alloc)),
+            Aggregate::Sum => State::Total(call.kind, 0),
+            Aggregate::SumIf => State::Total(call.kind, 0),
+            Aggregate::Min => best(Prefer::Least),
+            Aggregate::MinIf => best(Prefer::Least),
+            Aggregate::Max => best(Prefer::Greatest),
+            Aggregate::MaxIf => best(Prefer::Greatest),
+            Aggregate::MakeList => list(alloc, call.limit),
+            Aggregate::MakeListIf => list(alloc, call.limit),
+            Aggregate::MakeSet => set(alloc, call.limit),
+            Aggregate::MakeSetIf => set(alloc, call.limit),
+            Aggregate::ArgMax => best(Prefer::Greatest),
+            Aggregate::ArgMin => best(Prefer::Least),
+            Aggregate::TakeAny => best(Prefer::First),
+            Aggregate::BinaryAllAnd => bits(BitOp::And),
+            Aggregate::BinaryAllOr => bits(BitOp::Or),
+            Aggregate::BinaryAllXor => bits(BitOp::Xor),
         }
     }
 
@@ -89,18 +86,18 @@ impl<'a> State<'a> {
                 best.meet(cell, count);
                 Ok(())
             }
-            State::Bits(op, bits) => {
-                *bits = both_of(*op, *bits, number_of(cell));
+            State::Bits(bits) => {
+                bits.meet(number_of(cell));
                 Ok(())
             }
-            State::List(limit, list) => push_given(list, *limit, cell),
-            State::Set(limit, set) => insert_given(set, *limit, cell),
+            State::List(list) => list.push(cell),
+            State::Set(set) => set.insert(cell),
             State::Distinct(set) => insert_given(set, None, cell),
         }
     }
 
     /// What is kept of others, behind so many here. Without memory some of them may have been taken.
-    #[tactic(auto, unfolding(crate::specs::States::joined, crate::specs::States::IsBounded))]
+    #[tactic(auto, using(crate::proofs::TotalFacts::total_facts), unfolding(crate::specs::States::joined, crate::specs::States::IsBounded))]
     pub(crate) fn join(
         &mut self,
         other: &State<'a>,
@@ -114,40 +111,43 @@ impl<'a> State<'a> {
         ensures bounded { OnOk result (IsBounded (count + more) self.new) }
         ensures kept { OnErr result (IsBounded count self.new) }
     {
-        match (self, other) {
-            (State::Total(_, total), State::Total(_, further)) => {
-                *total = with_total(*total, *further, count, more);
+        match self {
+            State::Count => Ok(()),
+            State::Total(_, total) => {
+                if let State::Total(_, further) = other {
+                    *total = with_total(*total, *further, count, more);
+                }
                 Ok(())
             }
-            (State::Best(best), State::Best(further)) => {
-                best.join(further, count);
+            State::Best(best) => {
+                if let State::Best(further) = other {
+                    best.join(further, count);
+                }
                 Ok(())
             }
-            (State::Bits(op, bits), State::Bits(_, further)) => {
-                *bits = both_of(*op, *bits, *further);
+            State::Bits(bits) => {
+                if let State::Bits(further) = other {
+                    bits.meet(further.number);
+                }
                 Ok(())
             }
-            (State::List(limit, list), State::List(_, further)) => push_all(
-                list,
-                *limit,
-                further.as_slice(),
-            ),
-            (State::Set(limit, set), State::Set(_, further)) => insert_all(
-                set,
-                *limit,
-                further.as_slice(),
-            ),
-            (State::Distinct(set), State::Distinct(further)) => insert_all(
-                set,
-                None,
-                further.as_slice(),
-            ),
-            _ => Ok(()),
+            State::List(list) => match other {
+                State::List(further) => list.join(further),
+                _ => Ok(()),
+            },
+            State::Set(set) => match other {
+                State::Set(further) => set.join(further),
+                _ => Ok(()),
+            },
+            State::Distinct(set) => match other {
+                State::Distinct(further) => insert_all(set, None, further.as_slice()),
+                _ => Ok(()),
+            },
         }
     }
 
     /// The value that the aggregate has over so many values.
-    #[tactic(auto, unfolding(crate::specs::States::value_in))]
+    #[tactic(auto, unfolding(crate::specs::States::value_in, kql_meaning::specs::Numbers::counted))]
     pub(crate) fn value(&self, alloc: Global, count: usize) -> Result<Value, AllocError>
         ensures value { IfOk result (λ v. v ≡ value_in self.now count) }
     {
@@ -155,9 +155,9 @@ impl<'a> State<'a> {
             State::Count => Ok(counted(count)),
             State::Total(kind, total) => Ok(fitted(*kind, *total)),
             State::Best(best) => best.value.cell().to_value(alloc),
-            State::Bits(_, bits) => Ok(long_or_null(*bits)),
-            State::List(_, list) => listed(alloc, list.as_slice()),
-            State::Set(_, set) => listed(alloc, set.as_slice()),
+            State::Bits(bits) => Ok(long_or_null(bits.number)),
+            State::List(list) => listed(alloc, list.values.as_slice()),
+            State::Set(set) => listed(alloc, set.values.as_slice()),
             State::Distinct(set) => Ok(counted(set.len())),
         }
     }
@@ -172,6 +172,36 @@ impl<'a> State<'a> {
             _ => 0,
         }
     }
+}
+
+fn best<'a>(prefer: Prefer) -> State<'a>
+    ensures { result ≡ no_best prefer }
+{
+    State::Best(Best::new(prefer))
+}
+
+fn bits<'a>(op: BitOp) -> State<'a>
+    ensures { result ≡ no_bits op }
+{
+    State::Bits(Bits { op, number: None })
+}
+
+fn list<'a>(alloc: Global, limit: Option<usize>) -> State<'a>
+    ensures { result ≡ no_list limit }
+{
+    State::List(Listed {
+        limit,
+        values: Items::new(alloc),
+    })
+}
+
+fn set<'a>(alloc: Global, limit: Option<usize>) -> State<'a>
+    ensures { result ≡ no_set limit }
+{
+    State::Set(Members {
+        limit,
+        values: HeldSet::new(alloc),
+    })
 }
 
 fn long_or_null(n: Option<i64>) -> Value
