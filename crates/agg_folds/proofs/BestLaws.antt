@@ -1,7 +1,7 @@
 -- One value more behind the best of several, and its place.
-use Rattle.std.proofs.Common.{◌≡◌, ◌⊎◌, ◌||◌, ◌&&◌, ◌++◌, ◌∷◌, ◌∙◌, ◌==◌, ℕ, ℤ, suc, Bool, true, false, not, if◌then◌else◌, List, [], fold, length, refl, sym, ap, inl, inr, arith}
-use Rattle.std.specs.Prelude.{◌<ℤ◌}
-use Rattle.std.specs.List.{list_any, position_or_len}
+use Rattle.std.proofs.Common.{◌≡◌, ◌⊎◌, ◌||◌, ◌&&◌, ◌++◌, ◌∷◌, ◌∙◌, ◌==◌, ◌+◌, ℕ, ℤ, suc, Bool, true, false, not, if◌then◌else◌, List, [], fold, length, refl, sym, ap, inl, inr, arith, subst}
+use Rattle.std.specs.Prelude.{◌<ℤ◌, ◌≤ℤ◌}
+use Rattle.std.specs.List.{AllByRecursion, list_any, position_or_len}
 use Rattle.std.specs.Cmp.{int_ranks}
 use Rattle.std.specs.Ordering.{MatchOrdering, int_cmp, is_lt}
 use Rattle.std.specs.declared.cmp.Ordering.{Ordering}
@@ -10,16 +10,20 @@ use Rattle.std.proofs.lemmas.Bool.{cases_Bool}
 use Rattle.std.proofs.lemmas.Int.{ints}
 use Rattle.std.proofs.lemmas.List.Sums.{fold-append}
 use Rattle.kql_cells.specs.Keys.{is_null, same_key, same_key-decides}
+use Rattle.kql_cells.specs.Values.{IsOfKind}
+use Rattle.kql_cells.specs.declared.value.Kind.{Kind}
+use Rattle.kql_cells.specs.declared.value.Kind.TheVariants as kind
 use Rattle.kql_cells.specs.declared.value.Value.{Value}
 use Rattle.kql_cells.specs.declared.value.Value.TheVariants as value
 use Rattle.kql_scalar_fns.specs.Choice.{greater, greatest, is_below, least, lesser}
 use Rattle.kql_scalar_fns.specs.Comparison.{order}
+use Rattle.kql_scalar_fns.proofs.KindLaws.{by-long, by-moment, by-span}
 use Rattle.kql_meaning.specs.Results.{greatest_row, least_row, row_of}
 use Rattle.agg_folds.specs.declared.best.Best.{Best}
 use Rattle.agg_folds.specs.declared.best.Prefer.{Prefer}
 use Rattle.agg_folds.specs.declared.best.Prefer.TheVariants as prefer
-use Rattle.agg_folds.specs.Kept.{is_better, met}
-use Rattle.agg_folds.proofs.ListLaws.{position-last, position-more}
+use Rattle.agg_folds.specs.Kept.{is_better, joined_best, met}
+use Rattle.agg_folds.proofs.ListLaws.{position-behind, position-last, position-more}
 
 -- Null.
 
@@ -279,6 +283,90 @@ module _
         let e : best (vs ++ v ∷ []) ≡ best vs = best-push vs v ∙ not-picked (best vs) v h in
         (e, ap (λ m. position_or_len (same_key m) (vs ++ v ∷ [])) e ∙ position-more (same_key (best vs)) vs (v ∷ []) (one-of-them w ws))
 
+    -- The best of values behind others, where the test tells apart all values of a sort.
+
+    pick-null : (b v : Value) → is_null b ≡ true → pick b v ≡ v
+    pick-null b v t = rw t refl
+
+    pick-worse : (b v : Value) → is_null b ≡ false → worse b v ≡ true → pick b v ≡ v
+    pick-worse b v f t = rw (f, t) refl
+
+    pick-other : (b v : Value) → is_null b ≡ false → worse b v ≡ false → pick b v ≡ b
+    pick-other b v f g = rw (f, g) refl
+
+    pick-end : (b : Value) → pick b value.Null ≡ b
+    pick-end b = elim (cases_Bool (is_null b)) [
+      | inl t ↦ pick-null b value.Null t ∙ sym (null-is b t)
+      | inr f ↦ pick-other b value.Null f (worse-null b)
+    ]
+
+    pick-first : (v : Value) → pick value.Null v ≡ v
+    unfolding is_null
+    pick-first v = refl
+
+    module _ (Of : Value → Type 0) (none : Of value.Null) (open_end : (a b c : Value) → Of a → Of b → Of c → worse a b ≡ false → worse b c ≡ false → is_null b ≡ false → worse a c ≡ false) where
+      pick-assoc : (a b c : Value) → Of a → Of b → Of c → pick (pick a b) c ≡ pick a (pick b c)
+      pick-assoc a b c p q r = elim (cases_Bool (is_null a)) [
+        | inl t ↦ ap (λ x. pick x c) (pick-null a b t) ∙ sym (pick-null a (pick b c) t)
+        | inr f ↦ elim (cases_Bool (worse a b)) [
+          | inl s ↦
+              let g = given-where-better a b s in
+              let left : pick (pick a b) c ≡ pick b c = ap (λ x. pick x c) (pick-worse a b f s) in
+              elim (cases_Bool (worse b c)) [
+                | inl u ↦
+                    let e : pick b c ≡ c = pick-worse b c g u in
+                    left ∙ (e ∙ sym (ap (pick a) e ∙ pick-worse a c f (worse-through a b c s u)))
+                | inr u ↦
+                    let e : pick b c ≡ b = pick-other b c g u in
+                    left ∙ (e ∙ sym (ap (pick a) e ∙ pick-worse a b f s))
+              ]
+          | inr s ↦
+              let left : pick (pick a b) c ≡ pick a c = ap (λ x. pick x c) (pick-other a b f s) in
+              elim (cases_Bool (is_null b)) [
+                | inl t ↦ left ∙ sym (ap (pick a) (pick-null b c t))
+                | inr g ↦ elim (cases_Bool (worse b c)) [
+                  | inl u ↦ left ∙ sym (ap (pick a) (pick-worse b c g u))
+                  | inr u ↦ left ∙ (pick-other a c f (open_end a b c p q r s u g) ∙ sym (ap (pick a) (pick-other b c g u) ∙ pick-other a b f s))
+                ]
+              ]
+        ]
+      ]
+
+      of-pick : (b v : Value) → Of b → Of v → Of (pick b v)
+      of-pick b v p q = elim (cases_Bool (is_null b)) [
+        | inl t ↦ subst (λ (x : Value). Of x) (sym (pick-null b v t)) q
+        | inr f ↦ elim (cases_Bool (worse b v)) [
+          | inl s ↦ subst (λ (x : Value). Of x) (sym (pick-worse b v f s)) q
+          | inr s ↦ subst (λ (x : Value). Of x) (sym (pick-other b v f s)) p
+        ]
+      ]
+
+      of-best : (vs : List Value) (b : Value) → Of b → AllByRecursion Of vs → Of (fold pick b vs)
+      of-best [] b p h = p
+      of-best (v ∷ vs) b p h = of-best vs (pick b v) (of-pick b v p h.0) h.1
+
+      best-behind : (vs : List Value) (b : Value) → Of b → AllByRecursion Of vs → fold pick b vs ≡ pick b (best vs)
+      best-behind [] b p h = sym (pick-end b)
+      best-behind (v ∷ vs) b p h =
+          let first : best (v ∷ vs) ≡ fold pick v vs = ap (λ x. fold pick x vs) (pick-first v) in
+          best-behind vs (pick b v) (of-pick b v p h.0) h.1
+          ∙ (pick-assoc b v (best vs) p h.0 (of-best vs value.Null none h.1)
+          ∙ sym (ap (pick b) (first ∙ best-behind vs v h.0 h.1)))
+
+      best-join : (vs ws : List Value) → AllByRecursion Of vs → AllByRecursion Of ws → best (vs ++ ws) ≡ pick (best vs) (best ws)
+      best-join vs ws h k = fold-append pick value.Null vs ws ∙ best-behind ws (best vs) (of-best vs value.Null none h) k
+
+      pub joined-better : (vs ws : List Value) → AllByRecursion Of vs → AllByRecursion Of ws → better (best vs) (best ws) ≡ true → (best (vs ++ ws) ≡ best ws) × (place (vs ++ ws) ≡ length vs + place ws)
+      joined-better vs ws h k t =
+          let e : best (vs ++ ws) ≡ best ws = best-join vs ws h k ∙ picked (best vs) (best ws) t in
+          (e, ap (λ m. position_or_len (same_key m) (vs ++ ws)) e ∙ position-behind (same_key (best ws)) vs ws (not-among vs value.Null (best ws) t))
+
+      pub joined-other : (w : Value) (more ws : List Value) → AllByRecursion Of (w ∷ more) → AllByRecursion Of ws → better (best (w ∷ more)) (best ws) ≡ false → (best ((w ∷ more) ++ ws) ≡ best (w ∷ more)) × (place ((w ∷ more) ++ ws) ≡ place (w ∷ more))
+      joined-other w more ws h k t =
+          let vs = w ∷ more in
+          let e : best (vs ++ ws) ≡ best vs = best-join vs ws h k ∙ not-picked (best vs) (best ws) t in
+          (e, ap (λ m. position_or_len (same_key m) (vs ++ ws)) e ∙ position-more (same_key (best vs)) vs ws (one-of-them w more))
+
 -- The greatest and the least.
 
 abbrev above : Value → Value → Bool
@@ -320,4 +408,117 @@ least-push [] v =
 least-push (w ∷ ws) v = elim (cases_Bool (is_better prefer.Least (least (w ∷ ws)) v)) [
   | inl t ↦ let q = pushed-better above null-below below-null below-self above-through (w ∷ ws) v t in rw (some-rows w ws, t) (same-best prefer.Least _ _ _ _ q.0 q.1)
   | inr f ↦ let q = pushed-other above null-below below-null below-self above-through w ws v f in rw (some-rows w ws, f) (same-best prefer.Least _ _ _ _ q.0 q.1)
+]
+
+-- Values of one type: what is not below what is not below a third is not below it.
+
+abbrev pub IsOf : Kind → Value → Type 0
+IsOf k v = (is_null v ≡ true) ⊎ IsOfKind k v
+
+ge-of : (o : Ordering) (x y : ℤ) → MatchOrdering o (x <ℤ y) (x ≡ y) (y <ℤ x) → is_lt o ≡ false → y ≤ℤ x
+ge-of ordering.Less x y h e = cc
+ge-of ordering.Equal x y h e = grind (arith, h)
+ge-of ordering.Greater x y h e = grind (arith, h)
+
+not-below-chain : (x y z : ℤ) → is_lt (int_cmp x y) ≡ false → is_lt (int_cmp y z) ≡ false → is_lt (int_cmp x z) ≡ false
+not-below-chain x y z p q = elim (cases_Bool (is_lt (int_cmp x z))) [
+  | inl t ↦
+      let l : x <ℤ z = below-of x z t in
+      let m : y ≤ℤ x = ge-of (int_cmp x y) x y (int_ranks x y) p in
+      let n : z ≤ℤ y = ge-of (int_cmp y z) y z (int_ranks y z) q in
+      absurd (grind (arith, l, m, n))
+  | inr f ↦ f
+]
+
+kind-long : (k : Kind) (x : ℤ) → IsOfKind k (value.Long x) → k ≡ kind.Long
+kind-long kind.Bool x h = absurd h
+kind-long kind.Long x h = refl
+kind-long kind.Text x h = absurd h
+kind-long kind.Moment x h = absurd h
+kind-long kind.Span x h = absurd h
+kind-long kind.Dynamic x h = absurd h
+
+kind-moment : (k : Kind) (x : ℤ) → IsOfKind k (value.Moment x) → k ≡ kind.Moment
+kind-moment kind.Bool x h = absurd h
+kind-moment kind.Long x h = absurd h
+kind-moment kind.Text x h = absurd h
+kind-moment kind.Moment x h = refl
+kind-moment kind.Span x h = absurd h
+kind-moment kind.Dynamic x h = absurd h
+
+kind-span : (k : Kind) (x : ℤ) → IsOfKind k (value.Span x) → k ≡ kind.Span
+kind-span kind.Bool x h = absurd h
+kind-span kind.Long x h = absurd h
+kind-span kind.Text x h = absurd h
+kind-span kind.Moment x h = absurd h
+kind-span kind.Span x h = refl
+kind-span kind.Dynamic x h = absurd h
+
+abbrev Chained : Value → Value → Value → Type 0
+Chained a b c = is_below a b ≡ false → is_below b c ≡ false → is_null b ≡ false → is_below a c ≡ false
+
+of-null : (a b c : Value) → is_null c ≡ true → Chained a b c
+of-null a b c t p q n = let e : c ≡ value.Null = null-is c t in rw e (below-null a)
+
+through-null : (a b c : Value) → is_null b ≡ true → Chained a b c
+through-null a b c t p q n = let e : true ≡ false = sym t ∙ n in cc
+
+longs : (x : ℤ) (b c : Value) → IsOfKind kind.Long b → IsOfKind kind.Long c → Chained (value.Long x) b c
+unfolding order is_null
+longs x b c h k = by-long (λ b. Chained (value.Long x) b c) (λ p q n. cc) (λ y. by-long (λ c. Chained (value.Long x) (value.Long y) c) (λ p q n. refl) (λ z p q n. not-below-chain x y z p q) c k) b h
+
+moments : (x : ℤ) (b c : Value) → IsOfKind kind.Moment b → IsOfKind kind.Moment c → Chained (value.Moment x) b c
+unfolding order is_null
+moments x b c h k = by-moment (λ b. Chained (value.Moment x) b c) (λ p q n. cc) (λ y. by-moment (λ c. Chained (value.Moment x) (value.Moment y) c) (λ p q n. refl) (λ z p q n. not-below-chain x y z p q) c k) b h
+
+spans : (x : ℤ) (b c : Value) → IsOfKind kind.Span b → IsOfKind kind.Span c → Chained (value.Span x) b c
+unfolding order is_null
+spans x b c h k = by-span (λ b. Chained (value.Span x) b c) (λ p q n. cc) (λ y. by-span (λ c. Chained (value.Span x) (value.Span y) c) (λ p q n. refl) (λ z p q n. not-below-chain x y z p q) c k) b h
+
+of-number : (k : Kind) (a b c : Value) → ((h : IsOfKind k b) → (g : IsOfKind k c) → Chained a b c) → IsOf k b → IsOf k c → Chained a b c
+of-number k a b c f (inl s) g = through-null a b c s
+of-number k a b c f (inr h) (inl t) = of-null a b c t
+of-number k a b c f (inr h) (inr g) = f h g
+
+as-kind : (k j : Kind) (v : Value) → k ≡ j → IsOfKind k v → IsOfKind j v
+as-kind k j v e h = subst (λ (i : Kind). IsOfKind i v) e h
+
+below-chained : (k : Kind) (a b c : Value) → IsOf k a → IsOf k b → IsOf k c → Chained a b c
+unfolding order is_null
+below-chained k value.Null b c i j l p q n = refl
+below-chained k (value.Bool x) b c i j l p q n = refl
+below-chained k (value.Long x) b c (inl s) j l p q n = cc
+below-chained k (value.Long x) b c (inr i) j l p q n =
+    let e = kind-long k x i in of-number k (value.Long x) b c (λ h g. longs x b c (as-kind k kind.Long b e h) (as-kind k kind.Long c e g)) j l p q n
+below-chained k (value.Text x) b c i j l p q n = refl
+below-chained k (value.Moment x) b c (inl s) j l p q n = cc
+below-chained k (value.Moment x) b c (inr i) j l p q n =
+    let e = kind-moment k x i in of-number k (value.Moment x) b c (λ h g. moments x b c (as-kind k kind.Moment b e h) (as-kind k kind.Moment c e g)) j l p q n
+below-chained k (value.Span x) b c (inl s) j l p q n = cc
+below-chained k (value.Span x) b c (inr i) j l p q n =
+    let e = kind-span k x i in of-number k (value.Span x) b c (λ h g. spans x b c (as-kind k kind.Span b e h) (as-kind k kind.Span c e g)) j l p q n
+below-chained k (value.Dynamic x) b c i j l p q n = refl
+
+null-of : (k : Kind) → IsOf k value.Null
+unfolding is_null
+null-of k = inl refl
+
+-- The other way round: a may be null.
+above-chained : (k : Kind) (a b c : Value) → IsOf k a → IsOf k b → IsOf k c → above a b ≡ false → above b c ≡ false → is_null b ≡ false → above a c ≡ false
+above-chained k a b c i j l p q n = below-chained k c b a l j i q p n
+
+pub greatest-join : (k : Kind) (vs ws : List Value) → AllByRecursion (IsOf k) vs → AllByRecursion (IsOf k) ws → greatest_best (vs ++ ws) ≡ joined_best (greatest_best vs) (length vs) (greatest_best ws)
+unfolding joined_best is_better greatest greater greatest_row row_of
+greatest-join k [] ws h g = same-best prefer.Greatest _ _ _ _ refl (omega arith)
+greatest-join k (w ∷ more) ws h g = elim (cases_Bool (is_better prefer.Greatest (greatest (w ∷ more)) (greatest ws))) [
+  | inl t ↦ let q = joined-better is_below below-null null-below below-self below-through (IsOf k) (null-of k) (below-chained k) (w ∷ more) ws h g t in rw (some-rows w more, t) (same-best prefer.Greatest _ _ _ _ q.0 q.1)
+  | inr f ↦ let q = joined-other is_below below-null null-below below-self below-through (IsOf k) (null-of k) (below-chained k) w more ws h g f in rw (some-rows w more, f) (same-best prefer.Greatest _ _ _ _ q.0 q.1)
+]
+
+pub least-join : (k : Kind) (vs ws : List Value) → AllByRecursion (IsOf k) vs → AllByRecursion (IsOf k) ws → least_best (vs ++ ws) ≡ joined_best (least_best vs) (length vs) (least_best ws)
+unfolding joined_best is_better least lesser least_row row_of
+least-join k [] ws h g = same-best prefer.Least _ _ _ _ refl (omega arith)
+least-join k (w ∷ more) ws h g = elim (cases_Bool (is_better prefer.Least (least (w ∷ more)) (least ws))) [
+  | inl t ↦ let q = joined-better above null-below below-null below-self above-through (IsOf k) (null-of k) (above-chained k) (w ∷ more) ws h g t in rw (some-rows w more, t) (same-best prefer.Least _ _ _ _ q.0 q.1)
+  | inr f ↦ let q = joined-other above null-below below-null below-self above-through (IsOf k) (null-of k) (above-chained k) w more ws h g f in rw (some-rows w more, f) (same-best prefer.Least _ _ _ _ q.0 q.1)
 ]

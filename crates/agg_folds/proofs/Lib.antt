@@ -3,6 +3,8 @@ pub mod CallFacts
 pub mod CellFacts
 pub mod FoldLaws
 pub mod FormFacts
+pub mod JoinLaws
+pub mod JoinStates
 pub mod KeyFacts
 pub mod ListLaws
 pub mod RowLaws

@@ -41,6 +41,10 @@ pub position-last : {X : Type 0} (p : X → Bool) (xs : List X) (x : X) → list
 position-last p [] x e t = rw t refl
 position-last p (y ∷ xs) x e t = let q = or-none (p y) (list_any p xs) e in let next : 1 + length xs ≡ suc (length xs) = omega arith in rw q.0 (ap (λ n. 1 + n) (position-last p xs x q.1 t) ∙ next)
 
+pub position-behind : {X : Type 0} (p : X → Bool) (xs ys : List X) → list_any p xs ≡ false → position_or_len p (xs ++ ys) ≡ length xs + position_or_len p ys
+position-behind p [] ys e = omega arith
+position-behind p (x ∷ xs) ys e = let q = or-none (p x) (list_any p xs) e in let rest = position-behind p xs ys q.1 in rw q.0 (omega (arith, rest))
+
 -- The distinct ones.
 
 module _ {X : Type 0} (same : X → X → Bool) (says : (a b : X) → Decides (same a b) (a ≡ b)) where
@@ -92,13 +96,13 @@ given-more vs v e = filter-append (λ w. not (is_null w)) vs (v ∷ []) ∙ rw e
 
 -- Up to a number.
 
-lt-true : (a b : ℕ) → a < b → nat_lt a b ≡ true
+pub lt-true : (a b : ℕ) → a < b → nat_lt a b ≡ true
 lt-true a b lt = grind arith
 
-lt-false : (a b : ℕ) → b ≤ a → nat_lt a b ≡ false
+pub lt-false : (a b : ℕ) → b ≤ a → nat_lt a b ≡ false
 lt-false a b le = grind arith
 
-cases-lt : (a b : ℕ) → (a < b) ⊎ (b ≤ a)
+pub cases-lt : (a b : ℕ) → (a < b) ⊎ (b ≤ a)
 cases-lt a b = grind arith
 
 pub listed-push : (limit : Option ℕ) (vs : List Value) (v : Value) → up_to limit (given (vs ++ v ∷ [])) ≡ with_listed limit (up_to limit (given vs)) v
@@ -133,13 +137,13 @@ unfolding distinct_given
 set-push-more vs v f = ap (distinct_by same_key) (given-more vs v f) ∙ distinct-push same_key same_key-decides (given vs) v
 
 -- An insert into the first n of a list.
-inserted-within : (n : ℕ) (D : List Value) (v : Value) → length D < n → take n (insert_key same_key D v) ≡ insert_key same_key D v
+pub inserted-within : (n : ℕ) (D : List Value) (v : Value) → length D < n → take n (insert_key same_key D v) ≡ insert_key same_key D v
 inserted-within n D v lt = elim (cases_Bool (list_any (same_key v) D)) [
   | inl t ↦ rw t (take_all n D (omega (arith, lt)))
   | inr f ↦ let long : length (D ++ v ∷ []) ≤ n = omega (arith, lt, length-append D (v ∷ [])) in rw f (take_all n (D ++ v ∷ []) long)
 ]
 
-inserted-beyond : (n : ℕ) (D : List Value) (v : Value) → n ≤ length D → take n (insert_key same_key D v) ≡ take n D
+pub inserted-beyond : (n : ℕ) (D : List Value) (v : Value) → n ≤ length D → take n (insert_key same_key D v) ≡ take n D
 inserted-beyond n D v le = elim (cases_Bool (list_any (same_key v) D)) [
   | inl t ↦ rw t refl
   | inr f ↦ rw f (take-append-le n D (v ∷ []) le)

@@ -28,13 +28,13 @@ kept-push call vs v =
 
 -- A row of which nothing is taken, and one of which a value is.
 pub row-passed : (call : FoldCall) (rows : List (List Value)) (row : List Value) (old : Kept) → old ≡ fold_of call rows → taken old.aggregate row ≡ None → old ≡ fold_of call (rows ++ row ∷ [])
-unfolding fold_of
+unfolding fold_of kept_of
 row-passed call rows row old e t =
     let f : taken call.aggregate row ≡ None = sym (ap (λ (k : Kept). taken k.aggregate row) e) ∙ t in
     e ∙ sym (ap (kept_of call) (taken-push call.aggregate rows row ∙ rw f (append-nil (taken_of call.aggregate rows))))
 
 pub row-taken : (call : FoldCall) (rows : List (List Value)) (row : List Value) (v : Value) (old new : Kept) → old ≡ fold_of call rows → taken old.aggregate row ≡ Some v → new ≡ with_value old v → new ≡ fold_of call (rows ++ row ∷ [])
-unfolding fold_of
+unfolding fold_of kept_of
 row-taken call rows row v old new e t n =
     let f : taken call.aggregate row ≡ Some v = sym (ap (λ (k : Kept). taken k.aggregate row) e) ∙ t in
     let whole : taken_of call.aggregate (rows ++ row ∷ []) ≡ taken_of call.aggregate rows ++ v ∷ [] = taken-push call.aggregate rows row ∙ rw f refl in

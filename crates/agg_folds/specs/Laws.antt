@@ -1,5 +1,5 @@
 -- What folds are to the aggregates of `kql_meaning`.
-use Rattle.std.specs.Prelude.{◌≡◌, ◌<◌, ◌++◌, true, List, [], All, length, map, take}
+use Rattle.std.specs.Prelude.{◌≡◌, ◌<◌, true, List, [], All, length, map, take}
 use Rattle.kql_cells.specs.Table.{Grid}
 use Rattle.kql_cells.specs.Values.{IsOfKind}
 use Rattle.kql_cells.specs.declared.value.Kind.{Kind}
@@ -16,10 +16,11 @@ use Rattle.kql_meaning.specs.Tables.{places}
 use Rattle.agg_folds.specs.Calls.{call_of, needs}
 use Rattle.agg_folds.specs.Folds.{chosen_row, folded}
 
--- The first arguments at all these rows are of one type, or null.
+-- The first arguments at these rows and at those are of one type, or null.
 pub record HaveOneKind (rows more : List (List Value)) : Type 0 where
   pub kind : Kind
-  pub each : All (λ row. IsOfKind kind (argument row 0)) (rows ++ more)
+  pub each : All (λ row. IsOfKind kind (argument row 0)) rows
+  pub further : All (λ row. IsOfKind kind (argument row 0)) more
 
 -- What the arguments that an aggregate reads are at each row of a table.
 unfoldable pub argument_rows : Aggregate → List BExpr → Grid → List (List Value)
