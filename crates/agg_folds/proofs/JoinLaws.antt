@@ -1,6 +1,6 @@
 -- What is kept of values is joined with what is kept of values behind them.
 use Rattle.std.proofs.Common.{◌≡◌, ◌⊎◌, ◌<◌, ◌≤◌, ◌+◌, ◌-◌, ◌^◌, ◌&&◌, ◌||◌, ◌++◌, ◌∷◌, ◌∙◌, ℕ, zero, suc, ℤ, Bool, true, false, not, List, [], fold, filter, length, take, drop, refl, sym, ap, ap₂, inl, inr, arith}
-use Rattle.std.specs.Prelude.{Option, None, Some, pos, ◌+ℤ◌, filter_map}
+use Rattle.std.specs.Prelude.{FitsSigned, Option, None, Some, pos, ◌+ℤ◌, filter_map}
 use Rattle.std.specs.Int.{cast_signed, cast_unsigned, int_bit_and, int_bit_or, int_bit_xor, w64}
 use Rattle.std.specs.Int.Bits.{and_lt, bit_and, bit_or, bit_xor, xor_assoc}
 use Rattle.std.specs.List.{AllByRecursion, IsDistinct, list_all, list_any, reduce}
@@ -44,45 +44,59 @@ sum-join vs ws = fold-append (λ n w. n +ℤ added (number_of w)) (pos 0) vs ws 
 
 or-assoc : (a b c : ℕ) → bit_or (bit_or a b) c ≡ bit_or a (bit_or b c)
 or-assoc a b c = same_from_bits (bit_or (bit_or a b) c) (bit_or a (bit_or b c)) (λ i.
-  let left = bit_at_or (bit_or a b) c i in
-  let first = bit_at_or a b i in
-  let right = bit_at_or a (bit_or b c) i in
-  let second = bit_at_or b c i in
-  omega (arith, left, first, right, second))
+    let left = bit_at_or (bit_or a b) c i in
+    let first = bit_at_or a b i in
+    let right = bit_at_or a (bit_or b c) i in
+    let second = bit_at_or b c i in
+    omega (arith, left, first, right, second))
 
-fits-64 : (x : ℤ) → cast_unsigned w64 x < 2 ^ 64
-fits-64 x = grind (arith, ints)
+-- A number of 64 bits, in the bits that it is stored as.
+abbrev pub Fits : ℤ → Type 0
+Fits x = cast_unsigned w64 x < 2 ^ 64
 
-bits-assoc : (o : BitOp) (a b c : ℤ) → bits_of o (bits_of o a b) c ≡ bits_of o a (bits_of o b c)
+pub fits-stored : (x : ℤ) → FitsSigned w64 x → Fits x
+fits-stored x h = grind (arith, ints, h)
+
+fits-both : (o : BitOp) (a b : ℤ) → Fits a → Fits b → Fits (bits_of o a b)
 unfolding bits_of
-bits-assoc op.And a b c =
-    let x = cast_unsigned w64 a in
-    let y = cast_unsigned w64 b in
-    let z = cast_unsigned w64 c in
-    rw (of_z-to_z w64 (bit_and x y) (and_lt 64 x y (fits-64 a) (fits-64 b)), of_z-to_z w64 (bit_and y z) (and_lt 64 y z (fits-64 b) (fits-64 c))) (ap (cast_signed w64) (and_assoc z x y))
-bits-assoc op.Or a b c =
-    let x = cast_unsigned w64 a in
-    let y = cast_unsigned w64 b in
-    let z = cast_unsigned w64 c in
-    rw (of_z-to_z w64 (bit_or x y) (or_lt 64 x y (fits-64 a) (fits-64 b)), of_z-to_z w64 (bit_or y z) (or_lt 64 y z (fits-64 b) (fits-64 c))) (ap (cast_signed w64) (or-assoc x y z))
-bits-assoc op.Xor a b c =
-    let x = cast_unsigned w64 a in
-    let y = cast_unsigned w64 b in
-    let z = cast_unsigned w64 c in
-    rw (of_z-to_z w64 (bit_xor x y) (xor_lt 64 x y (fits-64 a) (fits-64 b)), of_z-to_z w64 (bit_xor y z) (xor_lt 64 y z (fits-64 b) (fits-64 c))) (ap (cast_signed w64) (xor_assoc x y z))
+fits-both op.And a b p q = let r = and_lt 64 (cast_unsigned w64 a) (cast_unsigned w64 b) p q in rw (of_z-to_z w64 (bit_and (cast_unsigned w64 a) (cast_unsigned w64 b)) r) r
+fits-both op.Or a b p q = let r = or_lt 64 (cast_unsigned w64 a) (cast_unsigned w64 b) p q in rw (of_z-to_z w64 (bit_or (cast_unsigned w64 a) (cast_unsigned w64 b)) r) r
+fits-both op.Xor a b p q = let r = xor_lt 64 (cast_unsigned w64 a) (cast_unsigned w64 b) p q in rw (of_z-to_z w64 (bit_xor (cast_unsigned w64 a) (cast_unsigned w64 b)) r) r
 
-fold-out : (o : BitOp) (a n : ℤ) (ns : List ℤ) → fold (bits_of o) (bits_of o a n) ns ≡ bits_of o a (fold (bits_of o) n ns)
-fold-out o a n [] = refl
-fold-out o a n (m ∷ ns) = ap (λ k. fold (bits_of o) k ns) (bits-assoc o a n m) ∙ fold-out o a (bits_of o n m) ns
+bits-assoc : (o : BitOp) (a b c : ℤ) → Fits a → Fits b → Fits c → bits_of o (bits_of o a b) c ≡ bits_of o a (bits_of o b c)
+unfolding bits_of
+bits-assoc op.And a b c p q r =
+    let x = cast_unsigned w64 a in
+    let y = cast_unsigned w64 b in
+    let z = cast_unsigned w64 c in
+    rw (of_z-to_z w64 (bit_and x y) (and_lt 64 x y p q), of_z-to_z w64 (bit_and y z) (and_lt 64 y z q r)) (ap (cast_signed w64) (and_assoc z x y))
+bits-assoc op.Or a b c p q r =
+    let x = cast_unsigned w64 a in
+    let y = cast_unsigned w64 b in
+    let z = cast_unsigned w64 c in
+    rw (of_z-to_z w64 (bit_or x y) (or_lt 64 x y p q), of_z-to_z w64 (bit_or y z) (or_lt 64 y z q r)) (ap (cast_signed w64) (or-assoc x y z))
+bits-assoc op.Xor a b c p q r =
+    let x = cast_unsigned w64 a in
+    let y = cast_unsigned w64 b in
+    let z = cast_unsigned w64 c in
+    rw (of_z-to_z w64 (bit_xor x y) (xor_lt 64 x y p q), of_z-to_z w64 (bit_xor y z) (xor_lt 64 y z q r)) (ap (cast_signed w64) (xor_assoc x y z))
 
-reduce-join : (o : BitOp) (ms ns : List ℤ) → reduce (bits_of o) (ms ++ ns) ≡ both_of o (reduce (bits_of o) ms) (reduce (bits_of o) ns)
+fits-all : (o : BitOp) (a : ℤ) (ns : List ℤ) → Fits a → AllByRecursion Fits ns → Fits (fold (bits_of o) a ns)
+fits-all o a [] p h = p
+fits-all o a (n ∷ ns) p h = fits-all o (bits_of o a n) ns (fits-both o a n p h.0) h.1
+
+fold-out : (o : BitOp) (a n : ℤ) (ns : List ℤ) → Fits a → Fits n → AllByRecursion Fits ns → fold (bits_of o) (bits_of o a n) ns ≡ bits_of o a (fold (bits_of o) n ns)
+fold-out o a n [] p q h = refl
+fold-out o a n (m ∷ ns) p q h = ap (λ k. fold (bits_of o) k ns) (bits-assoc o a n m p q h.0) ∙ fold-out o a (bits_of o n m) ns p (fits-both o n m q h.0) h.1
+
+reduce-join : (o : BitOp) (ms ns : List ℤ) → AllByRecursion Fits ms → AllByRecursion Fits ns → reduce (bits_of o) (ms ++ ns) ≡ both_of o (reduce (bits_of o) ms) (reduce (bits_of o) ns)
 unfolding both_of
-reduce-join o [] ns = refl
-reduce-join o (m ∷ ms) [] = ap (reduce (bits_of o)) (append-nil (m ∷ ms))
-reduce-join o (m ∷ ms) (n ∷ ns) = ap Some (fold-append (bits_of o) m ms (n ∷ ns) ∙ fold-out o (fold (bits_of o) m ms) n ns)
+reduce-join o [] ns h k = refl
+reduce-join o (m ∷ ms) [] h k = ap (reduce (bits_of o)) (append-nil (m ∷ ms))
+reduce-join o (m ∷ ms) (n ∷ ns) h k = ap Some (fold-append (bits_of o) m ms (n ∷ ns) ∙ fold-out o (fold (bits_of o) m ms) n ns (fits-all o m ms h.0 h.1) k.0 k.1)
 
-pub bits-join : (o : BitOp) (vs ws : List Value) → reduce (bits_of o) (filter_map number_of (vs ++ ws)) ≡ both_of o (reduce (bits_of o) (filter_map number_of vs)) (reduce (bits_of o) (filter_map number_of ws))
-bits-join o vs ws = ap (reduce (bits_of o)) (filter_map-append number_of vs ws) ∙ reduce-join o (filter_map number_of vs) (filter_map number_of ws)
+pub bits-join : (o : BitOp) (vs ws : List Value) → AllByRecursion Fits (filter_map number_of vs) → AllByRecursion Fits (filter_map number_of ws) → reduce (bits_of o) (filter_map number_of (vs ++ ws)) ≡ both_of o (reduce (bits_of o) (filter_map number_of vs)) (reduce (bits_of o) (filter_map number_of ws))
+bits-join o vs ws h k = ap (reduce (bits_of o)) (filter_map-append number_of vs ws) ∙ reduce-join o (filter_map number_of vs) (filter_map number_of ws) h k
 
 -- Values of which none is null.
 

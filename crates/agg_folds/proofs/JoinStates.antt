@@ -1,31 +1,47 @@
 -- The fold of rows is joined with the fold of the rows behind them.
-use Rattle.std.proofs.Common.{◌≡◌, ◌<◌, ◌+◌, ◌++◌, ◌∷◌, ◌∙◌, ℕ, suc, true, false, List, [], length, refl, sym, ap, ap₂, arith, inl, inr, subst}
-use Rattle.std.specs.Prelude.{Option, None, Some, filter_map}
+use Rattle.std.proofs.Common.{◌≡◌, ◌<◌, ◌+◌, ◌++◌, ◌∷◌, ◌∙◌, ℕ, suc, ℤ, true, false, List, [], length, refl, sym, ap, ap₂, arith, inl, inr, subst}
+use Rattle.std.specs.Prelude.{FitsSigned, Option, None, Some, filter_map}
+use Rattle.std.specs.Int.{w64}
 use Rattle.std.specs.List.{All, AllByRecursion, cons_option}
 use Rattle.std.proofs.lemmas.Bool.{cases_Bool}
 use Rattle.std.proofs.lemmas.List.{length-append}
 use Rattle.std.proofs.lemmas.List.Elements.{filter_map-append}
-use Rattle.kql_cells.specs.Values.{IsOfKind}
 use Rattle.kql_cells.specs.declared.value.Kind.{Kind}
 use Rattle.kql_cells.specs.declared.value.Value.{Value}
 use Rattle.kql_functions.specs.declared.aggregate.Aggregate.{Aggregate}
 use Rattle.kql_functions.specs.declared.aggregate.Aggregate.TheVariants as aggregate
 use Rattle.kql_scalar_fns.specs.Arguments.{argument}
-use Rattle.kql_meaning.specs.Values.{holds}
+use Rattle.kql_meaning.specs.Values.{holds, number_of}
 use Rattle.agg_folds.specs.declared.bits.BitOp.{BitOp}
 use Rattle.agg_folds.specs.declared.bits.BitOp.TheVariants as op
 use Rattle.agg_folds.specs.declared.call.FoldCall.{FoldCall}
 use Rattle.agg_folds.specs.declared.state.State.TheVariants as state
 use Rattle.agg_folds.specs.Folds.{taken, taken_of, where_true}
 use Rattle.agg_folds.specs.Kept.{is_better, joined_best}
-use Rattle.agg_folds.specs.Laws.{HaveOneKind}
+use Rattle.agg_folds.specs.Laws.{HaveOneKind, IsLike}
 use Rattle.agg_folds.specs.States.{Kept, bits_in, first_of, fold_of, greatest_of, joined, kept_of, least_of, list_of, set_of, state_by, state_of, with_fold}
 use Rattle.agg_folds.proofs.BestLaws.{IsOf, greatest-join, least-join, some-rows}
-use Rattle.agg_folds.proofs.JoinLaws.{bits-join, distinct-join, list-join, set-join, sum-join}
+use Rattle.agg_folds.proofs.JoinLaws.{Fits, bits-join, distinct-join, fits-stored, list-join, set-join, sum-join}
 
-bits-joined : (o : BitOp) (vs ws : List Value) → bits_in o (vs ++ ws) ≡ joined (bits_in o vs) (length vs) (bits_in o ws)
+-- Values that are alike: of one type or null, with numbers of 64 bits.
+abbrev AreAlike : Kind → List Value → Type 0
+AreAlike k vs = AllByRecursion (IsLike k) vs
+
+of-kind : (k : Kind) (vs : List Value) → AreAlike k vs → AllByRecursion (IsOf k) vs
+of-kind k [] h = tt
+of-kind k (v ∷ vs) h = (inr h.0.kind, of-kind k vs h.1)
+
+fits-more : (o : Option ℤ) (ns : List ℤ) → ((n : ℤ) → o ≡ Some n → FitsSigned w64 n) → AllByRecursion Fits ns → AllByRecursion Fits (cons_option o ns)
+fits-more None ns f h = h
+fits-more (Some n) ns f h = (fits-stored n (f n refl), h)
+
+numbers-fit : (k : Kind) (vs : List Value) → AreAlike k vs → AllByRecursion Fits (filter_map number_of vs)
+numbers-fit k [] h = tt
+numbers-fit k (v ∷ vs) h = fits-more (number_of v) (filter_map number_of vs) h.0.number (numbers-fit k vs h.1)
+
+bits-joined : (o : BitOp) (k : Kind) (vs ws : List Value) → AreAlike k vs → AreAlike k ws → bits_in o (vs ++ ws) ≡ joined (bits_in o vs) (length vs) (bits_in o ws)
 unfolding bits_in joined
-bits-joined o vs ws = ap (λ n. state.Bits (record { op = o; number = n })) (bits-join o vs ws)
+bits-joined o k vs ws h g = ap (λ n. state.Bits (record { op = o; number = n })) (bits-join o vs ws (numbers-fit k vs h) (numbers-fit k ws g))
 
 list-joined : (limit : Option ℕ) (vs ws : List Value) → list_of limit (vs ++ ws) ≡ joined (list_of limit vs) (length vs) (list_of limit ws)
 unfolding list_of joined
@@ -40,15 +56,15 @@ unfolding first_of joined joined_best is_better argument
 first-joined [] ws = refl
 first-joined (v ∷ vs) ws = rw (some-rows v vs) refl
 
-greatest-joined : (k : Kind) (vs ws : List Value) → AllByRecursion (IsOf k) vs → AllByRecursion (IsOf k) ws → greatest_of (vs ++ ws) ≡ joined (greatest_of vs) (length vs) (greatest_of ws)
+greatest-joined : (k : Kind) (vs ws : List Value) → AreAlike k vs → AreAlike k ws → greatest_of (vs ++ ws) ≡ joined (greatest_of vs) (length vs) (greatest_of ws)
 unfolding greatest_of joined
-greatest-joined k vs ws h g = ap state.Best (greatest-join k vs ws h g)
+greatest-joined k vs ws h g = ap state.Best (greatest-join k vs ws (of-kind k vs h) (of-kind k ws g))
 
-least-joined : (k : Kind) (vs ws : List Value) → AllByRecursion (IsOf k) vs → AllByRecursion (IsOf k) ws → least_of (vs ++ ws) ≡ joined (least_of vs) (length vs) (least_of ws)
+least-joined : (k : Kind) (vs ws : List Value) → AreAlike k vs → AreAlike k ws → least_of (vs ++ ws) ≡ joined (least_of vs) (length vs) (least_of ws)
 unfolding least_of joined
-least-joined k vs ws h g = ap state.Best (least-join k vs ws h g)
+least-joined k vs ws h g = ap state.Best (least-join k vs ws (of-kind k vs h) (of-kind k ws g))
 
-state-join : (f : Aggregate) (kind : Option Kind) (limit : Option ℕ) (k : Kind) (vs ws : List Value) → AllByRecursion (IsOf k) vs → AllByRecursion (IsOf k) ws → state_by f kind limit (vs ++ ws) ≡ joined (state_by f kind limit vs) (length vs) (state_by f kind limit ws)
+state-join : (f : Aggregate) (kind : Option Kind) (limit : Option ℕ) (k : Kind) (vs ws : List Value) → AreAlike k vs → AreAlike k ws → state_by f kind limit (vs ++ ws) ≡ joined (state_by f kind limit vs) (length vs) (state_by f kind limit ws)
 unfolding state_by joined
 state-join aggregate.Count kind limit k vs ws h g = refl
 state-join aggregate.CountIf kind limit k vs ws h g = refl
@@ -67,9 +83,9 @@ state-join aggregate.MakeSetIf kind limit k vs ws h g = set-joined limit vs ws
 state-join aggregate.ArgMax kind limit k vs ws h g = greatest-joined k vs ws h g
 state-join aggregate.ArgMin kind limit k vs ws h g = least-joined k vs ws h g
 state-join aggregate.TakeAny kind limit k vs ws h g = first-joined vs ws
-state-join aggregate.BinaryAllAnd kind limit k vs ws h g = bits-joined op.And vs ws
-state-join aggregate.BinaryAllOr kind limit k vs ws h g = bits-joined op.Or vs ws
-state-join aggregate.BinaryAllXor kind limit k vs ws h g = bits-joined op.Xor vs ws
+state-join aggregate.BinaryAllAnd kind limit k vs ws h g = bits-joined op.And k vs ws h g
+state-join aggregate.BinaryAllOr kind limit k vs ws h g = bits-joined op.Or k vs ws h g
+state-join aggregate.BinaryAllXor kind limit k vs ws h g = bits-joined op.Xor k vs ws h g
 
 -- What is taken of a row is its first argument.
 
@@ -103,15 +119,15 @@ taken-is aggregate.BinaryAllAnd row w e = cc
 taken-is aggregate.BinaryAllOr row w e = cc
 taken-is aggregate.BinaryAllXor row w e = cc
 
-one-more : (k : Kind) (row : List Value) (o : Option Value) (vs : List Value) → ((w : Value) → o ≡ Some w → argument row 0 ≡ w) → IsOfKind k (argument row 0) → AllByRecursion (IsOf k) vs → AllByRecursion (IsOf k) (cons_option o vs)
+one-more : (k : Kind) (row : List Value) (o : Option Value) (vs : List Value) → ((w : Value) → o ≡ Some w → argument row 0 ≡ w) → IsLike k (argument row 0) → AreAlike k vs → AreAlike k (cons_option o vs)
 one-more k row None vs e h g = g
-one-more k row (Some w) vs e h g = (inr (subst (λ (v : Value). IsOfKind k v) (e w refl) h), g)
+one-more k row (Some w) vs e h g = (subst (λ (v : Value). IsLike k v) (e w refl) h, g)
 
-of-taken : (f : Aggregate) (k : Kind) (rows : List (List Value)) → All (λ row. IsOfKind k (argument row 0)) rows → AllByRecursion (IsOf k) (filter_map (taken f) rows)
+of-taken : (f : Aggregate) (k : Kind) (rows : List (List Value)) → All (λ row. IsLike k (argument row 0)) rows → AreAlike k (filter_map (taken f) rows)
 of-taken f k [] h = tt
 of-taken f k (row ∷ rows) h = one-more k row (taken f row) (filter_map (taken f) rows) (taken-is f row) (h 0 row (omega arith)) (of-taken f k rows (λ i d l. h (suc i) d (omega arith)))
 
-kept-join : (call : FoldCall) (k : Kind) (vs ws : List Value) → AllByRecursion (IsOf k) vs → AllByRecursion (IsOf k) ws → kept_of call (vs ++ ws) ≡ with_fold (kept_of call vs) (kept_of call ws)
+kept-join : (call : FoldCall) (k : Kind) (vs ws : List Value) → AreAlike k vs → AreAlike k ws → kept_of call (vs ++ ws) ≡ with_fold (kept_of call vs) (kept_of call ws)
 unfolding kept_of with_fold state_of
 kept-join call k vs ws h g = rw (state-join call.aggregate call.kind call.limit k vs ws h g, length-append vs ws) refl
 

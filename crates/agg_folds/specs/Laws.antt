@@ -1,5 +1,6 @@
 -- What folds are to the aggregates of `kql_meaning`.
-use Rattle.std.specs.Prelude.{◌≡◌, ◌<◌, true, List, [], All, length, map, take}
+use Rattle.std.specs.Prelude.{◌≡◌, ◌<◌, true, ℤ, List, [], All, FitsSigned, Some, length, map, take}
+use Rattle.std.specs.Int.{w64}
 use Rattle.kql_cells.specs.Table.{Grid}
 use Rattle.kql_cells.specs.Values.{IsOfKind}
 use Rattle.kql_cells.specs.declared.value.Kind.{Kind}
@@ -13,14 +14,20 @@ use Rattle.kql_meaning.specs.Expressions.{reading, values_in}
 use Rattle.kql_meaning.specs.FittingExpressions.{aggregate_takes}
 use Rattle.kql_meaning.specs.Results.{compared_values, greatest_row, least_row}
 use Rattle.kql_meaning.specs.Tables.{places}
+use Rattle.kql_meaning.specs.Values.{number_of}
 use Rattle.agg_folds.specs.Calls.{call_of, needs}
 use Rattle.agg_folds.specs.Folds.{chosen_row, folded}
 
--- The first arguments at these rows and at those are of one type, or null.
+-- A value of a type, or null, whose number is one of 64 bits, where it is a number.
+pub record IsLike (k : Kind) (v : Value) : Type 0 where
+  pub kind : IsOfKind k v
+  pub number : (n : ℤ) → number_of v ≡ Some n → FitsSigned w64 n
+
+-- The first arguments at these rows and at those are of one type.
 pub record HaveOneKind (rows more : List (List Value)) : Type 0 where
   pub kind : Kind
-  pub each : All (λ row. IsOfKind kind (argument row 0)) rows
-  pub further : All (λ row. IsOfKind kind (argument row 0)) more
+  pub each : All (λ row. IsLike kind (argument row 0)) rows
+  pub further : All (λ row. IsLike kind (argument row 0)) more
 
 -- What the arguments that an aggregate reads are at each row of a table.
 unfoldable pub argument_rows : Aggregate → List BExpr → Grid → List (List Value)

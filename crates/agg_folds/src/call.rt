@@ -39,11 +39,7 @@ pub fn fold_call(
 
 // The type of the first argument, where there is one.
 #[tactic(auto, unfolding(kql_meaning::specs::Expressions::first_kind, kql_meaning::specs::Expressions::kinds_in))]
-fn first_kind(
-    alloc: Global,
-    args: &[BExpr],
-    columns: &[Column],
-) -> Result<Option<Kind>, AllocError>
+fn first_kind(alloc: Global, args: &[BExpr], columns: &[Column]) -> Result<Option<Kind>, AllocError>
     ensures kind { IfOk result (λ k. k ≡ first_kind (kinds_in args.now columns.now)) }
 {
     match args {

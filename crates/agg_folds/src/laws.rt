@@ -5,5 +5,4 @@ pub fn law_of_folds()
     ensures value { FoldIsAggregate }
     ensures greatest { ChosenIsGreatest }
     ensures least { ChosenIsLeast }
-{
-}
+{}
