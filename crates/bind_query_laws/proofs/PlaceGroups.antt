@@ -160,7 +160,7 @@ placed-series ps done place axis keys q m r = placed-twice ps [] (done.places ++
 
 -- The parts of a series that stand among some places.
 record SeriesParts (ps : Places) (operator : Place) (s : MakeSeries) : Type 0 where
-  operator : Member operator ps
+  here : Member operator ps
   items : Within (flat_map series_places s.items) ps
   axis : Member (name_place s.axis) ps
   from : Within (expr_places s.from) ps
@@ -172,18 +172,18 @@ record SeriesParts (ps : Places) (operator : Place) (s : MakeSeries) : Type 0 wh
 told-series-behind : (ps : Places) (operator : Place) (s : MakeSeries) (known : Known) (rows : Shape) (done : NamedSeries) (axis : Column) → SeriesParts ps operator s → SeriesIn ps done → ToldIn ps (constant_bound operator (wanted.Is axis.kind) known rows s.from >>= λ from. constant_bound operator (wanted.Is axis.kind) known rows s.to >>= λ to. constant_bound operator (wanted.StepOf axis.kind) known rows s.step >>= λ step. group_keys_bound known rows done.next s.keys >>= λ keys. series_answer operator rows (series_twice done (name_place s.axis) axis.name keys) (series_plan done axis from to step keys))
 told-series-behind ps operator s known rows done axis h q =
     let whole : Lit → Lit → Lit → NamedItems → Outcome BoundOp = λ from to step keys. series_answer operator rows (series_twice done (name_place s.axis) axis.name keys) (series_plan done axis from to step keys) in
-    told-then ps (constant_bound operator (wanted.Is axis.kind) known rows s.from) (λ (from : Lit). constant_bound operator (wanted.Is axis.kind) known rows s.to >>= λ to. constant_bound operator (wanted.StepOf axis.kind) known rows s.step >>= λ step. group_keys_bound known rows done.next s.keys >>= λ keys. whole from to step keys) (told-constant ps operator (wanted.Is axis.kind) known rows s.from h.operator h.from)
-    (λ from. told-then ps (constant_bound operator (wanted.Is axis.kind) known rows s.to) (λ (to : Lit). constant_bound operator (wanted.StepOf axis.kind) known rows s.step >>= λ step. group_keys_bound known rows done.next s.keys >>= λ keys. whole from to step keys) (told-constant ps operator (wanted.Is axis.kind) known rows s.to h.operator h.to)
-    (λ to. told-then ps (constant_bound operator (wanted.StepOf axis.kind) known rows s.step) (λ (step : Lit). group_keys_bound known rows done.next s.keys >>= λ keys. whole from to step keys) (told-constant ps operator (wanted.StepOf axis.kind) known rows s.step h.operator h.step)
+    told-then ps (constant_bound operator (wanted.Is axis.kind) known rows s.from) (λ (from : Lit). constant_bound operator (wanted.Is axis.kind) known rows s.to >>= λ to. constant_bound operator (wanted.StepOf axis.kind) known rows s.step >>= λ step. group_keys_bound known rows done.next s.keys >>= λ keys. whole from to step keys) (told-constant ps operator (wanted.Is axis.kind) known rows s.from h.here h.from)
+    (λ from. told-then ps (constant_bound operator (wanted.Is axis.kind) known rows s.to) (λ (to : Lit). constant_bound operator (wanted.StepOf axis.kind) known rows s.step >>= λ step. group_keys_bound known rows done.next s.keys >>= λ keys. whole from to step keys) (told-constant ps operator (wanted.Is axis.kind) known rows s.to h.here h.to)
+    (λ to. told-then ps (constant_bound operator (wanted.StepOf axis.kind) known rows s.step) (λ (step : Lit). group_keys_bound known rows done.next s.keys >>= λ keys. whole from to step keys) (told-constant ps operator (wanted.StepOf axis.kind) known rows s.step h.here h.step)
     (λ step. told-with ps (ItemsIn ps) (group_keys_bound known rows done.next s.keys) (λ (keys : NamedItems). whole from to step keys) (group-keys-given ps known rows done.next s.keys h.keys)
-    (λ keys r. told-series-answer ps operator rows (series_twice done (name_place s.axis) axis.name keys) (series_plan done axis from to step keys) h.operator (placed-series ps done (name_place s.axis) axis.name keys q h.axis r)))))
+    (λ keys r. told-series-answer ps operator rows (series_twice done (name_place s.axis) axis.name keys) (series_plan done axis from to step keys) h.here (placed-series ps done (name_place s.axis) axis.name keys q h.axis r)))))
 
 told-make-series-in : (ps : Places) (operator : Place) (s : MakeSeries) (known : Known) (rows : Shape) → SeriesParts ps operator s → ToldIn ps (make_series_bound operator s known rows)
 unfolding make_series_bound
 told-make-series-in ps operator s known rows h =
     let behind : NamedSeries → Column → Outcome BoundOp = λ done axis. constant_bound operator (wanted.Is axis.kind) known rows s.from >>= λ from. constant_bound operator (wanted.Is axis.kind) known rows s.to >>= λ to. constant_bound operator (wanted.StepOf axis.kind) known rows s.step >>= λ step. group_keys_bound known rows done.next s.keys >>= λ keys. series_answer operator rows (series_twice done (name_place s.axis) axis.name keys) (series_plan done axis from to step keys) in
-    told-with ps (SeriesIn ps) (series_bound operator known rows s.items) (λ (done : NamedSeries). axis_bound operator known rows s.axis >>= λ axis. behind done axis) (series-given ps operator known rows s.items h.operator h.items)
-    (λ done q. told-then ps (axis_bound operator known rows s.axis) (λ (axis : Column). behind done axis) (told-axis ps operator known rows s.axis h.operator (in-cons (name_place s.axis) [] ps h.axis (in-none ps))) (λ axis. told-series-behind ps operator s known rows done axis h q))
+    told-with ps (SeriesIn ps) (series_bound operator known rows s.items) (λ (done : NamedSeries). axis_bound operator known rows s.axis >>= λ axis. behind done axis) (series-given ps operator known rows s.items h.here h.items)
+    (λ done q. told-then ps (axis_bound operator known rows s.axis) (λ (axis : Column). behind done axis) (told-axis ps operator known rows s.axis h.here (in-cons (name_place s.axis) [] ps h.axis (in-none ps))) (λ axis. told-series-behind ps operator s known rows done axis h q))
 
 told-make-series : (operator : Place) (s : MakeSeries) (known : Known) (rows : Shape) → ToldIn (operator ∷ make_series_places s) (make_series_bound operator s known rows)
 told-make-series operator s known rows =
@@ -198,7 +198,7 @@ told-make-series operator s known rows =
     let more : Within of_to ps = in-right (expr_places s.from) of_to ps ends in
     let last : Within of_step ps = in-right (expr_places s.to) of_step ps more in
     told-make-series-in ps operator s known rows (record {
-      operator = inl refl;
+      here = inl refl;
       items = in-left of_items (name_place s.axis ∷ of_from) ps all;
       axis = in-head (name_place s.axis) of_from ps behind;
       from = in-left (expr_places s.from) of_to ps ends;

@@ -64,10 +64,10 @@ literal-same (literal.Typed place w text) = refl
 
 start-term-of : (y : Term-F Access Arg Cmp Sign Term And Expr Post Prod Sum) → Member (term_place_step y) (term_places (roll-Term y))
 unfolding access_places arg_places cmp_places sign_places term_places and_places expr_places post_places prod_places sum_places name_place literal_place
-start-term-of (Term-F.Literal l) = subst (λ (x : Places). Member (term_place_step (Term-F.Literal l)) x) (sym (fold-roll-Term Places Places Places Places Places Places Places Places Places Places access_places_step arg_places_step cmp_places_step sign_places_step term_places_step and_places_step expr_places_step post_places_step prod_places_step sum_places_step (Term-F.Literal l))) (inl (literal-same l))
-start-term-of (Term-F.Name n) = subst (λ (x : Places). Member (term_place_step (Term-F.Name n)) x) (sym (fold-roll-Term Places Places Places Places Places Places Places Places Places Places access_places_step arg_places_step cmp_places_step sign_places_step term_places_step and_places_step expr_places_step post_places_step prod_places_step sum_places_step (Term-F.Name n))) (inl (name-same n))
-start-term-of (Term-F.Call w args) = subst (λ (x : Places). Member (term_place_step (Term-F.Call w args)) x) (sym (fold-roll-Term Places Places Places Places Places Places Places Places Places Places access_places_step arg_places_step cmp_places_step sign_places_step term_places_step and_places_step expr_places_step post_places_step prod_places_step sum_places_step (Term-F.Call w args))) (inl refl)
-start-term-of (Term-F.Group place e) = subst (λ (x : Places). Member (term_place_step (Term-F.Group place e)) x) (sym (fold-roll-Term Places Places Places Places Places Places Places Places Places Places access_places_step arg_places_step cmp_places_step sign_places_step term_places_step and_places_step expr_places_step post_places_step prod_places_step sum_places_step (Term-F.Group place e))) (inl refl)
+start-term-of (Term-F.Literal l) = subst (λ (x : Places). Member (literal_place l) x) (sym (fold-roll-Term Places Places Places Places Places Places Places Places Places Places access_places_step arg_places_step cmp_places_step sign_places_step term_places_step and_places_step expr_places_step post_places_step prod_places_step sum_places_step (Term-F.Literal l))) (inl (literal-same l))
+start-term-of (Term-F.Name n) = subst (λ (x : Places). Member (name_place n) x) (sym (fold-roll-Term Places Places Places Places Places Places Places Places Places Places access_places_step arg_places_step cmp_places_step sign_places_step term_places_step and_places_step expr_places_step post_places_step prod_places_step sum_places_step (Term-F.Name n))) (inl (name-same n))
+start-term-of (Term-F.Call w args) = subst (λ (x : Places). Member w.place x) (sym (fold-roll-Term Places Places Places Places Places Places Places Places Places Places access_places_step arg_places_step cmp_places_step sign_places_step term_places_step and_places_step expr_places_step post_places_step prod_places_step sum_places_step (Term-F.Call w args))) (inl refl)
+start-term-of (Term-F.Group place e) = subst (λ (x : Places). Member place x) (sym (fold-roll-Term Places Places Places Places Places Places Places Places Places Places access_places_step arg_places_step cmp_places_step sign_places_step term_places_step and_places_step expr_places_step post_places_step prod_places_step sum_places_step (Term-F.Group place e))) (inl refl)
 
 start-term : (x : Term) → Member (term_place x) (term_places x)
 unfolding term_place
@@ -79,8 +79,8 @@ start-post x = subst (λ (z : Post). Member (post_start x) (post_places z)) (rol
 
 start-sign-of : (y : Sign-F Access Arg Cmp Sign Term And Expr Post Prod Sum) → Member (sign_place_step post_start y) (sign_places (roll-Sign y))
 unfolding access_places arg_places cmp_places sign_places term_places and_places expr_places post_places prod_places sum_places name_place literal_place
-start-sign-of (Sign-F.«Sign::Plain» p) = subst (λ (x : Places). Member (sign_place_step post_start (Sign-F.«Sign::Plain» p)) x) (sym (fold-roll-Sign Places Places Places Places Places Places Places Places Places Places access_places_step arg_places_step cmp_places_step sign_places_step term_places_step and_places_step expr_places_step post_places_step prod_places_step sum_places_step (Sign-F.«Sign::Plain» p))) (start-post p)
-start-sign-of (Sign-F.Minus place p) = subst (λ (x : Places). Member (sign_place_step post_start (Sign-F.Minus place p)) x) (sym (fold-roll-Sign Places Places Places Places Places Places Places Places Places Places access_places_step arg_places_step cmp_places_step sign_places_step term_places_step and_places_step expr_places_step post_places_step prod_places_step sum_places_step (Sign-F.Minus place p))) (inl refl)
+start-sign-of (Sign-F.«Sign::Plain» p) = subst (λ (x : Places). Member (post_start p) x) (sym (fold-roll-Sign Places Places Places Places Places Places Places Places Places Places access_places_step arg_places_step cmp_places_step sign_places_step term_places_step and_places_step expr_places_step post_places_step prod_places_step sum_places_step (Sign-F.«Sign::Plain» p))) (start-post p)
+start-sign-of (Sign-F.Minus place p) = subst (λ (x : Places). Member place x) (sym (fold-roll-Sign Places Places Places Places Places Places Places Places Places Places access_places_step arg_places_step cmp_places_step sign_places_step term_places_step and_places_step expr_places_step post_places_step prod_places_step sum_places_step (Sign-F.Minus place p))) (inl refl)
 
 start-sign : (x : Sign) → Member (sign_place x) (sign_places x)
 unfolding sign_place
@@ -99,10 +99,10 @@ start-sum x = subst (λ (z : Sum). Member (sum_start x) (sum_places z)) (roll-ou
 
 start-cmp-of : (y : Cmp-F Access Arg Cmp Sign Term And Expr Post Prod Sum) → Member (cmp_place_step sum_start y) (cmp_places (roll-Cmp y))
 unfolding access_places arg_places cmp_places sign_places term_places and_places expr_places post_places prod_places sum_places name_place literal_place
-start-cmp-of (Cmp-F.«Cmp::Plain» s) = subst (λ (x : Places). Member (cmp_place_step sum_start (Cmp-F.«Cmp::Plain» s)) x) (sym (fold-roll-Cmp Places Places Places Places Places Places Places Places Places Places access_places_step arg_places_step cmp_places_step sign_places_step term_places_step and_places_step expr_places_step post_places_step prod_places_step sum_places_step (Cmp-F.«Cmp::Plain» s))) (start-sum s)
-start-cmp-of (Cmp-F.Compared s sign other) = subst (λ (x : Places). Member (cmp_place_step sum_start (Cmp-F.Compared s sign other)) x) (sym (fold-roll-Cmp Places Places Places Places Places Places Places Places Places Places access_places_step arg_places_step cmp_places_step sign_places_step term_places_step and_places_step expr_places_step post_places_step prod_places_step sum_places_step (Cmp-F.Compared s sign other))) (member-left (sum_places s) _ (sum_start s) (start-sum s))
-start-cmp-of (Cmp-F.In s sign others) = subst (λ (x : Places). Member (cmp_place_step sum_start (Cmp-F.In s sign others)) x) (sym (fold-roll-Cmp Places Places Places Places Places Places Places Places Places Places access_places_step arg_places_step cmp_places_step sign_places_step term_places_step and_places_step expr_places_step post_places_step prod_places_step sum_places_step (Cmp-F.In s sign others))) (member-left (sum_places s) _ (sum_start s) (start-sum s))
-start-cmp-of (Cmp-F.Between s sign bounds) = subst (λ (x : Places). Member (cmp_place_step sum_start (Cmp-F.Between s sign bounds)) x) (sym (fold-roll-Cmp Places Places Places Places Places Places Places Places Places Places access_places_step arg_places_step cmp_places_step sign_places_step term_places_step and_places_step expr_places_step post_places_step prod_places_step sum_places_step (Cmp-F.Between s sign bounds))) (member-left (sum_places s) _ (sum_start s) (start-sum s))
+start-cmp-of (Cmp-F.«Cmp::Plain» s) = subst (λ (x : Places). Member (sum_start s) x) (sym (fold-roll-Cmp Places Places Places Places Places Places Places Places Places Places access_places_step arg_places_step cmp_places_step sign_places_step term_places_step and_places_step expr_places_step post_places_step prod_places_step sum_places_step (Cmp-F.«Cmp::Plain» s))) (start-sum s)
+start-cmp-of (Cmp-F.Compared s sign other) = subst (λ (x : Places). Member (sum_start s) x) (sym (fold-roll-Cmp Places Places Places Places Places Places Places Places Places Places access_places_step arg_places_step cmp_places_step sign_places_step term_places_step and_places_step expr_places_step post_places_step prod_places_step sum_places_step (Cmp-F.Compared s sign other))) (member-left (sum_places s) _ (sum_start s) (start-sum s))
+start-cmp-of (Cmp-F.In s sign others) = subst (λ (x : Places). Member (sum_start s) x) (sym (fold-roll-Cmp Places Places Places Places Places Places Places Places Places Places access_places_step arg_places_step cmp_places_step sign_places_step term_places_step and_places_step expr_places_step post_places_step prod_places_step sum_places_step (Cmp-F.In s sign others))) (member-left (sum_places s) _ (sum_start s) (start-sum s))
+start-cmp-of (Cmp-F.Between s sign bounds) = subst (λ (x : Places). Member (sum_start s) x) (sym (fold-roll-Cmp Places Places Places Places Places Places Places Places Places Places access_places_step arg_places_step cmp_places_step sign_places_step term_places_step and_places_step expr_places_step post_places_step prod_places_step sum_places_step (Cmp-F.Between s sign bounds))) (member-left (sum_places s) _ (sum_start s) (start-sum s))
 
 start-cmp : (x : Cmp) → Member (cmp_place x) (cmp_places x)
 unfolding cmp_place

@@ -124,13 +124,13 @@ declared-in ps (d ∷ ds) w q (inr m) = declared-in ps ds (in-right (decl_places
 
 new-names-in : (ps : Places) (id : Option Name) (ds : List Decl) → Within (named_places id) ps → Within (flat_map decl_places ds) ps → Within (names_places (new_names id ds)) ps
 unfolding new_names
-new-names-in ps None ds v w = declared-in ps ds w
+new-names-in ps None ds v w q m = declared-in ps ds w q m
 new-names-in ps (Some n) ds v w q (inl e) = v q (inl e)
 new-names-in ps (Some n) ds v w q (inr m) = declared-in ps ds w q m
 
 -- The parts of a scan that stand among some places.
 record ScanParts (ps : Places) (operator : Place) (s : Scan) : Type 0 where
-  operator : Member operator ps
+  here : Member operator ps
   match_id : Within (named_places s.match_id) ps
   declared : Within (flat_map decl_places s.declared) ps
   steps : Within (flat_map step_places s.steps) ps
@@ -140,17 +140,17 @@ unfolding scan_faults
 placed-scan ps operator s rows h =
     let twice_named : List BindFault = names_twice (names_of rows.columns) (new_names s.match_id s.declared) in
     let of_steps : List BindFault = step_faults (declared_names s.declared) 0 s.steps in
-    placed-append ps (fault_if (not rows.serial) 407 operator) (twice_named ++ (step_name_faults [] s.steps ++ of_steps)) (placed-if ps (not rows.serial) 407 operator h.operator)
+    placed-append ps (fault_if (not rows.serial) 407 operator) (twice_named ++ (step_name_faults [] s.steps ++ of_steps)) (placed-if ps (not rows.serial) 407 operator h.here)
     (placed-append ps twice_named (step_name_faults [] s.steps ++ of_steps) (placed-names ps (names_of rows.columns) (new_names s.match_id s.declared) (new-names-in ps s.match_id s.declared h.match_id h.declared))
     (placed-append ps (step_name_faults [] s.steps) of_steps (placed-step-names ps [] s.steps h.steps) (placed-steps ps (declared_names s.declared) 0 s.steps h.steps)))
 
 told-scanned : (ps : Places) (operator : Place) (s : Scan) (rows : Shape) (plan : ScanPlan) → ScanParts ps operator s → ToldIn ps (scanned operator s rows plan)
 unfolding scanned
-told-scanned ps operator s rows plan h = told-answer ps operator (scan_faults operator s rows) (op.Scan plan) (scan_columns plan rows.columns) true h.operator (placed-scan ps operator s rows h)
+told-scanned ps operator s rows plan h = told-answer ps operator (scan_faults operator s rows) (op.Scan plan) (scan_columns plan rows.columns) true h.here (placed-scan ps operator s rows h)
 
 told-scan-in : (ps : Places) (operator : Place) (s : Scan) (known : Known) (rows : Shape) → ScanParts ps operator s → ToldIn ps (scan_bound operator s known rows)
 unfolding scan_bound
-told-scan-in ps operator s known rows h = told-then ps (each_bound (decl_bound operator known rows) s.declared) (λ (declared : List BoundDecl). each_bound (step_bound (step_scope known rows s.steps declared) declared) s.steps >>= λ steps. scanned operator s rows (scan_plan s declared steps)) (told-each ps (decl_bound operator known rows) decl_places (λ d v. told-decl ps operator known rows d h.operator v) s.declared h.declared)
+told-scan-in ps operator s known rows h = told-then ps (each_bound (decl_bound operator known rows) s.declared) (λ (declared : List BoundDecl). each_bound (step_bound (step_scope known rows s.steps declared) declared) s.steps >>= λ steps. scanned operator s rows (scan_plan s declared steps)) (told-each ps (decl_bound operator known rows) decl_places (λ d v. told-decl ps operator known rows d h.here v) s.declared h.declared)
     (λ declared. told-then ps (each_bound (step_bound (step_scope known rows s.steps declared) declared) s.steps) (λ (steps : List ScanStep). scanned operator s rows (scan_plan s declared steps)) (told-each ps (step_bound (step_scope known rows s.steps declared) declared) step_places (told-step ps (step_scope known rows s.steps declared) declared) s.steps h.steps) (λ steps. told-scanned ps operator s rows (scan_plan s declared steps) h))
 
 pub told-scan : (operator : Place) (s : Scan) (known : Known) (rows : Shape) → ToldIn (operator ∷ scan_places s) (scan_bound operator s known rows)
@@ -161,7 +161,7 @@ told-scan operator s known rows =
     let all : Within (named_places s.match_id ++ (of_decls ++ of_steps)) ps = λ q m. inr m in
     let rest : Within (of_decls ++ of_steps) ps = in-right (named_places s.match_id) (of_decls ++ of_steps) ps all in
     told-scan-in ps operator s known rows (record {
-      operator = inl refl;
+      here = inl refl;
       match_id = in-left (named_places s.match_id) (of_decls ++ of_steps) ps all;
       declared = in-left of_decls of_steps ps rest;
       steps = in-right of_decls of_steps ps rest;

@@ -1,5 +1,5 @@
 -- Every operator and every pipe of a query is bound to what is sound: by induction over the syntax tree.
-use Rattle.std.proofs.Common.{◌≡◌, List, [], ◌∷◌, sym, ◌∙◌, subst, map}
+use Rattle.std.proofs.Common.{◌≡◌, List, [], ◌∷◌, refl, sym, ◌∙◌, subst, map}
 use Rattle.std.specs.Prelude.{Bool, true, false, Option}
 use Rattle.std.specs.List.{AllByRecursion}
 use Rattle.std.proofs.lemmas.Bool.{and_parts}
@@ -89,6 +89,7 @@ row-op others (row.Top operator t) known inside rows b sound names is = top_soun
 row-op others (row.Distinct operator d) known inside rows b sound names is = others.distinct operator d known inside rows b sound names is
 
 not-empty : (pattern : List Pat) → has_items pattern ≡ true → is_empty pattern ≡ false
+unfolding is_empty
 not-empty [] some = absurd cc
 not-empty (p ∷ ps) some = refl
 
