@@ -71,7 +71,21 @@ row-three (c ∷ d ∷ []) i a b e l m p q r = absurd (omega arith)
 row-three (c ∷ d ∷ f ∷ []) i a b e l m p q r = rw (← p, ← q, ← r) refl
 row-three (c ∷ d ∷ f ∷ g ∷ cs) i a b e l m p q r = absurd (omega arith)
 
-pub ruleset row_steps = (row-forms, row-one, row-two, row-three, item-row)
+-- Its cells are well formed.
+
+pub formed : (n : ℕ) (cs : List (List Value)) (i : ℕ) (vs : List Value) → AreColumns n cs → i < n → vs ≡ row_of cs i → AreWellFormed vs
+formed n cs i vs h lt is = subst AreWellFormed (sym is) (row-forms n cs i h lt)
+
+pub form-one : (n : ℕ) (cs : List (List Value)) (i : ℕ) (a : List Value) (u : Value) → AreColumns n cs → i < n → 1 ≤ length cs → length cs < 2 → a ≡ get_or cs 0 a → u ≡ value_at a i → AreWellFormed (u ∷ [])
+form-one n cs i a u h lt l m p e = formed n cs i (u ∷ []) h lt (ap (λ x. x ∷ []) e ∙ sym (row-one cs i a l m p))
+
+pub form-two : (n : ℕ) (cs : List (List Value)) (i : ℕ) (a b : List Value) (u v : Value) → AreColumns n cs → i < n → 2 ≤ length cs → length cs < 3 → a ≡ get_or cs 0 a → b ≡ get_or cs 1 b → u ≡ value_at a i → v ≡ value_at b i → AreWellFormed (u ∷ v ∷ [])
+form-two n cs i a b u v h lt l m p q e f = formed n cs i (u ∷ v ∷ []) h lt (ap₂ (λ x y. x ∷ y ∷ []) e f ∙ sym (row-two cs i a b l m p q))
+
+pub form-three : (n : ℕ) (cs : List (List Value)) (i : ℕ) (a b d : List Value) (u v w : Value) → AreColumns n cs → i < n → 3 ≤ length cs → length cs < 4 → a ≡ get_or cs 0 a → b ≡ get_or cs 1 b → d ≡ get_or cs 2 d → u ≡ value_at a i → v ≡ value_at b i → w ≡ value_at d i → AreWellFormed (u ∷ v ∷ w ∷ [])
+form-three n cs i a b d u v w h lt l m p q r e f g = formed n cs i (u ∷ v ∷ w ∷ []) h lt (rw (e, f, g) (sym (row-three cs i a b d l m p q r)))
+
+pub ruleset row_steps = (row-one, row-two, row-three, item-row)
 
 -- Its cells.
 

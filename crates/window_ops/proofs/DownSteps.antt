@@ -126,7 +126,7 @@ pub linked-columns : (e : BExpr) (t : Grid) (n : ℕ) (left right : List Value) 
 unfolding AreColumns
 linked-columns e t n left right both h names fits l len is two =
     let r = column-of-down e t right h names fits is in
-    subst (λ m. AreColumns m both) (sym len) (subst (AreColumns (length t.lines)) (sym two) ((l.count, l.form), (r.count, r.form), tt))
+    subst (λ m. AreColumns m both) (sym len) (subst (AreColumns (length t.lines)) (sym two) ((l.count, l.form), ((r.count, r.form), tt)))
 
 pub linked-down : (f : Func) (e : BExpr) (t : Grid) (n : ℕ) (left right v : List Value) (both : List (List Value)) → n ≡ length t.lines → right ≡ values_down e t → both ≡ left ∷ right ∷ [] → v ≡ applied_down f n both → v ≡ linked_down f e t left
 unfolding applied_down linked_down row_of places places_below
@@ -163,7 +163,7 @@ pub chain-turn : (links : List (ChainSign × BExpr)) (k : ℕ) (l : ChainSign ×
 unfolding chain_down linked_down places places_below
 chain-turn links k l t f first old new lt is sign before after =
     let n = length t.lines in
-    let at = λ i. value_along (take k links) t i [] (value_at first i) in
+    let at : ℕ → Value = λ i. value_along (take k links) t i [] (value_at first i) in
     after
     ∙ (ap₂ (λ (g : Func) (vs : List Value). map (λ i. linked l.1 t i g (value_at vs i)) (range_with_len 0 n)) sign before
     ∙ map-range-same (λ i. linked l.1 t i (sign_func l.0) (value_at (map at (range_with_len 0 n)) i)) (λ i. value_along (take (k + 1) links) t i [] (value_at first i)) 0 n
@@ -192,7 +192,7 @@ pub path-turn : (steps : List BExpr) (k : ℕ) (e : BExpr) (t : Grid) (whole old
 unfolding path_down linked_down places places_below
 path-turn steps k e t whole old new lt is before after =
     let n = length t.lines in
-    let at = λ i. value_down (take k steps) t i [] (value_at whole i) in
+    let at : ℕ → Value = λ i. value_down (take k steps) t i [] (value_at whole i) in
     after
     ∙ (ap (λ (vs : List Value). map (λ i. linked e t i look (value_at vs i)) (range_with_len 0 n)) before
     ∙ map-range-same (λ i. linked e t i look (value_at (map at (range_with_len 0 n)) i)) (λ i. value_down (take (k + 1) steps) t i [] (value_at whole i)) 0 n

@@ -157,7 +157,7 @@ window_sum e f args is same = is ∙ ap (λ g. V.Window g args) same
 pub window_number : (e : BExpr) (f : Window) (args : List BExpr) → e ≡ V.Window f args → f ≡ window.RowNumber → e ≡ V.Window window.RowNumber args
 window_number e f args is same = is ∙ ap (λ g. V.Window g args) same
 
-pub ruleset fitting_parts = (fitting_args, fitting_first, fitting_links, fitting_whole, fitting_steps, window_sum, window_number)
+pub ruleset window_parts = (window_sum, window_number)
 
 -- One of several.
 

@@ -7,7 +7,7 @@ ghost use Rattle.window_ops.specs.Columns.{IsColumn, call_down, chain_down, colu
 ghost use Rattle.window_ops.specs.Fitting.{AllFitRows, FitsRows, LinksFitRows};
 
 use crate::applied::{applied_rows, pair};
-use crate::parts::{link_parts, number_parts, part, parts, sum_parts};
+use crate::parts::{link_part, link_parts, number_parts, part, parts, sum_parts, table_facts};
 use crate::running::{row_numbers, running_sums};
 use kql_bound::{BExpr, Link};
 use kql_cells::Kind;
@@ -19,7 +19,7 @@ use std::alloc::{AllocError, Global};
 
 /// The values of an expression at all rows.
 #[cycle(column)]
-#[tactic(auto, using(crate::proofs::FitSteps::fitting_parts, crate::proofs::DownSteps::down_steps))]
+#[tactic(auto, using(crate::proofs::FitSteps::window_parts, crate::proofs::DownSteps::down_steps))]
 pub(crate) fn column(alloc: Global, e: &BExpr, t: &Table) -> Result<Vector, AllocError>
     requires fits { FitsRows t.now.columns e.now }
     ensures values { IfOk result (λ v. v ≡ values_down e.now t.now) }
@@ -84,7 +84,7 @@ fn call_column(
     requires fits { AllFitRows t.now.columns args.now }
     ensures values { IfOk result (λ v. v ≡ call_down f args.now t.now) }
 {
-    let _schema = t.schema();
+    table_facts(t);
     let vectors = columns(alloc, args, t)?;
     applied_rows(alloc, f, kind, vectors.as_slice(), t.len())
 }
@@ -108,7 +108,8 @@ fn chain_column(
     'links: for link in links {
         kind = kind_after(alloc, kind, link, t)?;
         let stored = kind.unwrap_or(Kind::Dynamic);
-        let next = linked_column(alloc, link.0.func(), stored, left, &link.1, t)?;
+        let right = link_part(link, t);
+        let next = linked_column(alloc, link.0.func(), stored, left, right, t)?;
         left = next;
     }
     Ok(left)
@@ -144,7 +145,7 @@ fn formed(values: Vector, _e: &BExpr, t: &Table) -> Vector
     ensures same { result ≡ values }
     ensures column { IsColumn (length t.now.lines) result }
 {
-    let _schema = t.schema();
+    table_facts(t);
     values
 }
 
@@ -164,9 +165,9 @@ fn linked_column(
     ensures values { IfOk result (λ v. v ≡ linked_down f right.now t.now left) }
     ensures column { IfOk result (IsColumn (length t.now.lines)) }
 {
-    let _schema = t.schema();
-    let right = column(alloc, right, t)?;
-    let both = pair(alloc, left, right)?;
+    table_facts(t);
+    let values = column(alloc, right, t)?;
+    let both = pair(alloc, left, values)?;
     applied_rows(alloc, f, kind, both.as_slice(), t.len())
 }
 

@@ -1,5 +1,7 @@
 //! The parts of an expression that fits. Each call hands the fact on to the call on the part, which stands in a cycle of calls.
 ghost use Rattle.std.specs.Prelude.{◌≡◌, ◌≤◌, length};
+ghost use Rattle.kql_cells.specs.Named.{HasDistinctNames, column_name};
+ghost use Rattle.kql_cells.specs.Table.{IsGrid};
 ghost use Rattle.kql_bound.specs.declared.expr.BExpr.TheVariants as expr;
 ghost use Rattle.kql_functions.specs.declared.window.Window.TheVariants as window;
 ghost use Rattle.window_ops.specs.Fitting.{AllFitRows, FitsRows, LinksFitRows};
@@ -30,6 +32,23 @@ pub(crate) fn link_parts<'a>(links: &'a Links, _t: &Table) -> &'a [Link]
     ensures fits { LinksFitRows _t.now.columns result.now }
 {
     links.as_slice()
+}
+
+pub(crate) fn link_part<'a>(link: &'a Link, _t: &Table) -> &'a BExpr
+    requires { FitsRows _t.now.columns link.now.1 }
+    ensures value { result.now ≡ link.now.1 }
+    ensures fits { FitsRows _t.now.columns result.now }
+{
+    &link.1
+}
+
+/// No two columns of a table have one name, and its rows fit them.
+pub(crate) fn table_facts(t: &Table)
+    ensures distinct { HasDistinctNames column_name t.now.columns }
+    ensures fits { IsGrid t.now }
+{
+    let schema = t.schema();
+    let _columns = schema.columns();
 }
 
 /// The arguments of a `row_cumsum`, of which there is one at least.
