@@ -1,5 +1,5 @@
 -- The values of an expression at all rows, from the columns of its parts.
-use Rattle.std.proofs.Common.{◌≡◌, ◌<◌, ◌+◌, ℕ, zero, suc, true, List, [], ◌∷◌, ◌++◌, map, length, get_or, take, refl, ap, ap₂, sym, ◌∙◌, subst, arith}
+use Rattle.std.proofs.Common.{◌≡◌, ◌<◌, ◌+◌, ℕ, true, List, [], ◌∷◌, ◌++◌, map, length, get_or, take, refl, ap, ap₂, sym, ◌∙◌, subst, arith}
 use Rattle.std.specs.Prelude.{fold, None, Option, Some}
 use Rattle.std.specs.List.{list_all, range_with_len}
 use Rattle.std.proofs.lemmas.Bool.{and_parts}
@@ -13,7 +13,6 @@ use Rattle.kql_cells.specs.Values.{IsWellFormed}
 use Rattle.kql_cells.specs.declared.schema.Column.{Column}
 use Rattle.kql_cells.specs.declared.value.Kind.{Kind}
 use Rattle.kql_cells.specs.declared.value.Value.{Value}
-use Rattle.kql_cells.specs.declared.value.Value.TheVariants as value
 use Rattle.kql_functions.specs.declared.func.Func.{Func}
 use Rattle.kql_functions.specs.declared.window.Window.{Window}
 use Rattle.kql_scalar_fns.specs.Applied.{applied}
@@ -36,7 +35,6 @@ use Rattle.kql_scalar.specs.Scalar.{is_of_rows}
 use Rattle.row_ops.specs.ItemColumns.{values_down}
 use Rattle.window_ops.specs.Columns.{AreColumns, IsColumn, applied_down, call_down, chain_down, columns_of, linked_down, path_down, window_down}
 use Rattle.window_ops.specs.Fitting.{AllFitRows, FitsRows}
-use Rattle.window_ops.proofs.AppliedSteps.{forms-none}
 use Rattle.window_ops.proofs.RangeFacts.{all-values, at-row, long-range, map-range-same}
 
 -- Values at rows.

@@ -1,10 +1,9 @@
 -- The parts of an expression that fits, and what an expression that fits is.
-use Rattle.std.proofs.Common.{◌≡◌, ◌<◌, ◌≤◌, ◌-◌, ℕ, zero, suc, Bool, true, false, List, [], ◌∷◌, get_or, length, map, refl, ap, sym, ◌∙◌, subst, arith}
+use Rattle.std.proofs.Common.{◌≡◌, ◌<◌, ◌≤◌, ◌-◌, ℕ, zero, suc, Bool, true, List, [], ◌∷◌, get_or, length, map, refl, ap, sym, ◌∙◌, subst, arith}
 use Rattle.std.specs.Prelude.{◌&&◌, None, Option, Some, is_some}
 use Rattle.std.specs.List.{list_all, range_with_len}
 use Rattle.std.proofs.lemmas.Bool.{and_from, and_parts}
 use Rattle.kql_cells.specs.Table.{Grid}
-use Rattle.kql_cells.specs.Values.{IsWellFormed}
 use Rattle.kql_cells.specs.declared.schema.Column.{Column}
 use Rattle.kql_cells.specs.declared.value.Kind.{Kind}
 use Rattle.kql_cells.specs.declared.value.Kind.TheVariants as kind
