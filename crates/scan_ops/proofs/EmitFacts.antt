@@ -188,7 +188,7 @@ pub held-wide : (p : ScanPlan) (size width at : ℕ) (s : StateSeen) → IsState
 unfolding held_rows
 held-wide p size width at s h = last-wide p at width (slice_get p.steps (at + 1 - 1)) s.held (state-held size width at s h) h.width
 
-with-wide : (p : ScanPlan) (s : ScanStep) (r : List Value) (h : Option Held) → HaveLength (width_of p (length r)) (emitted_with p s r h)
+pub with-wide : (p : ScanPlan) (s : ScanStep) (r : List Value) (h : Option Held) → HaveLength (width_of p (length r)) (emitted_with p s r h)
 unfolding emitted_with emitted_at_once HaveLength
 with-wide p s r None = tt
 with-wide p s r (Some h) = if-wide (is_all s.output) (width_of p (length r)) (row_of_record p r h.id) (row-width p r h.id)

@@ -1,5 +1,5 @@
 -- Rows with declared columns.
-use Rattle.std.proofs.Common.{◌≡◌, ◌≢◌, ◌<◌, ◌+◌, ◌++◌, ℕ, zero, suc, true, List, [], ◌∷◌, map, length, replicate, take, drop, get_or, refl, sym, ap, ap₂, ◌∙◌, subst, arith, append-nil, append_assoc}
+use Rattle.std.proofs.Common.{◌≡◌, ◌≢◌, ◌<◌, ◌≤◌, ◌+◌, ◌++◌, ℕ, zero, suc, true, List, [], ◌∷◌, map, length, replicate, take, drop, get_or, refl, sym, ap, ap₂, ◌∙◌, subst, arith, append-nil, append_assoc}
 use Rattle.std.specs.Prelude.{All, ◌&&◌}
 use Rattle.std.specs.List.{list_all}
 use Rattle.std.proofs.lemmas.Bool.{and_parts}
@@ -76,9 +76,9 @@ pub columns-more : (ds : List Decl) (k : ℕ) (d : Decl) (t old new : Grid) → 
 columns-more ds k d t old new lt is before e =
     e ∙ (ap (with_column d) before ∙ (one-more (take k ds) d t ∙ ap (λ (xs : List Decl). with_columns xs t) (ap (λ (x : Decl). take k ds ++ x ∷ []) is ∙ sym (take_more ds k d lt))))
 
-pub columns-all : (p : ScanPlan) (k : ℕ) (t new : Grid) → length p.declared ≤ k → new ≡ with_columns (take k p.declared) t → new ≡ with_declared p t
+pub columns-all : (p : ScanPlan) (ds : List Decl) (k : ℕ) (t new : Grid) → ds ≡ p.declared → length ds ≤ k → new ≡ with_columns (take k ds) t → new ≡ with_declared p t
 unfolding with_columns with_declared declared_columns declared_defaults
-columns-all p k t new le e = e ∙ ap (λ (ds : List Decl). with_columns ds t) (take_all k p.declared le)
+columns-all p ds k t new same le e = e ∙ ap (λ (xs : List Decl). with_columns xs t) (take_all k ds le ∙ same)
 
 -- What a declared column asks.
 

@@ -1,10 +1,10 @@
 -- What a scan that fits gives a machine.
-use Rattle.std.proofs.Common.{◌≡◌, ◌<◌, ◌≤◌, ◌+◌, ◌++◌, ℕ, zero, suc, Bool, true, false, List, [], ◌∷◌, map, length, take, get_or, refl, sym, ap, ap₂, ◌∙◌, subst, arith, append_assoc}
+use Rattle.std.proofs.Common.{◌≡◌, ◌<◌, ◌≤◌, ◌+◌, ◌++◌, ℕ, zero, suc, Bool, true, false, List, [], ◌∷◌, map, length, take, get_or, refl, sym, ap, ap₂, ◌∙◌, subst, arith, rules, append_assoc, length-append}
 use Rattle.std.specs.Prelude.{◌&&◌, All, AllPairs, None, Option, Some, fold, is_some}
 use Rattle.std.specs.List.{list_all, range_with_len}
 use Rattle.std.proofs.lemmas.Bool.{and_parts}
 use Rattle.std.proofs.lemmas.Grind.{fold-append}
-use Rattle.std.proofs.lemmas.List.{map-id}
+use Rattle.std.proofs.lemmas.List.{get_or_append_left, map-id}
 use Rattle.std.proofs.lemmas.List.FromFn.{map-range_with_len_more}
 use Rattle.kql_cells.specs.Catalogues.{Named}
 use Rattle.kql_cells.specs.Named.{HasDistinctNames, column_name}
@@ -18,6 +18,7 @@ use Rattle.kql_bound.specs.declared.parts.BItem.{BItem}
 use Rattle.kql_bound.specs.declared.parts.ScanPlan.{ScanPlan}
 use Rattle.kql_bound.specs.declared.parts.ScanStep.{ScanStep}
 use Rattle.kql_bound.specs.declared.plan.Op.{the_lemmas}
+use Rattle.kql_bound.specs.declared.plan.Op.TheOpen.{Op-F}
 use Rattle.kql_bound.specs.declared.plan.Op.TheVariants as O
 use Rattle.kql_meaning.specs.declared.position.Position.TheVariants as position
 use Rattle.kql_meaning.specs.Expressions.{column_kind, kind_of}
@@ -33,6 +34,7 @@ use Rattle.kql_scalar.specs.Scalar.{IsScalar, is_of_rows}
 use Rattle.kql_scalar.proofs.ScalarFitLaws.{scalar_where_fits}
 use Rattle.kql_fit_laws.specs.LawsOfRows.{IsTable, IsTableOf}
 use Rattle.kql_fit_laws.proofs.RowFacts.{answer-some}
+use Rattle.kql_fit_laws.proofs.RowLaws.{means}
 use Rattle.kql_fit_laws.proofs.ScanRows.{each_scan_keeps}
 use Rattle.scan_ops.specs.Steps.{AreSetsScalar, AreStepsScalar, IsStepScalar, scan_answers}
 
@@ -58,7 +60,10 @@ pub answer-differ : (p : ScanPlan) (cs ds : List Column) → scan_answers p cs �
 answer-differ p cs ds e is = subst (HasDistinctNames column_name) (sym is) (answer-parts p cs e).1
 
 differ-left : (cs ds : List Column) → HasDistinctNames column_name (cs ++ ds) → HasDistinctNames column_name cs
-differ-left cs ds h = λ i j d lt inside. ?
+differ-left cs ds h = λ i j d lt inside.
+    let a = get_or_append_left cs ds d i (omega (arith, lt, inside)) in
+    let b = get_or_append_left cs ds d j inside in
+    λ e. h i j d lt (omega (arith, inside, length-append cs ds)) (ap column_name a ∙ (e ∙ sym (ap column_name b)))
 
 pub declared-differ : (p : ScanPlan) (cs : List Column) → scan_answers p cs ≡ true → HasDistinctNames column_name (cs ++ declared_columns p)
 unfolding scan_columns
@@ -123,7 +128,7 @@ made-table : (p : ScanPlan) (t : Grid) → IsTable t → scan_answers p t.column
 made-table p t h e = each_scan_keeps nothing_known nowhere p false t (scan_columns p t.columns) h (op-Scan p nothing_known false t.columns ∙ answer-columns p t.columns e)
 
 means-Scan : (p : ScanPlan) (w : World) (t : Grid) → op_means (O.Scan p) w t ≡ scan_table p t
-means-Scan p w t = ?
+means-Scan p w t = means (O.Scan p) (Op-F.Scan p) (search (rules, the_lemmas)) w t
 
 scan-grid : (p : ScanPlan) (t : Grid) → HasDistinctNames column_name t.columns → IsGrid t → scan_answers p t.columns ≡ true → IsGrid (scan_table p t)
 scan-grid p t names fits e = subst IsGrid (means-Scan p nowhere t) (made-table p t (names, fits) e).1.1

@@ -1,11 +1,11 @@
 -- A row at a step.
-use Rattle.std.proofs.Common.{◌≡◌, ◌<◌, ◌≤◌, ◌+◌, ◌-◌, ◌++◌, ℕ, zero, suc, Bool, true, false, List, [], ◌∷◌, map, length, replicate, take, get_or, refl, sym, ap, ap₂, ◌∙◌, ◌≢◌, subst, arith, inl, inr, append-nil, append_assoc, length-append}
+use Rattle.std.proofs.Common.{◌≡◌, ◌<◌, ◌≤◌, ◌+◌, ◌-◌, ◌++◌, ℕ, zero, suc, Bool, true, false, List, [], ◌∷◌, map, length, replicate, take, get_or, refl, sym, ap, ap₂, ◌∙◌, ◌≢◌, ◌⊎◌, subst, arith, inl, inr, append-nil, append_assoc, length-append}
 use Rattle.std.specs.Prelude.{◌==◌, All, IfSome, None, Option, Some, is_some, nat_lt, option_map, slice_get, slice_index_or, slice_set, if◌then◌else◌}
 use Rattle.std.proofs.lemmas.Bool.{cases_Bool}
 use Rattle.std.proofs.lemmas.Bool.Decides.{nat_tests}
 use Rattle.std.proofs.lemmas.List.{get_or-replicate, get_or-set_other, get_or-set_same, length-map, length-replicate, length-set, map-set, length-take-le, take_all}
 use Rattle.std.proofs.lemmas.List.Elements.{All-append, All-push, All-take}
-use Rattle.std.proofs.lemmas.Option.{get_or_from_slice_get, slice_get-get_or}
+use Rattle.std.proofs.lemmas.Option.{slice_get-get_or, slice_get_within}
 use Rattle.kql_cells.specs.Table.{Grid}
 use Rattle.kql_cells.specs.declared.schema.Column.{Column}
 use Rattle.kql_cells.specs.declared.value.Value.{Value}
@@ -21,9 +21,13 @@ use Rattle.kql_scalar.specs.Evaluated.{AreSound}
 use Rattle.scan_ops.specs.Runs.{AreStates, HasMovedUp, IsRun, IsStateAt, IsStepOf, emitted_by_move, emitted_with, held_in, machine_of, turn_of, width_of}
 use Rattle.scan_ops.specs.States.{StateSeen, begun_with, held_with, id_in}
 use Rattle.scan_ops.specs.Steps.{PlacedStep}
+use Rattle.scan_ops.specs.declared.run.Run.{Run}
 use Rattle.scan_ops.proofs.EmitFacts.{state-of, state-room, state-there}
 
 -- The start.
+
+abbrev turn_with : Machine → List (List Value) → Turn
+turn_with m rows = record { machine = m; emitted = rows }
 
 abbrev empty_state : ℕ → StateSeen
 empty_state size = record { size = size; held = None }
@@ -32,10 +36,10 @@ none-held : (n size : ℕ) → map held_in (replicate n (empty_state size)) ≡ 
 none-held zero size = refl
 none-held (suc n) size = ap (λ (hs : List (Option Held)). None ∷ hs) (none-held n size)
 
-pub turn-start : (p : ScanPlan) (n : ℕ) (ss : List StateSeen) (emitted : List (List Value)) → n ≡ length p.steps → ss ≡ replicate n (empty_state n) → emitted ≡ [] → record { machine = machine_of ss 0; emitted = emitted } ≡ record { machine = machine_at_start p; emitted = [] }
+pub turn-start : (p : ScanPlan) (n : ℕ) (ss : List StateSeen) (emitted : List (List Value)) → n ≡ length p.steps → ss ≡ replicate n (empty_state n) → emitted ≡ [] → turn_with (machine_of ss 0) emitted ≡ turn_with (machine_at_start p) []
 unfolding machine_at_start
 turn-start p n ss emitted size is none =
-    ap₂ (λ (hs : List (Option Held)) (rows : List (List Value)). record { machine = record { states = hs; begun = 0 }; emitted = rows }) (ap (map held_in) is ∙ (none-held n n ∙ ap (λ k. replicate k None) size)) none
+    ap₂ (λ (hs : List (Option Held)) (rows : List (List Value)). turn_with (record { states = hs; begun = 0 }) rows) (ap (map held_in) is ∙ (none-held n n ∙ ap (λ k. replicate k None) size)) none
 
 empty-at : (size width k : ℕ) → IsStateAt size width k (empty_state size)
 empty-at size width k = record { size = refl; count = tt; width = tt; form = tt }
@@ -139,7 +143,10 @@ not-first at above = grind (arith, nat_tests)
 is-first : (at : ℕ) → at ≡ 0 → (at + 1 == 1) ≡ true
 is-first at e = grind (arith, nat_tests)
 
-if-none : (b : Bool) → is_some (if b then None else None {T = Turn}) ≡ false
+abbrev no_turn : Option Turn
+no_turn = None
+
+if-none : (b : Bool) → is_some (if b then no_turn else no_turn) ≡ false
 if-none true = refl
 if-none false = refl
 
@@ -416,9 +423,15 @@ new-width s t i rs r is = ap length is ∙ length-map t.columns _
 pub step-columns : (p : ScanPlan) (columns : List Column) (at : ℕ) (s : PlacedStep) → IsStepOf p columns at s → columns ≡ s.columns
 step-columns p columns at s h = h.columns
 
+pub step-within : (p : ScanPlan) (cs : List Column) (at : ℕ) (s : PlacedStep) → IsStepOf p cs at s → at < length p.steps
+step-within p cs at s h = slice_get_within p.steps at s.step h.step
+
+pub within-run : (p : ScanPlan) (cs : List Column) (at : ℕ) (s : PlacedStep) (r : Run) → IsStepOf p cs at s → IsRun p cs r → at < length r.states.items
+within-run p cs at s r h k = omega (arith, step-within p cs at s h, k.count)
+
 pub ruleset try_facts = (tried-one, tried-two, tried-none)
-pub ruleset check_facts = (records-sound)
-pub ruleset move_facts = (records-sound, new-width)
+pub ruleset check_facts = (records-sound, within-run, state-there)
+pub ruleset move_facts = (records-sound, new-width, step-within, within-run, state-there)
 pub ruleset up_facts = (up-held, up-room)
-pub ruleset begin_facts = (records-sound, new-width)
-pub ruleset renew_facts = (records-sound, new-width)
+pub ruleset begin_facts = (records-sound, new-width, step-within, within-run, state-there)
+pub ruleset renew_facts = (records-sound, new-width, step-within, within-run, state-there)

@@ -1,14 +1,16 @@
 -- Sources of the columns of a record.
 use Rattle.std.proofs.Common.{◌≡◌, ◌<◌, ◌+◌, ◌++◌, ℕ, zero, suc, Bool, true, false, List, [], ◌∷◌, map, length, take, get_or, refl, sym, ap, ◌∙◌, subst, arith}
-use Rattle.std.specs.Prelude.{All, IfSome, None, Option, Some, bytes_eq, find}
+use Rattle.std.specs.Prelude.{All, IfSome, None, Option, Some, bytes_eq, find, slice_get}
 use Rattle.std.proofs.lemmas.List.{length-map, map_more, take_all}
 use Rattle.std.proofs.lemmas.List.Elements.{All-from_recursion}
 use Rattle.std.proofs.lemmas.List.Quantifiers.{position-Some}
+use Rattle.std.proofs.lemmas.Option.{slice_get-get_or}
 use Rattle.kql_cells.specs.Named.{column_name, place_of}
 use Rattle.kql_cells.specs.Seen.{cell_at, row_at}
-use Rattle.kql_cells.specs.Table.{Grid, IsGrid}
+use Rattle.kql_cells.specs.Table.{CellFits, Grid, IsGrid}
 use Rattle.kql_cells.specs.Values.{IsWellFormed}
 use Rattle.kql_cells.specs.declared.schema.Column.{Column}
+use Rattle.kql_cells.specs.declared.value.Kind.TheVariants as kind
 use Rattle.kql_cells.specs.declared.value.Value.{Value}
 use Rattle.kql_cells.specs.declared.value.Value.TheVariants as value
 use Rattle.kql_cells.proofs.RowLaws.{length-RowFits}
@@ -52,7 +54,7 @@ record-made step columns sources t i s r same is made =
 
 place-inside : (columns : List Column) (n : List ℕ) (o : Option ℕ) → place_of column_name n columns ≡ o → IfSome o (λ j. j < length columns)
 place-inside columns n None e = tt
-place-inside columns n (Some j) e = position-Some (λ (c : Column). bytes_eq (column_name c) n) columns j e
+place-inside columns n (Some j) e = (position-Some (λ (c : Column). bytes_eq (column_name c) n) columns j (record { name = []; kind = kind.Bool }) e).0
 
 source-inside : (columns : List Column) (o : Option BItem) (c : Column) → IsSourceIn columns (source_of columns o c)
 unfolding source_of
@@ -132,7 +134,17 @@ cell-there t i j v h lt inside is =
     let size = length-RowFits t.columns (row_at t.lines i) (h i [] lt) in
     is ∙ cell-past (row_at t.lines i) j value.Null _ (omega (arith, inside, size))
 
-pub ruleset cell_facts = (cell-there)
+pub cell-none : (t : Grid) (i : ℕ) (place : Option ℕ) → place ≡ None → value.Null ≡ cell_in t i place
+unfolding cell_in
+cell-none t i None e = refl
+cell-none t i (Some j) e = absurd cc
+
+pub cell-formed : (t : Grid) (j : ℕ) (v : Value) → j < length t.columns → ((c : Column) → slice_get t.columns j ≡ Some c → CellFits c v) → IsWellFormed v
+cell-formed t j v lt fits =
+    let d : Column = record { name = []; kind = kind.Bool } in
+    (fits (get_or t.columns j d) (slice_get-get_or t.columns j d lt)).1
+
+pub ruleset cell_facts = (cell-there, cell-none)
 
 -- Where columns come from.
 
@@ -144,18 +156,20 @@ pub cell-source : (sets : List BItem) (columns : List Column) (c : Column) (o : 
 unfolding source_at source_of
 cell-source sets columns c o place found none is = rw (sym found ∙ none) (ap source.Cell is)
 
-pub value-source : (sets : List BItem) (columns : List Column) (c : Column) (b : BItem) (o : Option BItem) (l : Placed) → o ≡ find (λ (b : BItem). is_name_among b.names c.name) sets → o ≡ Some b → l ≡ record { expr = b.expr; columns = columns } → source.Value l ≡ source_at sets columns c
+pub value-source : (sets : List BItem) (columns : List Column) (c : Column) (n : List ℕ) (b : BItem) (l : Placed) → n ≡ c.name → Some b ≡ find (λ (b : BItem). is_name_among b.names n) sets → l ≡ record { expr = b.expr; columns = columns } → source.Value l ≡ source_at sets columns c
 unfolding source_at source_of
-value-source sets columns c b o l found some is = rw (sym found ∙ some) (ap source.Value is)
+value-source sets columns c n b l named found is =
+    let here : find (λ (b : BItem). is_name_among b.names c.name) sets ≡ Some b = sym (found ∙ ap (λ (m : List ℕ). find (λ (b : BItem). is_name_among b.names m) sets) named) in
+    rw here (ap source.Value is)
 
-pub set-scalar : (sets : List BItem) (n : List ℕ) (b : BItem) (o : Option BItem) → AreSetsScalar sets → o ≡ find (λ (b : BItem). is_name_among b.names n) sets → o ≡ Some b → IsScalar b.expr
-set-scalar sets n b o h found some =
-    let q = found-holds (λ (b : BItem). is_name_among b.names n) sets b (sym found ∙ some) in
+pub set-scalar : (sets : List BItem) (n : List ℕ) (b : BItem) → AreSetsScalar sets → Some b ≡ find (λ (b : BItem). is_name_among b.names n) sets → IsScalar b.expr
+set-scalar sets n b h found =
+    let q = found-holds (λ (b : BItem). is_name_among b.names n) sets b (sym found) in
     of-all (λ (x : BItem). IsScalar x.expr) sets b h.each q.1
 
 pub ruleset source_facts = (sources-more)
 
-pub ruleset set_facts = (cell-source, value-source, set-scalar)
+pub ruleset set_facts = (cell-source)
 
 -- The steps.
 

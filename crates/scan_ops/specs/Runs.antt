@@ -25,10 +25,10 @@ abbrev pub IsWide : ScanPlan → List (List Value) → Option Held → Type 0
 IsWide p emitted h = IfSome h (λ s. All (λ r. HaveLength (width_of p (length r)) emitted) s.records)
 
 -- A state of the step at a place, from 0: it holds a record for each step up to it, each so wide and well formed.
-pub record IsStateAt (size width at : ℕ) (s : StateSeen) : Type 0 where
-  pub size : s.size ≡ size
+pub record IsStateAt (n w at : ℕ) (s : StateSeen) : Type 0 where
+  pub size : s.size ≡ n
   pub count : IfSome s.held (λ h. length h.records ≡ at + 1)
-  pub width : IfSome s.held (λ h. All (λ r. length r ≡ width) h.records)
+  pub width : IfSome s.held (λ h. All (λ r. length r ≡ w) h.records)
   pub form : IfSome s.held (λ h. All AreWellFormed h.records)
 
 pub record AreStates (size width : ℕ) (ss : List StateSeen) : Type 0 where
@@ -55,17 +55,17 @@ pub record IsRun (p : ScanPlan) (columns : List Column) (r : Run) : Type 0 where
   pub width : HaveLength (width_of p (length columns)) r.emitted
 
 -- The step of a scan at a place, from 0, over these columns.
-pub record IsStepOf (p : ScanPlan) (columns : List Column) (at : ℕ) (s : PlacedStep) : Type 0 where
+pub record IsStepOf (p : ScanPlan) (cs : List Column) (at : ℕ) (s : PlacedStep) : Type 0 where
   pub step : slice_get p.steps at ≡ Some s.step
-  pub columns : columns ≡ s.columns
+  pub columns : cs ≡ s.columns
 
 -- The rows that a state of the step before emits with a new record, and those of a step that it moves on to.
 unfoldable pub emitted_with : ScanPlan → ScanStep → List Value → Option Held → List (List Value)
-emitted_with p step record None = []
-emitted_with p step record (Some h) = emitted_at_once p step record h.id
+emitted_with p step line None = []
+emitted_with p step line (Some h) = emitted_at_once p step line h.id
 
 unfoldable pub emitted_by_move : ScanPlan → ScanStep → ℕ → List Value → Option Held → Option Held → List (List Value)
-emitted_by_move p step at record before old = held_rows p (at + 1) old ++ (held_rows p at before ++ emitted_with p step record before)
+emitted_by_move p step at line before old = held_rows p (at + 1) old ++ (held_rows p at before ++ emitted_with p step line before)
 
 -- What contracts see of a machine: the scan, the rows with the declared columns that it goes over, and the turn.
 pub record Running : Type 0 where

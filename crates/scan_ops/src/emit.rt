@@ -200,7 +200,7 @@ pub(crate) fn emit_ends(
     requires width { HaveLength (width_of plan.now width) emitted.old }
     ensures rows { OnOk result (emitted.new ≡ emitted.old ++ rows_at_end plan.now (machine_of states.now begun)) }
 {
-    'states: for at in 0..states.len() {
+    'each: for at in 0..states.len() {
         emit_held(alloc, plan, at, &states[at], emitted)?;
     }
     Ok(())

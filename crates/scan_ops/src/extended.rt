@@ -20,7 +20,7 @@ pub(crate) fn with_declared(alloc: Global, plan: &ScanPlan, t: &Table) -> Result
 {
     let mut extended = t.copy(alloc)?;
     let declared = plan.declared.as_slice();
-    'declared: for decl in declared {
+    'each: for decl in declared {
         push_declared(alloc, decl, &mut extended)?;
     }
     Ok(extended)

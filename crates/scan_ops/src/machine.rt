@@ -1,6 +1,6 @@
 //! The machine, and the scan of a whole table.
 ghost use Rattle.std.specs.Prelude.{◌≡◌, ◌<◌, ◌++◌, [], length, IfOk, IsTrue, OnOk};
-ghost use Rattle.kql_meaning.specs.Scan.{machine_at_start, row_after, rows_at_end, scan_table};
+ghost use Rattle.kql_meaning.specs.Scan.{machine_at_start, row_after, rows_at_end, scan_rows, scan_table};
 ghost use Rattle.scan_ops.specs.Steps.{AreStepsScalar, scan_answers};
 
 use crate::emit::emit_ends;
@@ -28,10 +28,15 @@ pub struct ScanMachine<'a> {
 
 impl<'a> Model for ScanMachine<'a> {
     ghost use Rattle.std.specs.Prelude.{◌≡◌, map};
+    ghost use Rattle.std.specs.Coded.{codes};
+    ghost use Rattle.kql_cells.specs.contracts.dynamic.Dyn as dynamic;
+    ghost use Rattle.kql_bound.specs.contracts.expr.BExpr as bexpr;
     ghost use Rattle.scan_ops.specs.Runs.{IsRun, Running, turn_of};
     ghost use Rattle.scan_ops.specs.Steps.{placed_step};
 
     ghost Value = { Running };
+
+    ghost coded = { Prim.hlevel (codes, bexpr.the_row.coded, dynamic.the_row.coded) };
 
     ghost view = { λ m. record { plan = m.plan.now; rows = m.table.now; turn = turn_of m.run } };
 
@@ -125,7 +130,7 @@ fn all_rows(alloc: Global, s: &ScanPlan, t: &Table) -> Result<Rows, AllocError>
     ensures rows { IfOk result (λ r. r ≡ scan_rows s.now t.now) }
 {
     let mut machine = ScanMachine::new(alloc, s, t)?;
-    'rows: for i in 0..t.len() {
+    'each: for i in 0..t.len() {
         machine.feed(alloc, i)?;
     }
     let rows = machine.finish(alloc)?;

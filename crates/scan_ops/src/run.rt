@@ -63,7 +63,7 @@ pub(crate) fn take_row(
     ensures run { IsRun plan.now t.now.columns run.new }
 {
     let mut left = steps.len();
-    'steps: while 0 < left {
+    'each: while 0 < left {
         left -= 1;
         try_step(alloc, plan, t, i, &steps[left], left, run)?;
     }

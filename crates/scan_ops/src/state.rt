@@ -27,6 +27,8 @@ impl Model for State {
 
     ghost Value = { StateSeen };
 
+    ghost coded = { Prim.hlevel (codes, dynamic.the_row.coded) };
+
     ghost view = { λ s. record { size = length s.records; held = held_of s.id s.records } };
 
     ghost invariant = { λ s. s.records ≡ records_of (length s.records) (held_of s.id s.records) };
@@ -67,7 +69,7 @@ impl State {
     pub(crate) fn record(&self, at: usize) -> Option<&Row>
         requires held { IsHeld at self.now.held }
         requires within { at < self.now.size }
-        ensures record { option_copied result ≡ record_in at self.now.held }
+        ensures line { option_copied result ≡ record_in at self.now.held }
     {
         match &self.records.as_slice()[at] {
             Some(row) => Some(row),

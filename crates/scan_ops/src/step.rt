@@ -110,7 +110,7 @@ impl<'a> Step<'a> {
         requires columns { t.now.columns ≡ self.now.columns }
         requires row { i < length t.now.lines }
         requires records { AreSound s.now }
-        ensures record { IfOk result (λ r. r ≡ new_record self.now.step t.now i s.now) }
+        ensures line { IfOk result (λ r. r ≡ new_record self.now.step t.now i s.now) }
         ensures form { IfOk result AreWellFormed }
     {
         let record = record_of(alloc, self.sources.as_slice(), t, i, s)?;
@@ -133,12 +133,12 @@ fn record_of(
     ensures values { IfOk result (λ r. r ≡ map (sourced t.now i s.now) sources.now) }
     ensures form { IfOk result AreWellFormed }
 {
-    let mut record = Items::with_capacity(alloc, sources.len())?;
-    'sources: for source in sources {
+    let mut line = Items::with_capacity(alloc, sources.len())?;
+    'each: for source in sources {
         let value = value_of(alloc, source, t, i, s)?;
-        record.push(value)?;
+        line.push(value)?;
     }
-    Ok(record)
+    Ok(line)
 }
 
 #[tactic(auto, using(crate::proofs::StepFacts::value_facts))]
@@ -187,7 +187,7 @@ fn sources(alloc: Global, sets: &[BItem], schema: &Schema) -> Result<Vec<Source>
 {
     let mut sources = Vec::new(alloc);
     let columns = schema.columns();
-    'columns: for column in columns {
+    'each: for column in columns {
         let source = source_of(alloc, sets, column, schema)?;
         sources.push(source)?;
     }
@@ -218,7 +218,7 @@ fn set_of<'a>(sets: &'a [BItem], name: &str) -> Option<&'a BItem>
     ensures set { option_copied result ≡ find (λ (b : BItem). is_name_among b.names name.now) sets.now }
 {
     let mut left = sets;
-    'sets: while let Some((set, more)) = left.split_first() {
+    'each: while let Some((set, more)) = left.split_first() {
         if is_name_among(set.names.as_slice(), name) {
             return Some(set);
         }
@@ -238,7 +238,7 @@ pub(crate) fn located_steps<'a>(
     ensures steps { IfOk result (λ ss. ss.items ≡ map (placed_step schema.now) steps.now) }
 {
     let mut located = Vec::with_capacity(alloc, steps.len())?;
-    'steps: for step in steps {
+    'each: for step in steps {
         let one = Step::new(alloc, step, schema)?;
         located.push(one)?;
     }
