@@ -203,14 +203,25 @@ pub once-wide : (p : ScanPlan) (s : ScanStep) (r : List Value) (id : ℕ) → Ha
 unfolding emitted_at_once
 once-wide p s r id = if-wide (is_all s.output) (width_of p (length r)) (row_of_record p r id) (row-width p r id)
 
-pub move-added : (p : ScanPlan) (s : ScanStep) (at : ℕ) (r : List Value) (before old : Option Held) (e0 e1 e2 e3 : List (List Value)) → e1 ≡ e0 ++ held_rows p (at + 1 + 1) old → e2 ≡ e1 ++ held_rows p (at + 1) before → e3 ≡ e2 ++ emitted_with p s r before → e3 ≡ e0 ++ emitted_by_move p s (at + 1) r before old
+pub move-added : (p : ScanPlan) (s : ScanStep) (at : ℕ) (r : List Value) (before old : Option Held) (e0 e1 e2 e3 : List (List Value)) → 0 < at → e1 ≡ e0 ++ held_rows p (at + 1) old → e2 ≡ e1 ++ held_rows p (at - 1 + 1) before → e3 ≡ e2 ++ emitted_with p s r before → e3 ≡ e0 ++ emitted_by_move p s at r before old
 unfolding emitted_by_move
-move-added p s at r before old e0 e1 e2 e3 a b c =
-    let x = held_rows p (at + 1 + 1) old in
-    let y = held_rows p (at + 1) before in
+move-added p s at r before old e0 e1 e2 e3 above a second c =
+    let next : at - 1 + 1 ≡ at = omega (arith, above) in
+    let b : e2 ≡ e1 ++ held_rows p at before = second ∙ ap (λ n. e1 ++ held_rows p n before) next in
+    let x = held_rows p (at + 1) old in
+    let y = held_rows p at before in
     let z = emitted_with p s r before in
     c ∙ (ap (λ (rows : List (List Value)). rows ++ z) (b ∙ (ap (λ (rows : List (List Value)). rows ++ y) a ∙ append_assoc e0 x y))
     ∙ (append_assoc e0 (x ++ y) z ∙ ap (λ (rows : List (List Value)). e0 ++ rows) (append_assoc x y z)))
+
+pub held-added-wide : (p : ScanPlan) (size width at : ℕ) (s : StateSeen) (old new : List (List Value)) → IsStateAt size width at s → HaveLength (width_of p width) old → new ≡ old ++ held_rows p (at + 1) s.held → HaveLength (width_of p width) new
+held-added-wide p size width at s old new h long e = more-wide (width_of p width) old new (held_rows p (at + 1) s.held) long (held-wide p size width at s h) e
+
+pub line-wide : (p : ScanPlan) (width : ℕ) (r line : List Value) (emitted : List (List Value)) → r ≡ line → length line ≡ width → HaveLength (width_of p width) emitted → HaveLength (width_of p (length r)) emitted
+line-wide p width r line emitted same long h = subst (λ n. HaveLength (width_of p n) emitted) (sym (ap length same ∙ long)) h
+
+pub wide-line : (p : ScanPlan) (width : ℕ) (r line : List Value) (emitted : List (List Value)) → r ≡ line → length line ≡ width → HaveLength (width_of p (length r)) emitted → HaveLength (width_of p width) emitted
+wide-line p width r line emitted same long h = subst (λ n. HaveLength (width_of p n) emitted) (ap length same ∙ long) h
 
 pub ruleset move_facts = (state-held, state-wide, held-wide, with-wide, more-wide, same-wide, move-added)
 
@@ -218,6 +229,20 @@ pub ruleset move_facts = (state-held, state-wide, held-wide, with-wide, more-wid
 
 pub state-there : (size width k : ℕ) (ss : List StateSeen) (s : StateSeen) → AreStates size width ss → k < length ss → s ≡ get_or ss k s → IsStateAt size width k s
 state-there size width k ss s h lt is = subst (IsStateAt size width k) (sym is) (h.each k s lt)
+
+pub state-in : (size width k : ℕ) (ss xs : List StateSeen) (s : StateSeen) → AreStates size width ss → xs ≡ ss → k < length ss → s ≡ get_or xs k s → IsStateAt size width k s
+state-in size width k ss xs s h same lt is = state-there size width k ss s h lt (is ∙ ap (λ (ys : List StateSeen). get_or ys k s) same)
+
+pub state-at : (k : ℕ) (ss xs : List StateSeen) (s : StateSeen) → xs ≡ ss → s ≡ get_or xs k s → s ≡ get_or ss k s
+state-at k ss xs s same is = is ∙ ap (λ (ys : List StateSeen). get_or ys k s) same
+
+read-same : (k : ℕ) (ss : List StateSeen) (d e : StateSeen) → k < length ss → get_or ss k d ≡ get_or ss k e
+read-same k [] d e lt = absurd (omega (arith, lt))
+read-same zero (s ∷ ss) d e lt = refl
+read-same (suc k) (s ∷ ss) d e lt = read-same k ss d e (omega (arith, lt))
+
+pub state-same : (k : ℕ) (ss : List StateSeen) (a b : StateSeen) → k < length ss → a ≡ get_or ss k a → b ≡ get_or ss k b → a ≡ b
+state-same k ss a b lt one two = one ∙ (read-same k ss a b lt ∙ sym two)
 
 pub state-room : (size width at k : ℕ) (s : StateSeen) → IsStateAt size width at s → k < size → k < s.size
 state-room size width at k s h lt = omega (arith, h.size, lt)

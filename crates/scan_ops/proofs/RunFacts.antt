@@ -26,7 +26,7 @@ use Rattle.scan_ops.proofs.EmitFacts.{state-of, state-room, state-there}
 
 -- The start.
 
-abbrev turn_with : Machine → List (List Value) → Turn
+abbrev pub turn_with : Machine → List (List Value) → Turn
 turn_with m rows = record { machine = m; emitted = rows }
 
 abbrev empty_state : ℕ → StateSeen
@@ -245,7 +245,7 @@ promoted-is p s t i at m (Some h) line all above e count is = elim (cases_Bool (
 ]
 
 pub promoted-turn : (p : ScanPlan) (s : ScanStep) (t : Grid) (i at width : ℕ) (ss new : List StateSeen) (begun : ℕ) (emitted more : List (List Value)) (b o : StateSeen) (rs : Records) (line : List Value) → 0 < at → at < length ss → b ≡ get_or ss (at - 1) b → o ≡ get_or ss at o → AreStates (length p.steps) width ss
-    → is_some (one p s t i at ss begun) ≡ true → rs ≡ records_of b.size b.held → line ≡ new_record s t i rs → more ≡ emitted ++ emitted_by_move p s (at - 1 + 1) line b.held o.held → HasMovedUp at line ss new
+    → is_some (one p s t i at ss begun) ≡ true → rs ≡ records_of b.size b.held → line ≡ new_record s t i rs → more ≡ emitted ++ emitted_by_move p s at line b.held o.held → HasMovedUp at line ss new
     → Some (record { machine = machine_of new begun; emitted = more }) ≡ option_map (after emitted) (one p s t i at ss begun)
 promoted-turn p s t i at width ss new begun emitted more b o rs line above lt before old states check same made rows moved =
     let m = machine_of ss begun in
@@ -258,7 +258,7 @@ promoted-turn p s t i at width ss new begun emitted more b o rs line above lt be
     let found : slice_get ss (at - 1) ≡ Some b = slice_get-get_or ss (at - 1) b below ∙ ap Some (sym before) in
     let holds : is_some (check_one p s t i (at + 1) m b.held) ≡ true = ap (λ (g : Option Held). is_some (check_one p s t i (at + 1) m g)) (sym there) ∙ check in
     let states-are : map held_in new ≡ slice_set (slice_set m.states (at - 1) None) at (option_map (held_with at line) b.held) = ap (map held_in) (moved.states b found) ∙ moved-held at line ss b in
-    let rows-are : more ≡ emitted ++ emitted_by_move p s at line b.held (state_of m (at + 1)) = rows ∙ (ap (λ n. emitted ++ emitted_by_move p s n line b.held o.held) next ∙ ap (λ (g : Option Held). emitted ++ emitted_by_move p s at line b.held g) (sym (state-of ss begun at o lt old))) in
+    let rows-are : more ≡ emitted ++ emitted_by_move p s at line b.held (state_of m (at + 1)) = rows ∙ ap (λ (g : Option Held). emitted ++ emitted_by_move p s at line b.held g) (sym (state-of ss begun at o lt old)) in
     ap₂ (λ (hs : List (Option Held)) (rows : List (List Value)). Some (record { machine = record { states = hs; begun = begun }; emitted = rows })) states-are rows-are
     ∙ (promoted-is p s t i at m b.held line emitted above holds count line-is
     ∙ ap (λ (g : Option Held). option_map (after emitted) (check_one p s t i (at + 1) m g)) (sym there))

@@ -1,8 +1,8 @@
 -- Sources of the columns of a record.
-use Rattle.std.proofs.Common.{◌≡◌, ◌<◌, ◌+◌, ◌++◌, ℕ, zero, suc, Bool, true, false, List, [], ◌∷◌, map, length, take, get_or, refl, sym, ap, ◌∙◌, subst, arith}
+use Rattle.std.proofs.Common.{◌≡◌, ◌<◌, ◌≤◌, ◌+◌, ◌++◌, ℕ, zero, suc, Bool, true, false, List, [], ◌∷◌, map, length, take, get_or, refl, sym, ap, ◌∙◌, subst, arith}
 use Rattle.std.specs.Prelude.{All, IfSome, None, Option, Some, bytes_eq, find, slice_get}
-use Rattle.std.proofs.lemmas.List.{length-map, map_more, take_all}
-use Rattle.std.proofs.lemmas.List.Elements.{All-from_recursion}
+use Rattle.std.proofs.lemmas.List.{length-map, map_more, take_all, take_more}
+use Rattle.std.proofs.lemmas.List.Elements.{All-push}
 use Rattle.std.proofs.lemmas.List.Quantifiers.{position-Some}
 use Rattle.std.proofs.lemmas.Option.{slice_get-get_or}
 use Rattle.kql_cells.specs.Named.{column_name, place_of}
@@ -182,3 +182,21 @@ steps-more columns steps k s old new x lt is before value after =
     after ∙ (ap (λ (ss : List PlacedStep). ss ++ x ∷ []) before ∙ (ap (λ (y : PlacedStep). map f (take k steps) ++ y ∷ []) (value ∙ ap f is) ∙ sym (map_more f steps k s lt)))
 
 pub ruleset steps_facts = (step-scalar, steps-more)
+
+-- The test of the steps.
+
+pub set-more : (sets : List BItem) (k : ℕ) (b : BItem) → k < length sets → b ≡ get_or sets k b → All (λ (b : BItem). IsScalar b.expr) (take k sets) → IsScalar b.expr → All (λ (b : BItem). IsScalar b.expr) (take (k + 1) sets)
+set-more sets k b lt is h here =
+    subst (All (λ (b : BItem). IsScalar b.expr)) (sym (take_more sets k b lt ∙ ap (λ (x : BItem). take k sets ++ x ∷ []) (sym is))) (All-push (λ (b : BItem). IsScalar b.expr) (take k sets) b h here)
+
+pub sets-all : (sets : List BItem) (k : ℕ) → length sets ≤ k → All (λ (b : BItem). IsScalar b.expr) (take k sets) → AreSetsScalar sets
+sets-all sets k le h = record { each = subst (All (λ (b : BItem). IsScalar b.expr)) (take_all k sets le) h }
+
+pub step-more : (steps : List ScanStep) (k : ℕ) (s : ScanStep) → k < length steps → s ≡ get_or steps k s → All IsStepScalar (take k steps) → IsScalar s.condition → AreSetsScalar s.sets → All IsStepScalar (take (k + 1) steps)
+step-more steps k s lt is h condition sets =
+    subst (All IsStepScalar) (sym (take_more steps k s lt ∙ ap (λ (x : ScanStep). take k steps ++ x ∷ []) (sym is))) (All-push IsStepScalar (take k steps) s h (record { condition = condition; sets = sets }))
+
+pub steps-all : (steps : List ScanStep) (k : ℕ) → length steps ≤ k → All IsStepScalar (take k steps) → AreStepsScalar steps
+steps-all steps k le h = record { each = subst (All IsStepScalar) (take_all k steps le) h }
+
+pub ruleset test_facts = (set-more, sets-all, step-more, steps-all)

@@ -1,5 +1,5 @@
 //! The rows that a scan emits.
-ghost use Rattle.std.specs.Prelude.{◌≡◌, ◌<◌, ◌+◌, ◌++◌, ◌∷◌, [], length, map, pos, IfOk, OnErr, OnOk};
+ghost use Rattle.std.specs.Prelude.{◌≡◌, ◌<◌, ◌+◌, ◌-◌, ◌++◌, ◌∷◌, [], length, map, pos, IfOk, OnErr, OnOk};
 ghost use Rattle.kql_cells.specs.Seen.{seen};
 ghost use Rattle.kql_cells.specs.declared.value.Value.TheVariants as value;
 ghost use Rattle.kql_meaning.specs.Scan.{emitted_at_once, held_rows, row_of_record, rows_at_end};
@@ -173,16 +173,18 @@ pub(crate) fn emit_move(
     old: &State,
     emitted: &mut Rows,
 ) -> Result<(), AllocError>
-    requires step { at + 1 < length plan.now.steps }
-    requires before { IsStateAt (length plan.now.steps) (length line.now) at before.now }
-    requires old { IsStateAt (length plan.now.steps) (length line.now) (at + 1) old.now }
+    requires above { 0 < at }
+    requires step { at < length plan.now.steps }
+    requires before { IsStateAt (length plan.now.steps) (length line.now) (at - 1) before.now }
+    requires old { IsStateAt (length plan.now.steps) (length line.now) at old.now }
     requires width { HaveLength (width_of plan.now (length line.now)) emitted.old }
-    ensures rows { OnOk result (emitted.new ≡ emitted.old ++ emitted_by_move plan.now step.now.step (at + 1) line.now before.now.held old.now.held) }
+    ensures rows { OnOk result (emitted.new ≡ emitted.old ++ emitted_by_move plan.now step.now.step at line.now before.now.held old.now.held) }
     ensures width { HaveLength (width_of plan.now (length line.now)) emitted.new }
 {
-    emit_held(alloc, plan, at + 1, old, emitted)?;
-    emit_held(alloc, plan, at, before, emitted)?;
-    emit_with(alloc, plan, step, line, before, emitted)
+    emit_held(alloc, plan, at, old, emitted)?;
+    emit_held(alloc, plan, at - 1, before, emitted)?;
+    emit_with(alloc, plan, step, line, before, emitted)?;
+    Ok(())
 }
 
 /// Emits what the states hold at the end, steps from the first to the last.

@@ -11,4 +11,5 @@ mod run;
 mod state;
 mod step;
 
-pub use machine::{ScanMachine, scan_rows};
+pub use machine::{ScanMachine, emitted_rows, scan_rows};
+pub use step::are_steps_scalar;

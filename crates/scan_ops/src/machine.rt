@@ -84,7 +84,7 @@ impl<'a> ScanMachine<'a> {
 
     /// The rows that were emitted, and behind them the records that the steps hold which emit their last ones.
     pub fn finish(self, alloc: Global) -> Result<Rows, AllocError>
-        ensures rows { IfOk result (λ r. r ≡ self.turn.emitted ++ rows_at_end self.plan self.turn.machine) }
+        ensures rows { IfOk result (λ r. r ≡ self.entry.turn.emitted ++ rows_at_end self.entry.plan self.entry.turn.machine) }
     {
         let ScanMachine {
             plan,
@@ -117,15 +117,15 @@ pub fn scan_rows(alloc: Global, t: &Table, s: &ScanPlan) -> Result<Table, AllocE
     ensures table { IfOk result (λ r. r ≡ scan_table s.now t.now) }
 {
     let extended = with_declared(alloc, s, t)?;
-    let rows = all_rows(alloc, s, &extended)?;
+    let rows = emitted_rows(alloc, s, &extended)?;
     let columns = scan_columns(alloc, s, t.schema().columns())?;
     let made = Table::new(alloc, Schema::from_items(columns), rows)?;
     Ok(made)
 }
 
-// The rows that a scan emits, of rows with the declared columns.
+/// The rows that a scan emits, of a table that has the declared columns behind those of the input, at their defaults.
 #[tactic(auto, using(crate::proofs::MachineFacts::rows_facts))]
-fn all_rows(alloc: Global, s: &ScanPlan, t: &Table) -> Result<Rows, AllocError>
+pub fn emitted_rows(alloc: Global, s: &ScanPlan, t: &Table) -> Result<Rows, AllocError>
     requires scalar { AreStepsScalar s.now.steps }
     ensures rows { IfOk result (λ r. r ≡ scan_rows s.now t.now) }
 {

@@ -121,11 +121,13 @@ fn moves_on(
         return Ok(false);
     }
     let before = &run.states.as_slice()[at - 1];
-    if before.id().is_none() {
-        return Ok(false);
+    match before.id() {
+        None => Ok(false),
+        Some(_) => {
+            let truth = step.is_true_at(alloc, t, i, before.records())?;
+            Ok(truth)
+        }
     }
-    let truth = step.is_true_at(alloc, t, i, before.records())?;
-    Ok(truth)
 }
 
 // Check 2: whether the state of the step is not empty, or it is the first, and the condition is true with its records.
@@ -145,11 +147,17 @@ fn is_renewed(
     ensures check { IfOk result (λ b. b ≡ is_some (check_two plan.now step.now.step t.now i (at + 1) (turn_of run.now).machine)) }
 {
     let state = &run.states.as_slice()[at];
-    if 0 < at && state.id().is_none() {
-        return Ok(false);
+    if at == 0 {
+        let first = step.is_true_at(alloc, t, i, state.records())?;
+        return Ok(first);
     }
-    let truth = step.is_true_at(alloc, t, i, state.records())?;
-    Ok(truth)
+    match state.id() {
+        None => Ok(false),
+        Some(_) => {
+            let truth = step.is_true_at(alloc, t, i, state.records())?;
+            Ok(truth)
+        }
+    }
 }
 
 // Check 1 has held: the state of the step before becomes that of the step, with a new record.
@@ -176,13 +184,14 @@ fn promote(
         alloc,
         plan,
         step,
-        at - 1,
+        at,
         line.as_slice(),
         &run.states.as_slice()[at - 1],
         &run.states.as_slice()[at],
         &mut run.emitted,
     )?;
-    move_up(alloc, at, line, &mut run.states)
+    move_up(alloc, at, line, &mut run.states)?;
+    Ok(())
 }
 
 // Moves the state of the step before to a step, with a new record, and leaves an empty one.

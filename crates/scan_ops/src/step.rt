@@ -1,5 +1,5 @@
 //! A step of a scan whose condition and assignments are located.
-ghost use Rattle.std.specs.Prelude.{◌≡◌, ◌<◌, find, length, map, All, IfOk, IfSome};
+ghost use Rattle.std.specs.Prelude.{◌≡◌, ◌<◌, find, length, map, All, IfOk, IfSome, IsTrue};
 ghost use Rattle.std.specs.Option.{option_copied};
 ghost use Rattle.kql_cells.specs.Seen.{seen};
 ghost use Rattle.kql_cells.specs.Values.{IsWellFormed};
@@ -15,7 +15,7 @@ use kql_bound::{BItem, Output, ScanStep};
 use kql_cells::{CellRef, Column, Schema};
 use kql_columns::is_name_among;
 use kql_items::Items;
-use kql_scalar::Located;
+use kql_scalar::{Located, is_scalar};
 use kql_values::{Row, Table, Value};
 use std::alloc::{AllocError, Global};
 use std::marker::Model;
@@ -225,6 +225,31 @@ fn set_of<'a>(sets: &'a [BItem], name: &str) -> Option<&'a BItem>
         left = more;
     }
     None
+}
+
+/// Whether no aggregate stands in the steps, and each of their literals is well formed.
+#[tactic(auto, using(crate::proofs::StepFacts::test_facts))]
+pub fn are_steps_scalar(steps: &[ScanStep]) -> bool
+    ensures scalar { IsTrue result → AreStepsScalar steps.now }
+{
+    'each: for step in steps {
+        if !is_scalar(&step.condition) || !are_sets_scalar(step.sets.as_slice()) {
+            return false;
+        }
+    }
+    true
+}
+
+#[tactic(auto, using(crate::proofs::StepFacts::test_facts))]
+fn are_sets_scalar(sets: &[BItem]) -> bool
+    ensures scalar { IsTrue result → AreSetsScalar sets.now }
+{
+    'each: for set in sets {
+        if !is_scalar(&set.expr) {
+            return false;
+        }
+    }
+    true
 }
 
 /// The steps of a scan over these columns.

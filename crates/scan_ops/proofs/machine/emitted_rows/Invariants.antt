@@ -2,7 +2,7 @@ use Rattle.std.proofs.Common.{◌≡◌, []}
 use Rattle.std.specs.Prelude.{fold}
 use Rattle.std.specs.List.{range_with_len}
 use Rattle.kql_meaning.specs.Scan.{machine_at_start, row_after}
-use Rattle.scan_ops.proofs.machine.all_rows.Given as goal
+use Rattle.scan_ops.proofs.machine.emitted_rows.Given as goal
 
 -- the turns so far
 abbrev pub invariant-each : goal.invariant-each
