@@ -5,13 +5,11 @@ use Rattle.scan_ops.proofs.RowFacts.{step-of, step-there, steps-count, still-all
 use Rattle.scan_ops.proofs.run.take_row.Goals as goal
 
 pub each-init : goal.each-init
-each-init c =
-    let size : c.len-left.result ≡ length c.args.plan.now.steps = omega (arith, steps-count c.args.plan.now c.args.t.now.columns c.args.steps.now c.requires.steps) in
-    record {
-      run = c.requires.run;
-      left = omega arith;
-      turn = still-all c.args.plan.now c.args.t.now c.args.i c.len-left.result (turn_of c.args.run.now) size;
-    }
+each-init c = record {
+  run = c.requires.run;
+  left = omega arith;
+  turn = still-all c.args.plan.now c.args.t.now c.args.i (length c.args.steps.now) (turn_of c.args.run.now) (steps-count c.args.plan.now c.args.t.now.columns c.args.steps.now c.requires.steps);
+}
 
 pub try_step-requires-clause-step : goal.try_step-requires-clause-step
 try_step-requires-clause-step c = step-of c.args.plan.now c.args.t.now.columns c.args.steps.now (c.each.left - 1) c.index-steps-left.result c.requires.steps (omega arith) c.index-steps-left.is
