@@ -1,5 +1,5 @@
 -- One value more behind the best of several, and its place.
-use Rattle.std.proofs.Common.{◌≡◌, ◌⊎◌, ◌||◌, ◌&&◌, ◌++◌, ◌∷◌, ◌∙◌, ◌==◌, ◌+◌, ℕ, ℤ, suc, Bool, true, false, not, if◌then◌else◌, List, [], fold, length, refl, sym, ap, inl, inr, arith, subst}
+use Rattle.std.proofs.Common.{◌≡◌, ◌⊎◌, ◌||◌, ◌&&◌, ◌++◌, ◌∷◌, ◌∙◌, ◌==◌, ◌+◌, ℕ, ℤ, Bool, true, false, not, if◌then◌else◌, List, [], fold, length, refl, sym, ap, inl, inr, arith, subst}
 use Rattle.std.specs.Prelude.{◌<ℤ◌, ◌≤ℤ◌}
 use Rattle.std.specs.List.{AllByRecursion, list_any, position_or_len}
 use Rattle.std.specs.Cmp.{int_ranks}
@@ -7,7 +7,6 @@ use Rattle.std.specs.Ordering.{MatchOrdering, int_cmp, is_lt}
 use Rattle.std.specs.declared.cmp.Ordering.{Ordering}
 use Rattle.std.specs.declared.cmp.Ordering.TheVariants as ordering
 use Rattle.std.proofs.lemmas.Bool.{cases_Bool}
-use Rattle.std.proofs.lemmas.Int.{ints}
 use Rattle.std.proofs.lemmas.List.Sums.{fold-append}
 use Rattle.kql_cells.specs.Keys.{is_null, same_key, same_key-decides}
 use Rattle.kql_cells.specs.Values.{IsOfKind}

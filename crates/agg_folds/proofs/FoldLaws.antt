@@ -1,5 +1,5 @@
 -- Folds are the aggregates of `kql_meaning`.
-use Rattle.std.proofs.Common.{◌≡◌, ◌<◌, ◌∙◌, ℕ, zero, suc, Bool, true, false, List, [], ◌∷◌, filter, length, map, take, refl, sym, ap, ap₂, inl, inr, arith, if◌then◌else◌, pos}
+use Rattle.std.proofs.Common.{◌≡◌, ◌<◌, ◌∙◌, ℕ, zero, suc, Bool, true, List, [], ◌∷◌, filter, length, map, take, refl, sym, ap, ap₂, inl, inr, arith, if◌then◌else◌, pos}
 use Rattle.std.specs.Prelude.{Option, None, Some, filter_map, is_some, option_map, slice_get}
 use Rattle.std.specs.Int.{int_bit_and, int_bit_or, int_bit_xor, w64}
 use Rattle.std.specs.List.{range_with_len}
@@ -7,7 +7,6 @@ use Rattle.std.proofs.lemmas.Bool.{and_parts, cases_Bool}
 use Rattle.std.proofs.lemmas.List.{length-map}
 use Rattle.kql_cells.specs.Table.{Grid}
 use Rattle.kql_cells.specs.declared.schema.Column.{Column}
-use Rattle.kql_cells.specs.declared.value.Kind.{Kind}
 use Rattle.kql_cells.specs.declared.value.Value.{Value}
 use Rattle.kql_cells.specs.declared.value.Value.TheVariants as value
 use Rattle.kql_functions.specs.declared.aggregate.Aggregate.{Aggregate}
@@ -20,7 +19,7 @@ use Rattle.kql_ticks.specs.Ranges.{fit}
 use Rattle.kql_scalar_fns.specs.Arguments.{argument, long_or_null}
 use Rattle.kql_scalar_fns.specs.Choice.{greatest, least}
 use Rattle.kql_meaning.specs.Aggregates.{aggregated, all_values, combined, distinct_given, first_of, given, listed, values_where}
-use Rattle.kql_meaning.specs.Expressions.{first_kind, kind_of, kinds_in, reading, reading_step, val, values_in}
+use Rattle.kql_meaning.specs.Expressions.{first_kind, kind_of, kinds_in, reading, val, values_in}
 use Rattle.kql_meaning.specs.FittingExpressions.{aggregate_takes, is_count, is_count_literal, literal_of, literal_step, one_or_first_of}
 use Rattle.kql_meaning.specs.Numbers.{counted, fitted, sum_of}
 use Rattle.kql_meaning.specs.Readings.{Reading, reading_at, rows_where, values_over}

@@ -1,9 +1,7 @@
 -- Arguments are well formed where all are.
-use Rattle.std.proofs.Common.{◌≡◌, ◌<◌, ℕ, zero, suc, List, [], ◌∷◌, length, map, arith, subst, sym}
+use Rattle.std.proofs.Common.{◌≡◌, ◌<◌, ℕ, zero, suc, List, [], ◌∷◌, length, arith, subst, sym}
 use Rattle.std.specs.Prelude.{slice_index_or}
-use Rattle.kql_cells.specs.Seen.{seen}
 use Rattle.kql_cells.specs.Values.{IsWellFormed}
-use Rattle.kql_cells.specs.declared.cell.CellRef.{CellRef}
 use Rattle.kql_cells.specs.declared.value.Value.{Value}
 use Rattle.kql_cells.specs.declared.value.Value.TheVariants as value
 use Rattle.kql_scalar_fns.specs.Arguments.{AreWellFormed, argument}

@@ -1,10 +1,10 @@
 -- What is kept of values is joined with what is kept of values behind them.
-use Rattle.std.proofs.Common.{◌≡◌, ◌⊎◌, ◌<◌, ◌≤◌, ◌+◌, ◌-◌, ◌^◌, ◌&&◌, ◌||◌, ◌++◌, ◌∷◌, ◌∙◌, ℕ, zero, suc, ℤ, Bool, true, false, not, List, [], fold, filter, length, take, drop, refl, sym, ap, ap₂, inl, inr, arith}
+use Rattle.std.proofs.Common.{◌≡◌, ◌⊎◌, ◌<◌, ◌≤◌, ◌^◌, ◌||◌, ◌++◌, ◌∷◌, ◌∙◌, ℕ, zero, suc, ℤ, Bool, true, false, not, List, [], fold, filter, length, take, drop, refl, sym, ap, inl, inr, arith}
 use Rattle.std.specs.Prelude.{FitsSigned, Option, None, Some, pos, ◌+ℤ◌, filter_map}
-use Rattle.std.specs.Int.{cast_signed, cast_unsigned, int_bit_and, int_bit_or, int_bit_xor, w64}
+use Rattle.std.specs.Int.{cast_signed, cast_unsigned, w64}
 use Rattle.std.specs.Int.Bits.{and_lt, bit_and, bit_or, bit_xor, xor_assoc}
-use Rattle.std.specs.List.{AllByRecursion, IsDistinct, list_all, list_any, reduce}
-use Rattle.std.proofs.lemmas.Bool.{and_parts, cases_Bool}
+use Rattle.std.specs.List.{AllByRecursion, IsDistinct, list_any, reduce}
+use Rattle.std.proofs.lemmas.Bool.{cases_Bool}
 use Rattle.std.proofs.lemmas.Int.{ints, of_z-to_z}
 use Rattle.std.proofs.lemmas.Nat.{and_assoc, or_lt, xor_lt}
 use Rattle.std.proofs.lemmas.Nat.Bits.{bit_at_or, same_from_bits}

@@ -1,5 +1,5 @@
 -- The fold of rows is joined with the fold of the rows behind them.
-use Rattle.std.proofs.Common.{◌≡◌, ◌<◌, ◌+◌, ◌++◌, ◌∷◌, ◌∙◌, ℕ, suc, ℤ, true, false, List, [], length, refl, sym, ap, ap₂, arith, inl, inr, subst}
+use Rattle.std.proofs.Common.{◌≡◌, ◌++◌, ◌∷◌, ◌∙◌, ℕ, suc, ℤ, List, [], length, refl, sym, ap, ap₂, arith, inl, inr, subst}
 use Rattle.std.specs.Prelude.{FitsSigned, Option, None, Some, filter_map}
 use Rattle.std.specs.Int.{w64}
 use Rattle.std.specs.List.{All, AllByRecursion, cons_option}

@@ -12,7 +12,7 @@ use Rattle.kql_meaning.specs.Numbers.{sum_of}
 use Rattle.kql_meaning.specs.Results.{greatest_row, least_row, row_of}
 use Rattle.agg_folds.specs.declared.call.FoldCall.{FoldCall}
 use Rattle.agg_folds.specs.Folds.{chosen_row, folded, taken, taken_of}
-use Rattle.agg_folds.specs.States.{IsBounded, Kept, bits_in, first_of, fold_of, greatest_of, kept_of, least_of, list_of, place_in, pushed, set_of, started, state_by, state_of, value_in, with_value}
+use Rattle.agg_folds.specs.States.{IsBounded, Kept, bits_in, first_of, fold_of, greatest_of, kept_of, least_of, list_of, place_in, set_of, started, state_by, state_of, value_in, with_value}
 use Rattle.agg_folds.specs.declared.state.State.{State}
 use Rattle.agg_folds.proofs.TotalFacts.{sum-of-none}
 use Rattle.agg_folds.proofs.StateLaws.{state-place, state-push, state-value}

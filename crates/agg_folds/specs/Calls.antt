@@ -1,7 +1,6 @@
 -- What a fold needs of a call of an aggregate.
 use Rattle.std.specs.Prelude.{ℕ, List, Option, None, Some, option_map, slice_get}
 use Rattle.kql_cells.specs.declared.schema.Column.{Column}
-use Rattle.kql_cells.specs.declared.value.Kind.{Kind}
 use Rattle.kql_functions.specs.declared.aggregate.Aggregate.{Aggregate}
 use Rattle.kql_functions.specs.declared.aggregate.Aggregate.TheVariants as aggregate
 use Rattle.kql_bound.specs.declared.expr.BExpr.{BExpr}

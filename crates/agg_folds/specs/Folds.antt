@@ -1,5 +1,5 @@
 -- What the aggregates give, over what their arguments are at each row in place of a table.
-use Rattle.std.specs.Prelude.{ℕ, List, Option, None, Some, filter_map, if◌then◌else◌, length, take}
+use Rattle.std.specs.Prelude.{ℕ, List, Option, None, Some, filter_map, if◌then◌else◌, take}
 use Rattle.std.specs.Int.{int_bit_and, int_bit_or, int_bit_xor, w64}
 use Rattle.kql_cells.specs.declared.value.Kind.{Kind}
 use Rattle.kql_cells.specs.declared.value.Value.{Value}

@@ -1,5 +1,5 @@
 -- The states of folds: what they keep of the values that an aggregate took.
-use Rattle.std.specs.Prelude.{ℕ, ◌+◌, ◌≤◌, List, [], Option, None, Some, length, ℤ, pos, ◌+ℤ◌, filter_map}
+use Rattle.std.specs.Prelude.{ℕ, ◌+◌, ◌≤◌, List, [], Option, None, length, pos, ◌+ℤ◌, filter_map}
 use Rattle.std.specs.List.{reduce}
 use Rattle.kql_ticks.specs.Ranges.{fit}
 use Rattle.kql_cells.specs.declared.value.Kind.{Kind}
@@ -13,7 +13,6 @@ use Rattle.kql_meaning.specs.Aggregates.{distinct_given, given, listed}
 use Rattle.kql_meaning.specs.Numbers.{added, counted, fitted, sum_of}
 use Rattle.kql_meaning.specs.Results.{greatest_row, least_row}
 use Rattle.kql_meaning.specs.Values.{number_of}
-use Rattle.agg_folds.specs.declared.best.Best.{Best}
 use Rattle.agg_folds.specs.declared.best.Prefer.{Prefer}
 use Rattle.agg_folds.specs.declared.best.Prefer.TheVariants as prefer
 use Rattle.agg_folds.specs.declared.bits.BitOp.{BitOp}

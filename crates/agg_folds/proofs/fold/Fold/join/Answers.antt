@@ -1,4 +1,3 @@
-use Rattle.std.proofs.Common.{◌≡◌}
 use Rattle.agg_folds.proofs.JoinStates.{rows-joined}
 use Rattle.agg_folds.proofs.RowLaws.{ok-along}
 use Rattle.agg_folds.proofs.fold.Fold.join.Goals as goal

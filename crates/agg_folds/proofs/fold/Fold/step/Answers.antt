@@ -1,6 +1,5 @@
-use Rattle.std.proofs.Common.{◌≡◌, ◌++◌, ◌∷◌, [], map, sym}
+use Rattle.std.proofs.Common.{map, sym}
 use Rattle.kql_cells.specs.Seen.{seen}
-use Rattle.agg_folds.specs.States.{fold_of, with_value}
 use Rattle.agg_folds.proofs.RowLaws.{ok-along, row-passed, row-taken}
 use Rattle.agg_folds.proofs.fold.Fold.step.Goals as goal
 
