@@ -121,7 +121,8 @@ fn operators(rt: HostRuntime) -> Result<(), Fail> {
 fn ranges(rt: HostRuntime) -> Result<(), Fail> {
     let alloc = rt.alloc();
     let got = copied_text(alloc, endless(alloc)?)?;
-    let want = "range x from datetime(0001-01-01T00:00:00.0000000Z) to datetime(null) step timespan(00:00:00.0000001)\n";
+    let want =
+        "range x from datetime(0001-01-01T00:00:00.0000000Z) to datetime(null) step timespan(00:00:00.0000001)\n";
     assert_eq!(rt; got.as_str(), want);
     Ok(())
 }

@@ -24,9 +24,7 @@ fn words_of(alloc: Global, seat: &Seat) -> Result<Vec<String>, AllocError> {
     }
     words.push(String::from_str(alloc, "query")?)?;
     for table in &seat.tables {
-        words.push(
-            format!(in alloc; "{}={}", table.name.as_str(), table.name.as_str())?,
-        )?;
+        words.push(format!(in alloc; "{}={}", table.name.as_str(), table.name.as_str())?)?;
     }
     Ok(words)
 }

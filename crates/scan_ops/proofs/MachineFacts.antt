@@ -137,7 +137,7 @@ pub rows-fit : (p : ScanPlan) (t u : Grid) (cs : List Column) (rows : List (List
 unfolding scan_table
 rows-fit p t u cs rows names fits e extended named made =
     let same : record { columns = scan_columns p t.columns; lines = scan_rows p (with_declared p t) } ≡ record { columns = cs; lines = rows } =
-        ap₂ (λ (ds : List Column) (ls : List (List Value)). record { columns = ds; lines = ls }) (sym named) (sym (made ∙ ap (scan_rows p) extended)) in
+    ap₂ (λ (ds : List Column) (ls : List (List Value)). record { columns = ds; lines = ls }) (sym named) (sym (made ∙ ap (scan_rows p) extended)) in
     subst IsGrid same (scan-grid p t names fits e)
 
 pub table-made : (p : ScanPlan) (t u r : Grid) (cs : List Column) (rows : List (List Value)) → u ≡ with_declared p t → cs ≡ scan_columns p t.columns → rows ≡ scan_rows p u → r ≡ record { columns = cs; lines = rows } → r ≡ scan_table p t
