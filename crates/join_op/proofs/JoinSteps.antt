@@ -93,9 +93,10 @@ unfolding join_pairs pairs_by
 pair-inside k on a b p m =
     let rows = λ (i : ℕ). map (λ (o : Option ℕ). (i, o)) (given (row_rule k) (matches_of (lead_side k) on a b i)) in
     let q = member-of-flat rows (lead_rows k on a) p m in
-    let z = member-of-map (λ (o : Option ℕ). (q.0, o)) (given (row_rule k) (matches_of (lead_side k) on a b q.0)) p q.2 in
-    (subst (λ (x : ℕ × Option ℕ). x.0 < length a.lines) z.2 (lead-inside k on a q.0 q.1),
-     subst (λ (x : ℕ × Option ℕ). IsWithin (length b.lines) x.1) z.2 (given-inside (length b.lines) (row_rule k) (matches_of (lead_side k) on a b q.0) z.0 (matched-inside (lead_side k) on a b q.0) z.1))
+    let z = member-of-map (λ (o : Option ℕ). (q.0, o)) (given (row_rule k) (matches_of (lead_side k) on a b q.0)) p q.2 in (
+      subst (λ (x : ℕ × Option ℕ). x.0 < length a.lines) z.2 (lead-inside k on a q.0 q.1),
+      subst (λ (x : ℕ × Option ℕ). IsWithin (length b.lines) x.1) z.2 (given-inside (length b.lines) (row_rule k) (matches_of (lead_side k) on a b q.0) z.0 (matched-inside (lead_side k) on a b q.0) z.1),
+    )
 
 pub leads-inside : (k : JoinKind) (on : List OnPair) (a b : Grid) (leads : List ℕ) → leads ≡ map (λ q. q.0) (join_pairs k on a b) → All (λ i. i < length a.lines) leads
 leads-inside k on a b leads e = subst (All (λ i. i < length a.lines)) (sym e) (all-members (λ i. i < length a.lines) (map lead (join_pairs k on a b)) (λ i m.
@@ -110,8 +111,8 @@ others-inside k on a b others e = subst (All (IsWithin (length b.lines))) (sym e
 pub somes-inside : (k : JoinKind) (on : List OnPair) (a b : Grid) (leads : List ℕ) (somes : List (Option ℕ)) → leads ≡ map (λ q. q.0) (join_pairs k on a b) → somes ≡ map (λ i. Some i) leads → All (IsWithin (length a.lines)) somes
 somes-inside k on a b leads somes e is = subst (All (IsWithin (length a.lines))) (sym (is ∙ ap (map (λ i. Some i)) e)) (all-members (IsWithin (length a.lines)) (map (λ i. Some i) (map lead (join_pairs k on a b))) (λ o m.
     some-inside (length a.lines) (map lead (join_pairs k on a b)) o (λ i n.
-        let q = member-of-map lead (join_pairs k on a b) i n in
-        subst (λ x. x < length a.lines) q.2 (pair-inside k on a b q.0 q.1).0) m))
+    let q = member-of-map lead (join_pairs k on a b) i n in
+    subst (λ x. x < length a.lines) q.2 (pair-inside k on a b q.0 q.1).0) m))
 
 same-long : (k : JoinKind) (on : List OnPair) (a b : Grid) → length (map lead (join_pairs k on a b)) ≡ length (map other (join_pairs k on a b))
 same-long k on a b = length-map (join_pairs k on a b) lead ∙ sym (length-map (join_pairs k on a b) other)
@@ -307,9 +308,9 @@ flat-rises : (g : ℕ → List (Option ℕ)) (leads : List ℕ) → Pairwise (λ
 flat-rises g [] h = tt
 flat-rises g (i ∷ is) h =
     pairwise-append (λ (x y : ℕ). x ≤ y) (map (λ (o : Option ℕ). i) (g i)) (flat_map (λ k. map (λ (o : Option ℕ). k) (g k)) is) (pairwise-same i (g i)) (flat-rises g is h.1) (λ x y m n.
-        let w = member-of-map (λ (o : Option ℕ). i) (g i) x m in
-        let above = every-above i g is (weaker i is h.0) y n in
-        omega (arith, w.2, above))
+    let w = member-of-map (λ (o : Option ℕ). i) (g i) x m in
+    let above = every-above i g is (weaker i is h.0) y n in
+    omega (arith, w.2, above))
   where
     weaker : (i : ℕ) (xs : List ℕ) → AllByRecursion (λ (y : ℕ). i < y) xs → AllByRecursion (λ (y : ℕ). i ≤ y) xs
     weaker i xs h = every-of-members (λ (y : ℕ). i ≤ y) xs (λ y m. let lt = of-member (λ (y : ℕ). i < y) xs y h m in omega (arith, lt))

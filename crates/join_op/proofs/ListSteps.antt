@@ -62,8 +62,8 @@ flat-at f g [] a h = refl
 flat-at f g (x ∷ xs) a h =
     let first : a + 0 ≡ a = omega arith in
     ap₂ (λ ys zs. ys ++ zs) (ap f (sym first) ∙ h 0 (omega arith)) (flat-at f g xs (a + 1) (λ m lt.
-        let next : (a + 1) + m ≡ a + suc m = omega arith in
-        ap f next ∙ h (suc m) (omega (arith, lt))))
+    let next : (a + 1) + m ≡ a + suc m = omega arith in
+    ap f next ∙ h (suc m) (omega (arith, lt))))
 
 pub map-flat : {X Y Z : Type 0} (h : Y → Z) (f : X → List Y) (xs : List X) → map h (flat_map f xs) ≡ flat_map (λ x. map h (f x)) xs
 map-flat h f [] = refl

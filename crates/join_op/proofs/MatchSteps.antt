@@ -105,8 +105,8 @@ first-rows on lead =
     let own = λ (i : ℕ). map (λ (p : OnPair). cell lead i p.left) on in
     firsts-are same_keys same_keys-decides key n
     ∙ filter-range-same (λ i. not (list_any (λ j. same_keys (key j) (key i)) (range_with_len 0 i))) (λ i. not (list_any (λ j. same_keys (own j) (own i)) (range_with_len 0 i))) 0 n (λ i lt.
-        ap not (any-range-same (λ j. same_keys (key j) (key i)) (λ j. same_keys (own j) (own i)) 0 i (λ j below.
-            ap₂ same_keys (row-key side.Left on lead j (omega (arith, lt, below))) (row-key side.Left on lead i (omega (arith, lt))))))
+    ap not (any-range-same (λ j. same_keys (key j) (key i)) (λ j. same_keys (own j) (own i)) 0 i (λ j below.
+    ap₂ same_keys (row-key side.Left on lead j (omega (arith, lt, below))) (row-key side.Left on lead i (omega (arith, lt))))))
 
 pub rows-led : (kind : JoinKind) (on : List OnPair) (lead : Grid) → rows_led kind (key_cells (lead_side kind) on lead) (length lead.lines) ≡ lead_rows kind on lead
 unfolding rows_led lead_rows lead_side places places_below
@@ -149,9 +149,9 @@ leads-within kind s on lead cols n leads es e size is =
     let long = columns-long s on lead cols n e size in
     let all : All (λ i. i < length lead.lines) leads = subst (All (λ i. i < length lead.lines)) (sym (leads-are kind s on lead cols n leads es e size is)) (all-members (λ i. i < length lead.lines) (lead_rows kind on lead) (lead-inside kind on lead)) in
     λ k d lt m c below.
-        let low = all k d lt in
-        let high = long m c below in
-        omega (arith, low, high, size)
+    let low = all k d lt in
+    let high = long m c below in
+    omega (arith, low, high, size)
 
 -- The pairs that are found.
 
@@ -170,7 +170,7 @@ pairs-are kind s o on lead other cols others n m leads keys r es eo e f size cou
     let f = λ (i : ℕ). map (λ (x : Option ℕ). (i, x)) (given r (matches_in keys (row_of (map now cols) i))) in
     let g = λ (i : ℕ). map (λ (x : Option ℕ). (i, x)) (given (row_rule kind) (matches_of (lead_side kind) on lead other i)) in
     ap (flat_map f) all ∙ flat-same-in f g (lead_rows kind on lead) (λ i mem.
-        ap₂ (λ (q : RowRule) (js : List ℕ). map (λ (x : Option ℕ). (i, x)) (given q js)) er (at i (lead-inside kind on lead i mem)))
+    ap₂ (λ (q : RowRule) (js : List ℕ). map (λ (x : Option ℕ). (i, x)) (given q js)) er (at i (lead-inside kind on lead i mem)))
 
 pub leads-found : (kind : JoinKind) (s o : Side) (on : List OnPair) (lead other : Grid) (cols others : List (Bor (List Value))) (n m : ℕ) (leads : List ℕ) (keys : List (List Value)) (r : RowRule) (made : List ℕ)
     → s ≡ lead_side kind → o ≡ opposite s → map (λ c. c.now) cols ≡ key_cells s on lead → map (λ c. c.now) others ≡ key_cells o on other → n ≡ length lead.lines → m ≡ length other.lines

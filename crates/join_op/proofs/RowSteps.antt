@@ -119,7 +119,7 @@ match-gathered : (on : List OnPair) (a b : Grid) (fs : List ℕ) (m i k : ℕ) �
 unfolding rows_match cell
 match-gathered on a b fs m i k e =
     all-same (λ (p : OnPair). keys_match (cell (gathered a fs) m p.left) (cell b k p.right)) (λ (p : OnPair). keys_match (cell a i p.left) (cell b k p.right)) on (λ p.
-        ap (λ v. keys_match v (cell b k p.right)) (cell-gathered a fs m i (place_of column_name p.left a.columns) e))
+    ap (λ v. keys_match v (cell b k p.right)) (cell-gathered a fs m i (place_of column_name p.left a.columns) e))
 
 pairs-gathered : (j : JoinPlan) (a b : Grid) (fs : List ℕ) (m i : ℕ) → row_at (map (row_at a.lines) fs) m ≡ row_at a.lines i → pairs_of_left j (gathered a fs) b m ≡ pairs_of_left j a b i
 unfolding pairs_of_left matches_right both_rows
@@ -132,8 +132,8 @@ inner-gathered j a b fs =
     let f = pairs_of_left j (gathered a fs) b in
     ap (λ n. flat_map f (range_with_len 0 n)) (length-map fs (row_at a.lines))
     ∙ flat-at f (pairs_of_left j a b) fs 0 (λ m lt.
-        let z : 0 + m ≡ m = omega arith in
-        ap f z ∙ pairs-gathered j a b fs m (get_or fs m 0) (get_or-map (row_at a.lines) fs m 0 [] lt))
+    let z : 0 + m ≡ m = omega arith in
+    ap f z ∙ pairs-gathered j a b fs m (get_or fs m 0) (get_or-map (row_at a.lines) fs m 0 [] lt))
 
 inner-unique : (j : JoinPlan) (a b : Grid) → inner_rows j (firsts_of_keys (left_key j.on a) a) b ≡ flat_map (pairs_of_left j a b) (filter (is_first_of_key (left_key j.on a)) (places a))
 unfolding firsts_of_keys

@@ -113,6 +113,7 @@ shown-are j cs = by j.lookup
     all-kept : (ds : List Column) → ds ≡ filter (λ (c : Column). true) ds
     all-kept [] = refl
     all-kept (d ∷ ds) = ap (λ xs. d ∷ xs) (all-kept ds)
+
     by : (b : Bool) → (if b then filter (λ (c : Column). not (is_name_among (map (λ (pair : OnPair). pair.right) j.on) c.name)) cs else cs) ≡ filter (λ (c : Column). not (b && is_name_among (map (λ (pair : OnPair). pair.right) j.on) c.name)) cs
     by true = refl
     by false = all-kept cs
@@ -134,7 +135,7 @@ rows-shown : (j : JoinPlan) (b : Grid) (places : List (Option ℕ)) → rows_of 
 unfolding shown_cells
 rows-shown j b places =
     rows_of-are (length places) (map (λ (c : Column). map (shown_cell b c) places) (filter (is_shown j) b.columns)) (map (shown_at j b) places) (length-map places (shown_at j b)) (λ m lt.
-        get_or-map (shown_at j b) places m None [] lt ∙ sym (row-shown b places (filter (is_shown j) b.columns) m lt ∙ at-place j b (get_or places m None)))
+    get_or-map (shown_at j b) places m None [] lt ∙ sym (row-shown b places (filter (is_shown j) b.columns) m lt ∙ at-place j b (get_or places m None)))
 
 cells-long : (j : JoinPlan) (b : Grid) (places : List (Option ℕ)) (cs : List Column) → HaveLength (length places) (map (λ (c : Column). map (shown_cell b c) places) cs)
 unfolding HaveLength
@@ -164,7 +165,7 @@ fits-shown j b taken None h fits within = renamed-fits taken (shown_columns j b.
 fits-shown j b taken (Some k) h fits within =
     let shown = shown_columns j b.columns in
     renamed-fits taken shown (cells_in shown b k) (cells-fit b k (h, fits) within shown (λ c m.
-        (member-of-filter (is_shown j) b.columns c (subst (Member c) (shown-are j b.columns) m)).0))
+    (member-of-filter (is_shown j) b.columns c (subst (Member c) (shown-are j b.columns) m)).0))
 
 beside-fits : {X : Type 0} (P : X → Type 0) (f : X → List Value) (cs ds : List Column) (ls : List (List Value)) (os : List X) → AllByRecursion (RowFits cs) ls → AllByRecursion P os → ((o : X) → P o → RowFits ds (f o)) → AllByRecursion (RowFits (cs ++ ds)) (beside ls (map f os))
 unfolding beside

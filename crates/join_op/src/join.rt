@@ -65,12 +65,7 @@ pub fn join_places(
 
 // A join that the left side leads.
 #[tactic(auto, using(crate::proofs::JoinSteps::lead_steps))]
-fn left_led(
-    alloc: Global,
-    left: &Table,
-    right: &Table,
-    j: &JoinPlan,
-) -> Result<Joined, AllocError>
+fn left_led(alloc: Global, left: &Table, right: &Table, j: &JoinPlan) -> Result<Joined, AllocError>
     requires lead { IsTrue (has_lead j.now.kind) }
     requires side { lead_side j.now.kind ≡ side.Left }
     requires fits { IsTrue (join_fits j.now left.now.columns right.now.columns) }
@@ -112,12 +107,7 @@ fn left_table(
 
 // A join that the right side leads.
 #[tactic(auto, using(crate::proofs::JoinSteps::lead_steps))]
-fn right_led(
-    alloc: Global,
-    left: &Table,
-    right: &Table,
-    j: &JoinPlan,
-) -> Result<Joined, AllocError>
+fn right_led(alloc: Global, left: &Table, right: &Table, j: &JoinPlan) -> Result<Joined, AllocError>
     requires lead { IsTrue (has_lead j.now.kind) }
     requires side { lead_side j.now.kind ≡ side.Right }
     requires fits { IsTrue (join_fits j.now left.now.columns right.now.columns) }
@@ -161,12 +151,7 @@ fn right_table(
 
 // A join of kind fullouter: the rows of leftouter, and then those for the right rows that match none.
 #[tactic(auto, using(crate::proofs::JoinSteps::full_steps))]
-fn full_outer(
-    alloc: Global,
-    left: &Table,
-    right: &Table,
-    j: &JoinPlan,
-) -> Result<Table, AllocError>
+fn full_outer(alloc: Global, left: &Table, right: &Table, j: &JoinPlan) -> Result<Table, AllocError>
     requires lead { has_lead j.now.kind ≡ false }
     requires fits { IsTrue (join_fits j.now left.now.columns right.now.columns) }
     requires names { HasDistinctNames column_name (join_columns j.now.kind j.now left.now.columns right.now.columns) }

@@ -26,10 +26,7 @@ fn pair(left: Made<KText>, right: Made<KText>) -> Made<OnPair> {
 fn pairs_of(alloc: Global, on: &[(&str, &str)]) -> Made<OnPairs> {
     let mut pairs = Items::new(alloc);
     for (left, right) in on {
-        pairs.push(pair(
-            KText::from_str(alloc, left),
-            KText::from_str(alloc, right),
-        )?)?;
+        pairs.push(pair(KText::from_str(alloc, left), KText::from_str(alloc, right))?)?;
     }
     Ok(pairs)
 }

@@ -259,7 +259,11 @@ pub(crate) const BOTH_EMPTY: &[Case] = &[
 // Right columns whose names clash: `a` once, where `a1` stands on the left already, and `b` with `b1` behind it.
 pub(crate) const CLASH_LEFT: Columns = &[("a", Kind::Long), ("a1", Kind::Long), ("b", Kind::Long)];
 
-pub(crate) const CLASH_RIGHT: Columns =
-    &[("a", Kind::Long), ("b", Kind::Long), ("b1", Kind::Long), ("c", Kind::Long)];
+pub(crate) const CLASH_RIGHT: Columns = &[
+    ("a", Kind::Long),
+    ("b", Kind::Long),
+    ("b1", Kind::Long),
+    ("c", Kind::Long),
+];
 
 pub(crate) const CLASH_NAMES: &[&str] = &["a", "a1", "b", "a2", "b1", "b11", "c"];

@@ -16,6 +16,7 @@ pub(crate) enum Shown {
 }
 
 pub(crate) type Columns = &'static [(&'static str, Kind)];
+
 pub(crate) type Lines = &'static [&'static [Shown]];
 
 fn cell(shown: Shown) -> CellRef<'static> {
@@ -77,11 +78,7 @@ fn finished(alloc: Global, builder: TableBuilder) -> Made<Table> {
 }
 
 /// The table of these rows.
-pub(crate) fn table_of(
-    alloc: Global,
-    columns: &[(&str, Kind)],
-    lines: &[&[Shown]],
-) -> Made<Table> {
+pub(crate) fn table_of(alloc: Global, columns: &[(&str, Kind)], lines: &[&[Shown]]) -> Made<Table> {
     let mut builder = TableBuilder::new(alloc, schema(alloc, columns)?)?;
     for line in lines {
         put_line(&mut builder, line)?;
@@ -96,7 +93,9 @@ fn is_cell(t: &Table, i: usize, c: usize, of: &Table, row: Option<usize>, column
     }
     match row {
         Some(k) => k < of.len() && t.cell(i, c).is_same(of.cell(k, column)),
-        None => t.cell(i, c).is_same(of.schema().columns()[column].kind.absent()),
+        None => t
+            .cell(i, c)
+            .is_same(of.schema().columns()[column].kind.absent()),
     }
 }
 

@@ -141,7 +141,13 @@ fn joins_of_empty_sides(rt: HostRuntime) -> Result<(), Fail> {
 }
 
 // Whether a join on `a` gives columns of these names.
-fn names_are(alloc: Global, left: &Table, right: &Table, j: &JoinPlan, names: &[&str]) -> Made<bool> {
+fn names_are(
+    alloc: Global,
+    left: &Table,
+    right: &Table,
+    j: &JoinPlan,
+    names: &[&str],
+) -> Made<bool> {
     if !join_fits(j, left.schema().columns(), right.schema().columns()) {
         return Ok(false);
     }
@@ -153,7 +159,12 @@ fn names_are(alloc: Global, left: &Table, right: &Table, j: &JoinPlan, names: &[
     Ok(is_named(&made, names))
 }
 
-fn names_of_join(alloc: Global, left: Made<Table>, right: Made<Table>, names: &[&str]) -> Made<bool> {
+fn names_of_join(
+    alloc: Global,
+    left: Made<Table>,
+    right: Made<Table>,
+    names: &[&str],
+) -> Made<bool> {
     let left = left?;
     let right = right?;
     let j = plan_of(alloc, JoinKind::Inner, false, &[("a", "a")])?;
