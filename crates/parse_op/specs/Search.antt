@@ -1,0 +1,61 @@
+-- The first cut of a text from a place on, item by item, and what is remembered of places where there is none.
+use Rattle.std.specs.Prelude.{ℕ, ◌≡◌, ◌<◌, ◌≤◌, ◌+◌, ◌&&◌, Bool, true, false, nat_le, List, [], ◌∷◌, Option, None, Some, drop, find, length, map, option_map, slice_index_or, slice_range, if◌then◌else◌}
+use Rattle.kql_bound.specs.declared.parts.PatItem.{PatItem}
+use Rattle.kql_meaning.specs.Cuts.{is_allowed, is_between_characters, is_cut_from, is_end, rising_lists}
+use Rattle.parse_op.specs.declared.slot.Slot.{Slot}
+
+-- The first cut of a text from a place on.
+unfoldable pub cut_from : Bool → List PatItem → List ℕ → ℕ → Option (List ℕ)
+cut_from relaxed items t start = find (is_cut_from relaxed items t start) (rising_lists (length items) (length t) start)
+
+-- The first of those in which the piece of the first item ends at a place.
+unfoldable pub cut_by : Bool → PatItem → List PatItem → List ℕ → ℕ → ℕ → Option (List ℕ)
+cut_by relaxed item later t start end =
+    if is_end t start end && is_allowed relaxed item later (slice_range t start end) (drop start t)
+    then option_map (λ ends. end ∷ ends) (cut_from relaxed later t end)
+    else None
+
+-- Whether a place of a text is not within a character.
+unfoldable pub is_place : List ℕ → ℕ → Bool
+is_place t i = nat_le i (length t) && is_between_characters t i
+
+-- No cut has the end of its first piece before a place, or from a place on.
+abbrev pub NoneBefore : Bool → PatItem → List PatItem → List ℕ → ℕ → ℕ → Type 0
+NoneBefore relaxed item later t start place = (end : ℕ) → end < place → cut_by relaxed item later t start end ≡ None
+
+abbrev pub NoneBehind : Bool → PatItem → List PatItem → List ℕ → ℕ → ℕ → Type 0
+NoneBehind relaxed item later t start place = (end : ℕ) → place ≤ end → cut_by relaxed item later t start end ≡ None
+
+-- From a place on, which is not before the start of an item's piece, the item allows every end.
+unfoldable pub TakesAny : Bool → PatItem → List PatItem → List ℕ → ℕ → ℕ → Type 0
+TakesAny relaxed item later t start place =
+    (start ≤ place) × ((end : ℕ) → place ≤ end → end ≤ length t → is_allowed relaxed item later (slice_range t start end) (drop start t) ≡ true)
+
+-- What is remembered of an item is so: the later items have no cut from a place on, and the item none from places of its own.
+unfoldable pub IsRemembered : Bool → PatItem → List PatItem → List ℕ → Slot → Type 0
+IsRemembered relaxed item later t slot =
+    ((i : ℕ) → slot.fails_from ≤ i → is_place t i ≡ true → cut_from relaxed later t i ≡ None)
+    × ((i : ℕ) → slice_index_or slot.failed.items i false ≡ true → is_place t i ≡ true → cut_from relaxed (item ∷ later) t i ≡ None)
+
+-- The same of each item.
+unfoldable pub AreRemembered : Bool → List PatItem → List ℕ → List Slot → Type 0
+AreRemembered relaxed [] t slots = Unit {0}
+AreRemembered relaxed (item ∷ items) t [] = Unit {0}
+AreRemembered relaxed (item ∷ items) t (slot ∷ slots) = IsRemembered relaxed item items t slot × AreRemembered relaxed items t slots
+
+-- Nothing is remembered of a text of so many bytes, but that no place is behind its end.
+unfoldable pub IsFresh : ℕ → Slot → Type 0
+IsFresh size slot = (slot.fails_from ≡ size + 1) × (slot.failed.items ≡ [])
+
+unfoldable pub AreFresh : ℕ → List Slot → Type 0
+AreFresh size [] = Unit {0}
+AreFresh size (slot ∷ slots) = IsFresh size slot × AreFresh size slots
+
+-- The ends of the pieces.
+abbrev pub ends_in : List Slot → List ℕ
+ends_in slots = map (λ (slot : Slot). slot.end) slots
+
+-- The ends are the first cut, or there is none.
+unfoldable pub Answers : Bool → Option (List ℕ) → List ℕ → Type 0
+Answers true cut ends = cut ≡ Some ends
+Answers false cut ends = cut ≡ None

@@ -1,0 +1,109 @@
+//! Which pieces an item allows.
+ghost use Rattle.std.specs.Prelude.{◌≡◌, ◌≤◌, length, is_some, IfSome, IsTrue};
+ghost use Rattle.kql_meaning.specs.Cuts.{digits_length, is_allowed, is_number_before_star, number_length, piece_read};
+ghost use Rattle.parse_op.specs.Search.{TakesAny, is_place};
+
+use kql_bound::PatItem;
+use kql_cells::{Kind, read_bool, read_long};
+use kql_ticks::{read_moment, read_span};
+
+/// Whether an item allows a piece, where these items follow it and `rest` is the text from the start of the piece on.
+#[tactic(auto, unfolding(kql_meaning::specs::Cuts::is_allowed))]
+pub(crate) fn allows(
+    relaxed: bool,
+    item: &PatItem,
+    later: &[PatItem],
+    piece: &str,
+    rest: &str,
+) -> bool
+    ensures { result ≡ is_allowed relaxed item.now later.now piece.now rest.now }
+{
+    match item {
+        PatItem::Star => true,
+        PatItem::Literal(literal) => piece == literal.as_str(),
+        PatItem::Column { name: _, kind } => {
+            (relaxed || reads(*kind, piece))
+                && (!is_number_before_star(*kind, later)
+                    || piece.len() == number_length(rest.as_bytes()))
+        }
+    }
+}
+
+/// A place from which on every end of an item's piece is allowed, where its type and the items behind it restrict nothing.
+#[tactic(auto, using(crate::proofs::PieceSteps::piece_steps))]
+pub(crate) fn takes_any_from(
+    relaxed: bool,
+    item: &PatItem,
+    later: &[PatItem],
+    text: &str,
+    start: usize,
+) -> Option<usize>
+    requires place { IsTrue (is_place text.now start) }
+    ensures any { IfSome result (TakesAny relaxed item.now later.now text.now start) }
+{
+    match item {
+        PatItem::Star => Some(start),
+        PatItem::Literal(_) => None,
+        PatItem::Column { name: _, kind } => {
+            if is_number_before_star(*kind, later) {
+                return None;
+            }
+            if relaxed {
+                return Some(start);
+            }
+            match kind {
+                Kind::Text => Some(start),
+                Kind::Dynamic => Some(start + 1),
+                Kind::Bool | Kind::Long | Kind::Moment | Kind::Span => None,
+            }
+        }
+    }
+}
+
+/// Whether a piece reads as a value of a type.
+#[tactic(auto, unfolding(kql_meaning::specs::Cuts::piece_read, kql_meaning::specs::Cuts::filled_piece_read, kql_scalar_fns::specs::Conversion::moment_written))]
+fn reads(kind: Kind, piece: &str) -> bool
+    ensures { result ≡ is_some (piece_read kind piece.now) }
+{
+    match kind {
+        Kind::Text => true,
+        Kind::Bool => !piece.is_empty() && read_bool(piece).is_some(),
+        Kind::Long => !piece.is_empty() && read_long(piece).is_some(),
+        Kind::Moment => !piece.is_empty() && read_moment(piece).is_some(),
+        Kind::Span => !piece.is_empty() && read_span(piece).is_some(),
+        Kind::Dynamic => !piece.is_empty(),
+    }
+}
+
+/// Whether a column is a long directly before `*`.
+#[tactic(auto, unfolding(kql_meaning::specs::Cuts::is_number_before_star, kql_meaning::specs::Cuts::star_follows))]
+fn is_number_before_star(kind: Kind, later: &[PatItem]) -> bool
+    ensures { result ≡ is_number_before_star kind later.now }
+{
+    match kind {
+        Kind::Long => matches!(later.first(), Some(PatItem::Star)),
+        _ => false,
+    }
+}
+
+/// The length of the longest number that a text begins with.
+#[tactic(auto, using(crate::proofs::PieceSteps::number_steps), unfolding(kql_meaning::specs::Cuts::number_length, kql_meaning::specs::Cuts::behind_dash))]
+fn number_length(text: &[u8]) -> usize
+    ensures { result ≡ number_length text.now }
+{
+    let Some((first, behind)) = text.split_first() else {
+        return 0;
+    };
+    if *first != b'-' {
+        return digits_length(text);
+    }
+    let digits = digits_length(behind);
+    if digits == 0 { 0 } else { digits + 1 }
+}
+
+#[tactic(auto, unfolding(kql_meaning::specs::Cuts::digits_length))]
+fn digits_length(text: &[u8]) -> usize
+    ensures { result ≡ digits_length text.now }
+{
+    text.iter().take_while(|b| b.is_ascii_digit()).count()
+}
