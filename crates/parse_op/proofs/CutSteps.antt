@@ -103,7 +103,7 @@ some-end relaxed p ps t start end x h = elim (cases_Bool (is_end t start end)) [
 ]
 
 pub found-at : (relaxed : Bool) (p : PatItem) (ps : List PatItem) (t : List ℕ) (start end : ℕ) (x : List ℕ) → NoneBefore relaxed p ps t start end → cut_by relaxed p ps t start end ≡ Some x → cut_from relaxed (p ∷ ps) t start ≡ Some x
-unfolding cut_from rising_lists
+unfolding NoneBefore cut_from rising_lists
 found-at relaxed p ps t start end x none found =
     let parts = end-parts t start end (some-end relaxed p ps t start end x found) in
     let high = place-within t end parts.1 in
@@ -111,7 +111,7 @@ found-at relaxed p ps t start end x none found =
     (by-end relaxed p ps t start) parts.0 (omega (arith, high, parts.0)) none found
 
 pub none-at : (relaxed : Bool) (p : PatItem) (ps : List PatItem) (t : List ℕ) (start : ℕ) → NoneBehind relaxed p ps t start 0 → cut_from relaxed (p ∷ ps) t start ≡ None
-unfolding cut_from rising_lists
+unfolding NoneBehind cut_from rising_lists
 none-at relaxed p ps t start none =
     nowhere (is_cut_from relaxed (p ∷ ps) t start) (λ e. map (λ es. e ∷ es) (rising_lists (length ps) (length t) e)) (cut_by relaxed p ps t start) start (suc (length t) - start)
     (by-end relaxed p ps t start) (λ j. none j (omega arith))
@@ -134,7 +134,7 @@ no-place relaxed p ps t start end out = elim (cases_Bool (is_end t start end)) [
 ]
 
 pub before-start : (relaxed : Bool) (p : PatItem) (ps : List PatItem) (t : List ℕ) (start : ℕ) → NoneBefore relaxed p ps t start start
-unfolding cut_by
+unfolding NoneBefore cut_by
 before-start relaxed p ps t start = λ end lt. elim (cases_Bool (is_end t start end)) [
   | inl inside ↦ absurd (omega (arith, (end-parts t start end inside).0))
   | inr other ↦ rw other refl

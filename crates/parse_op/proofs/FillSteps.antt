@@ -226,17 +226,17 @@ are-ends b relaxed ps t es e h =
     ends-of relaxed ps t 0 es (find-holds (is_cut relaxed ps t) (rising_lists (length ps) (length t) 0) es (cut-some b (cut relaxed ps t) es e h))
 
 pub all-columns : (old : Growing) (cs : List Column) → old.grid.columns ≡ cs → old.row ≡ [] → drop (length old.row) old.grid.columns ≡ cs
-all-columns old cs is open = ap (λ (r : List Value). drop (length r) old.grid.columns) open ∙ is
+all-columns old cs is bare = ap (λ (r : List Value). drop (length r) old.grid.columns) bare ∙ is
 
 pub row-of-pieces : (b : Bool) (p : ParsePlan) (t es : List ℕ) (old mid : Growing) → b ≡ true → Answers b (cut p.relaxed p.pattern t) es → old.row ≡ [] → mid ≡ has_row old (old.row ++ pieces_values p.pattern t 0 es) → mid ≡ has_row old (parsed_values p t)
 unfolding has_row parsed_values cut_values
-row-of-pieces b p t es old mid e h open is =
-    is ∙ (ap (λ (r : List Value). has_row old (r ++ pieces_values p.pattern t 0 es)) open ∙ ap (λ o. has_row old (cut_values p.pattern t o)) (sym (cut-some b (cut p.relaxed p.pattern t) es e h)))
+row-of-pieces b p t es old mid e h bare is =
+    is ∙ (ap (λ (r : List Value). has_row old (r ++ pieces_values p.pattern t 0 es)) bare ∙ ap (λ o. has_row old (cut_values p.pattern t o)) (sym (cut-some b (cut p.relaxed p.pattern t) es e h)))
 
 pub row-of-absent : (b : Bool) (p : ParsePlan) (t es : List ℕ) (old mid : Growing) → b ≡ false → Answers b (cut p.relaxed p.pattern t) es → old.row ≡ [] → mid ≡ has_row old (old.row ++ absent_row (pattern_columns p.pattern)) → mid ≡ has_row old (parsed_values p t)
 unfolding has_row parsed_values cut_values
-row-of-absent b p t es old mid e h open is =
-    is ∙ (ap (λ (r : List Value). has_row old (r ++ absent_row (pattern_columns p.pattern))) open ∙ ap (λ o. has_row old (cut_values p.pattern t o)) (sym (cut-none b (cut p.relaxed p.pattern t) es e h)))
+row-of-absent b p t es old mid e h bare is =
+    is ∙ (ap (λ (r : List Value). has_row old (r ++ absent_row (pattern_columns p.pattern))) bare ∙ ap (λ o. has_row old (cut_values p.pattern t o)) (sym (cut-none b (cut p.relaxed p.pattern t) es e h)))
 
 pieces-count : (ps : List PatItem) (t : List ℕ) (start : ℕ) (es : List ℕ) → length es ≡ length ps → length (pieces_values ps t start es) ≡ length (pattern_columns ps)
 unfolding pieces_values pattern_columns
@@ -248,16 +248,16 @@ pieces-count (item.Column name k ∷ ps) t start (e ∷ es) len = ap suc (pieces
 
 pub pieces-whole : (ps : List PatItem) (t : List ℕ) (slots : List Slot) (old mid : Growing) → length slots ≡ length ps → old.grid.columns ≡ pattern_columns ps → old.row ≡ [] → mid ≡ has_row old (old.row ++ pieces_values ps t 0 (ends_in slots)) → length mid.row ≡ length mid.grid.columns
 unfolding has_row
-pieces-whole ps t slots old mid count is open e =
+pieces-whole ps t slots old mid count is bare e =
     ap (λ (g : Growing). length g.row) e
-    ∙ (ap (λ (r : List Value). length (r ++ pieces_values ps t 0 (ends_in slots))) open
+    ∙ (ap (λ (r : List Value). length (r ++ pieces_values ps t 0 (ends_in slots))) bare
     ∙ (pieces-count ps t 0 (ends_in slots) (length-map slots (λ (s : Slot). s.end) ∙ count) ∙ sym (ap (λ (g : Growing). length g.grid.columns) e ∙ ap (λ (cs : List Column). length cs) is)))
 
 pub absent-whole : (ps : List PatItem) (old mid : Growing) → old.grid.columns ≡ pattern_columns ps → old.row ≡ [] → mid ≡ has_row old (old.row ++ absent_row (pattern_columns ps)) → length mid.row ≡ length mid.grid.columns
 unfolding has_row absent_row
-absent-whole ps old mid is open e =
+absent-whole ps old mid is bare e =
     ap (λ (g : Growing). length g.row) e
-    ∙ (ap (λ (r : List Value). length (r ++ absent_row (pattern_columns ps))) open
+    ∙ (ap (λ (r : List Value). length (r ++ absent_row (pattern_columns ps))) bare
     ∙ (length-map (pattern_columns ps) (λ (c : Column). absent c.kind) ∙ sym (ap (λ (g : Growing). length g.grid.columns) e ∙ ap (λ (cs : List Column). length cs) is)))
 
 pub row-closed : {A E : Type 0} (r : Result A E) (old mid new : Growing) (row : List Value) → mid ≡ has_row old row → OnOk r (new ≡ closed mid) → OnOk r (new ≡ closed (has_row old row))
@@ -275,9 +275,9 @@ pub grown-columns : (p : ParsePlan) (values : List Value) (i : ℕ) (b : Growing
 unfolding grown parsed_grid
 grown-columns p values i b e = ap (λ (g : Growing). g.grid.columns) e
 
-pub grown-open : (p : ParsePlan) (values : List Value) (i : ℕ) (b : Growing) → b ≡ grown p values i → b.row ≡ []
+pub grown-bare : (p : ParsePlan) (values : List Value) (i : ℕ) (b : Growing) → b ≡ grown p values i → b.row ≡ []
 unfolding grown
-grown-open p values i b e = ap (λ (g : Growing). g.row) e
+grown-bare p values i b e = ap (λ (g : Growing). g.row) e
 
 pub grown-more : (p : ParsePlan) (values : List Value) (i : ℕ) (v : Value) (t : List ℕ) (old new : Growing) → i < length values → v ≡ value_at values i → t ≡ text_in v → old ≡ grown p values i → new ≡ closed (has_row old (parsed_values p t)) → new ≡ grown p values (i + 1)
 unfolding has_row grown parsed_grid
@@ -293,4 +293,4 @@ pub grown-all : (p : ParsePlan) (values : List Value) (i : ℕ) (b : Growing) (t
 unfolding grown
 grown-all p values i b t e le is = is ∙ (ap (λ (g : Growing). g.grid) e ∙ ap (parsed_grid p) (take_all values i le))
 
-pub ruleset table_steps = (grown-start, grown-columns, grown-open, grown-more, grown-all)
+pub ruleset table_steps = (grown-start, grown-columns, grown-bare, grown-more, grown-all)

@@ -1,3 +1,4 @@
+pub mod BoundSteps
 pub mod CutSteps
 pub mod FillSteps
 pub mod KeptSteps

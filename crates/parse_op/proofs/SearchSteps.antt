@@ -6,7 +6,7 @@ use Rattle.std.proofs.lemmas.Bool.{and_parts, cases_Bool, eqb-false, eqb-true, l
 use Rattle.kql_bound.specs.declared.parts.PatItem.{PatItem}
 use Rattle.kql_meaning.specs.Cuts.{is_allowed, is_between_characters}
 use Rattle.parse_op.specs.declared.slot.Slot.{Slot}
-use Rattle.parse_op.specs.Search.{Answers, AreRemembered, IsRemembered, NoneBefore, NoneBehind, cut_by, cut_from, ends_in, is_place}
+use Rattle.parse_op.specs.Search.{Answers, AreRemembered, HasNoCut, IsRemembered, NoneBefore, NoneBehind, cut_by, cut_from, ends_in, is_place}
 use Rattle.parse_op.proofs.CutSteps.{at-end, before-start, boundary-place, by-later, found-at, later-none, no-place, none-at, not-allowed, not-at-end, place-boundary, place-within}
 
 -- Places.
@@ -53,7 +53,7 @@ end-found relaxed p ps t start end b es none e h =
     found-at relaxed p ps t start end (end ∷ es) none (subst (λ x. Answers x (cut_by relaxed p ps t start end) (end ∷ es)) e h)
 
 pub end-passed : (relaxed : Bool) (p : PatItem) (ps : List PatItem) (t : List ℕ) (start end : ℕ) (b : Bool) (es : List ℕ) → NoneBefore relaxed p ps t start end → b ≡ false → Answers b (cut_by relaxed p ps t start end) es → NoneBefore relaxed p ps t start (end + 1)
-unfolding Answers
+unfolding Answers NoneBefore
 end-passed relaxed p ps t start end b es none e h = λ i lt. elim (cases_Bool (nat_le end i)) [
   | inl le ↦
       let same : i ≡ end = omega (arith, lt, leb-true end i le) in
@@ -62,6 +62,7 @@ end-passed relaxed p ps t start end b es none e h = λ i lt. elim (cases_Bool (n
 ]
 
 pub all-passed : (relaxed : Bool) (p : PatItem) (ps : List PatItem) (t : List ℕ) (start end beyond : ℕ) → NoneBefore relaxed p ps t start end → beyond ≤ end → NoneBehind relaxed p ps t start beyond → NoneBehind relaxed p ps t start 0
+unfolding NoneBefore NoneBehind
 all-passed relaxed p ps t start end beyond before le behind = λ i low. elim (cases_Bool (nat_le end i)) [
   | inl far ↦ behind i (omega (arith, le, leb-true end i far))
   | inr near ↦ before i (leb-false end i near)
@@ -98,13 +99,19 @@ unfolding IsRemembered Answers
 failed-before relaxed p ps items t start slot b es is h e set here =
     ap (λ xs. cut_from relaxed xs t start) is ∙ h.1 start (sym e ∙ set) here
 
-pub none-beyond : (relaxed : Bool) (p : PatItem) (ps : List PatItem) (t : List ℕ) (start beyond : ℕ) (slot : Slot) → IsRemembered relaxed p ps t slot → beyond ≡ min slot.fails_from (length t + 1) → NoneBehind relaxed p ps t start beyond
-unfolding IsRemembered
-none-beyond relaxed p ps t start beyond slot h is =
-    λ i low. later-none relaxed p ps t start i (λ here. h.0 i (far i low (place-within t i here)) here)
+pub none-beyond : (relaxed : Bool) (p : PatItem) (ps : List PatItem) (t : List ℕ) (start last beyond : ℕ) (slot : Slot) → IsRemembered relaxed p ps t slot → NoneBehind relaxed p ps t start last → beyond ≡ min last slot.fails_from → NoneBehind relaxed p ps t start beyond
+unfolding IsRemembered NoneBehind
+none-beyond relaxed p ps t start last beyond slot h behind is = λ i low. elim (cases_Bool (nat_le last i)) [
+  | inl far ↦ behind i (leb-true last i far)
+  | inr near ↦ later-none relaxed p ps t start i (h.0 i (from i low (leb-false last i near)))
+]
   where
-    far : (i : ℕ) → beyond ≤ i → i ≤ length t → slot.fails_from ≤ i
-    far i low within = omega (arith, within, low, is)
+    from : (i : ℕ) → beyond ≤ i → i < last → slot.fails_from ≤ i
+    from i low near = omega (arith, low, near, is)
+
+pub at-no-begin : (relaxed : Bool) (p : PatItem) (ps : List PatItem) (t : List ℕ) (start end : ℕ) (b : Bool) (es : List ℕ) → (b ≡ false → HasNoCut ps t end) → b ≡ false → Answers false (cut_by relaxed p ps t start end) es
+unfolding Answers HasNoCut
+at-no-begin relaxed p ps t start end b es h e = later-none relaxed p ps t start end (λ here. h e relaxed)
 
 pub ended : (relaxed : Bool) (p : PatItem) (ps items : List PatItem) (t : List ℕ) (start end : ℕ) (slot : Slot) (behind slots : List Slot) → items ≡ p ∷ ps → slots ≡ slot ∷ behind → slot.end ≡ end → cut_from relaxed (p ∷ ps) t start ≡ Some (end ∷ ends_in behind) → Answers true (cut_from relaxed items t start) (ends_in slots)
 unfolding Answers
@@ -119,4 +126,4 @@ pub not-ended : (relaxed : Bool) (p : PatItem) (ps items : List PatItem) (t : Li
 unfolding Answers
 not-ended relaxed p ps items t start es is none = ap (λ xs. cut_from relaxed xs t start) is ∙ none-at relaxed p ps t start none
 
-pub ruleset search_steps = (place-boundary, tested-place, at-no-place, at-no-piece, at-end-of-piece, before-start, end-found, end-passed, all-passed, no-item, of-first, of-later, of-both, failed-before, none-beyond, ended, not-ended, place-within)
+pub ruleset search_steps = (place-boundary, tested-place, at-no-begin, at-no-place, at-no-piece, at-end-of-piece, before-start, end-found, end-passed, all-passed, no-item, of-first, of-later, of-both, failed-before, none-beyond, ended, not-ended, place-within)

@@ -12,7 +12,7 @@ use Rattle.parse_op.proofs.CutSteps.{boundary-place, none-at, none-later, place-
 
 -- From the lesser of two places on there is none.
 pub from-lesser : (relaxed : Bool) (p : PatItem) (ps : List PatItem) (t : List ℕ) (start place : ℕ) (old new : Slot) → NoneBehind relaxed p ps t start 0 → TakesAny relaxed p ps t start place → new.failed.items ≡ old.failed.items → new.fails_from ≡ min old.fails_from place → IsRemembered relaxed p ps t old → IsRemembered relaxed p ps t new
-unfolding IsRemembered TakesAny
+unfolding IsRemembered NoneBehind TakesAny
 from-lesser relaxed p ps t start place old new none any same is h = (
   λ i low here. elim (cases_Bool (nat_le old.fails_from i)) [
     | inl le ↦ h.0 i (leb-true old.fails_from i le) here

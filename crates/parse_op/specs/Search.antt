@@ -1,5 +1,5 @@
 -- The first cut of a text from a place on, item by item, and what is remembered of places where there is none.
-use Rattle.std.specs.Prelude.{ℕ, ◌≡◌, ◌<◌, ◌≤◌, ◌+◌, ◌&&◌, Bool, true, false, nat_le, List, [], ◌∷◌, Option, None, Some, drop, find, length, map, option_map, slice_index_or, slice_range, if◌then◌else◌}
+use Rattle.std.specs.Prelude.{ℕ, ◌≡◌, ◌<◌, ◌≤◌, ◌+◌, ◌==◌, ◌&&◌, Bool, true, false, nat_le, List, [], ◌∷◌, Option, None, Some, drop, find, length, map, option_map, slice_index_or, slice_range, if◌then◌else◌}
 use Rattle.kql_bound.specs.declared.parts.PatItem.{PatItem}
 use Rattle.kql_meaning.specs.Cuts.{is_allowed, is_between_characters, is_cut_from, is_end, rising_lists}
 use Rattle.parse_op.specs.declared.slot.Slot.{Slot}
@@ -20,11 +20,21 @@ unfoldable pub is_place : List ℕ → ℕ → Bool
 is_place t i = nat_le i (length t) && is_between_characters t i
 
 -- No cut has the end of its first piece before a place, or from a place on.
-abbrev pub NoneBefore : Bool → PatItem → List PatItem → List ℕ → ℕ → ℕ → Type 0
+unfoldable pub NoneBefore : Bool → PatItem → List PatItem → List ℕ → ℕ → ℕ → Type 0
 NoneBefore relaxed item later t start place = (end : ℕ) → end < place → cut_by relaxed item later t start end ≡ None
 
-abbrev pub NoneBehind : Bool → PatItem → List PatItem → List ℕ → ℕ → ℕ → Type 0
+unfoldable pub NoneBehind : Bool → PatItem → List PatItem → List ℕ → ℕ → ℕ → Type 0
 NoneBehind relaxed item later t start place = (end : ℕ) → place ≤ end → cut_by relaxed item later t start end ≡ None
+
+-- There is no cut from a place on, in no kind.
+unfoldable pub HasNoCut : List PatItem → List ℕ → ℕ → Type 0
+HasNoCut items t start = (relaxed : Bool) → cut_from relaxed items t start ≡ None
+
+-- Whether a text has the first byte of another, where that has one.
+unfoldable pub first_fits : List ℕ → Option ℕ → Bool
+first_fits [] found = true
+first_fits (b ∷ bs) None = false
+first_fits (b ∷ bs) (Some c) = b == c
 
 -- From a place on, which is not before the start of an item's piece, the item allows every end.
 unfoldable pub TakesAny : Bool → PatItem → List PatItem → List ℕ → ℕ → ℕ → Type 0

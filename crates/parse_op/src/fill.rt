@@ -12,7 +12,7 @@ ghost use Rattle.kql_values.specs.Growing.{closed, with_cell};
 ghost use Rattle.parse_op.specs.Filled.{AreEnds, has_row, parsed_grid};
 ghost use Rattle.parse_op.specs.Search.{ends_in, is_place};
 
-use crate::cut::{cut_into, slots_of};
+use crate::whole::{cut_into, slots_of};
 use crate::slot::Slot;
 use kql_bound::{ParsePlan, PatItem};
 use kql_cells::{CellRef, Kind, Schema, read_bool, read_long};

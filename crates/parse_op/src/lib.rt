@@ -5,12 +5,12 @@
 #![tactic(auto)]
 
 mod columns;
-mod cut;
 mod fill;
 mod parse;
 mod pieces;
 mod search;
 mod slot;
+mod whole;
 
-pub use cut::cut;
 pub use parse::parse_rows;
+pub use whole::cut;

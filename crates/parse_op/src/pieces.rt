@@ -1,7 +1,7 @@
 //! Which pieces an item allows.
-ghost use Rattle.std.specs.Prelude.{◌≡◌, ◌≤◌, length, is_some, IfSome, IsTrue};
+ghost use Rattle.std.specs.Prelude.{◌≡◌, ◌≤◌, false, length, is_some, slice_get, IfSome, IsTrue};
 ghost use Rattle.kql_meaning.specs.Cuts.{digits_length, is_allowed, is_number_before_star, number_length, piece_read};
-ghost use Rattle.parse_op.specs.Search.{TakesAny, is_place};
+ghost use Rattle.parse_op.specs.Search.{HasNoCut, NoneBefore, NoneBehind, TakesAny, first_fits, is_place};
 
 use kql_bound::PatItem;
 use kql_cells::{Kind, read_bool, read_long};
@@ -26,6 +26,67 @@ pub(crate) fn allows(
                 && (!is_number_before_star(*kind, later)
                     || piece.len() == number_length(rest.as_bytes()))
         }
+    }
+}
+
+/// Two places such that an item's piece ends at none before the first, and at none from the second on.
+#[tactic(auto, using(crate::proofs::BoundSteps::bound_steps))]
+pub(crate) fn ends_between(
+    item: &PatItem,
+    later: &[PatItem],
+    text: &str,
+    start: usize,
+    relaxed: bool,
+) -> (usize, usize)
+    requires place { IsTrue (is_place text.now start) }
+    ensures order { start ≤ result.0 }
+    ensures before { NoneBefore relaxed item.now later.now text.now start result.0 }
+    ensures behind { NoneBehind relaxed item.now later.now text.now start result.1 }
+{
+    match item {
+        PatItem::Star => (start, text.len() + 1),
+        PatItem::Literal(literal) => {
+            let size = literal.as_str().len();
+            (start + size, start + size + 1)
+        }
+        PatItem::Column { name: _, kind } => {
+            if !is_number_before_star(*kind, later) {
+                return (start, text.len() + 1);
+            }
+            let size = number_length(&text.as_bytes()[start..]);
+            (start + size, start + size + 1)
+        }
+    }
+}
+
+/// Whether items may have a cut from a place on, as far as the first byte tells.
+#[tactic(auto, using(crate::proofs::BoundSteps::begin_steps))]
+pub(crate) fn may_begin(items: &[PatItem], text: &str, place: usize) -> bool
+    ensures { result ≡ false → HasNoCut items.now text.now place }
+{
+    let Some((item, _)) = items.split_first() else {
+        return place == text.len();
+    };
+    match item {
+        PatItem::Literal(literal) => {
+            has_first(literal.as_str().as_bytes(), text.as_bytes(), place)
+        }
+        PatItem::Star => true,
+        PatItem::Column { .. } => true,
+    }
+}
+
+// Whether the first byte of a part, where it has one, stands at a place of a text.
+#[tactic(auto, unfolding(crate::specs::Search::first_fits))]
+fn has_first(part: &[u8], text: &[u8], place: usize) -> bool
+    ensures { result ≡ first_fits part.now (slice_get text.now place) }
+{
+    let Some((first, _)) = part.split_first() else {
+        return true;
+    };
+    match text.get(place) {
+        Some(byte) => *first == *byte,
+        None => false,
     }
 }
 

@@ -1,8 +1,8 @@
 //! The search for the first cut.
 ghost use Rattle.std.specs.Prelude.{◌≡◌, ◌≤◌, ◌+◌, ◌∷◌, None, Some, length, IfOk, IsTrue, MatchOption};
-ghost use Rattle.parse_op.specs.Search.{Answers, AreRemembered, NoneBehind, cut_by, cut_from, ends_in, is_place};
+ghost use Rattle.parse_op.specs.Search.{Answers, AreRemembered, NoneBefore, NoneBehind, cut_by, cut_from, ends_in, is_place};
 
-use crate::pieces::allows;
+use crate::pieces::{allows, ends_between, may_begin};
 use crate::slot::Slot;
 use kql_bound::PatItem;
 use std::alloc::AllocError;
@@ -33,8 +33,9 @@ pub(crate) fn search(
     if slot.has_failed(start) {
         return Ok(false);
     }
-    let beyond = slot.fails_from.min(text.len() + 1);
-    match first_end(relaxed, item, later, text, start, beyond, behind)? {
+    let (first, last) = ends_between(item, later, text, start, relaxed);
+    let beyond = last.min(slot.fails_from);
+    match first_end(relaxed, item, later, text, start, first, beyond, behind)? {
         Some(end) => {
             slot.end = end;
             Ok(true)
@@ -46,7 +47,7 @@ pub(crate) fn search(
     }
 }
 
-// The first end of the first item's piece with which there is a cut, before a place from which on there is none.
+// The first end of the first item's piece with which there is a cut. Before a place and from another on there is none.
 #[cycle(search)]
 #[tactic(auto, using(crate::proofs::SearchSteps::search_steps))]
 fn first_end(
@@ -55,18 +56,21 @@ fn first_end(
     later: &[PatItem],
     text: &str,
     start: usize,
+    first: usize,
     beyond: usize,
     slots: &mut [Slot],
 ) -> Result<Option<usize>, AllocError>
     requires count { length slots.old ≡ length later.now }
     requires place { IsTrue (is_place text.now start) }
     requires remembered { AreRemembered relaxed later.now text.now slots.old }
+    requires order { start ≤ first }
+    requires before { NoneBefore relaxed item.now later.now text.now start first }
     requires behind { NoneBehind relaxed item.now later.now text.now start beyond }
     ensures count { length slots.new ≡ length later.now }
     ensures remembered { AreRemembered relaxed later.now text.now slots.new }
     ensures found { IfOk result (λ o. MatchOption o (NoneBehind relaxed item.now later.now text.now start 0) (λ end. cut_from relaxed (item.now ∷ later.now) text.now start ≡ Some (end ∷ ends_in slots.new))) }
 {
-    'ends: for end in start..beyond {
+    'ends: for end in first..beyond {
         if ends_at(relaxed, item, later, text, start, end, slots)? {
             return Ok(Some(end));
         }
@@ -94,6 +98,9 @@ fn ends_at(
     ensures remembered { AreRemembered relaxed later.now text.now slots.new }
     ensures found { IfOk result (λ b. Answers b (cut_by relaxed item.now later.now text.now start end) (end ∷ ends_in slots.new)) }
 {
+    if !may_begin(later, text, end) {
+        return Ok(false);
+    }
     if !text.is_char_boundary(end) {
         return Ok(false);
     }

@@ -14,7 +14,7 @@ search-first_end-requires t c =
     let h : AreRemembered c.args.relaxed c.args.items.now c.args.text.now c.args.slots.now = search rules in
     let one = of-first c.args.relaxed c.in-Some.item.now c.in-Some.later.now c.args.items.now c.args.text.now c.in-Some-split_first_mut.slot.now c.in-Some-split_first_mut.behind.now c.args.slots.now c.in-Some.ensures.cases.0 c.in-Some-split_first_mut.ensures.cases.0 h in
     let more = of-later c.args.relaxed c.in-Some.item.now c.in-Some.later.now c.args.items.now c.args.text.now c.in-Some-split_first_mut.slot.now c.in-Some-split_first_mut.behind.now c.args.slots.now c.in-Some.ensures.cases.0 c.in-Some-split_first_mut.ensures.cases.0 h in
-    (search rules, (search rules, (search rules, (more, none-beyond c.args.relaxed c.in-Some.item.now c.in-Some.later.now c.args.text.now c.args.start c.min-beyond.result c.in-Some-split_first_mut.slot.now one c.min-beyond.ensures))))
+    (search rules, (search rules, (search rules, (more, (search rules, (search rules, none-beyond c.args.relaxed c.in-Some.item.now c.in-Some.later.now c.args.text.now c.args.start _ c.min-beyond.result c.in-Some-split_first_mut.slot.now one (search rules) c.min-beyond.ensures))))))
 
 pub search-returns-in_err-end-clause-remembered : goal.search-returns-in_err-end-clause-remembered
 search-returns-in_err-end-clause-remembered t c =

@@ -1,6 +1,6 @@
 use Rattle.std.proofs.Common.{◌≡◌, ◌++◌, length}
 use Rattle.parse_op.specs.Search.{ends_in}
-use Rattle.parse_op.proofs.cut.ends_of.Given as goal
+use Rattle.parse_op.proofs.whole.ends_of.Given as goal
 
 -- the ends so far, and those that are left
 abbrev pub invariant-ends : goal.invariant-ends

@@ -1,5 +1,5 @@
 use Rattle.std.proofs.Common.{◌≡◌, length}
-use Rattle.parse_op.proofs.cut.slots_of.Given as goal
+use Rattle.parse_op.proofs.whole.slots_of.Given as goal
 
 -- a slot for each so far
 abbrev pub invariant-each : goal.invariant-each
