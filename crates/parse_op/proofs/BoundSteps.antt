@@ -1,13 +1,13 @@
 -- Where pieces can end, and where items cannot begin.
 use Rattle.std.proofs.Common.{◌≡◌, ◌<◌, ◌≤◌, ◌+◌, ◌-◌, ◌&&◌, ◌||◌, ◌==◌, ℕ, zero, suc, Bool, true, false, List, [], ◌∷◌, length, take, drop, refl, sym, ap, ◌∙◌, arith, inl, inr, subst, length-drop, length-take-le}
-use Rattle.std.specs.Prelude.{None, Option, Some, bytes_eq, is_some, nat_le, not, slice_get, slice_range}
+use Rattle.std.specs.Prelude.{None, Option, Some, bytes_eq, is_some, min, nat_le, not, slice_get, slice_range}
 use Rattle.std.proofs.lemmas.Bool.{and_parts, cases_Bool, eq-eqb, eqb-true, leb-true}
 use Rattle.std.proofs.lemmas.Slice.Eq.{bytes_eq-Decides}
 use Rattle.kql_cells.specs.declared.value.Kind.{Kind}
 use Rattle.kql_bound.specs.declared.parts.PatItem.{PatItem}
 use Rattle.kql_bound.specs.declared.parts.PatItem.TheVariants as item
 use Rattle.kql_meaning.specs.Cuts.{behind_dash, digits_length, is_allowed, is_end, is_number_before_star, number_length, piece_read}
-use Rattle.parse_op.specs.Search.{HasNoCut, NoneBefore, NoneBehind, cut_by, cut_from, first_fits, is_place}
+use Rattle.parse_op.specs.Search.{HasNoCut, LimitsPieces, NoneBefore, NoneBehind, cut_by, cut_from, first_fits, is_place}
 use Rattle.parse_op.proofs.CutSteps.{before-start, end-parts, none-at, not-at-end, place-within}
 use Rattle.parse_op.proofs.PieceSteps.{digits-short}
 
@@ -91,7 +91,25 @@ end-behind relaxed p ps t start = λ end low. elim (cases_Bool (is_end t start e
   | inr out ↦ rw out refl
 ]
 
-pub ruleset bound_steps = (before-start, end-behind, literal-before, literal-behind, number-before, number-behind, number-short, place-within)
+-- A piece that reads.
+
+pub typed-behind : (relaxed : Bool) (p : PatItem) (name : List ℕ) (k : Kind) (ps : List PatItem) (t : List ℕ) (start n size : ℕ) (rest : List ℕ) → p ≡ item.Column name k → relaxed ≡ false → rest ≡ drop start t → LimitsPieces k rest n → size ≡ min n (length rest) → NoneBehind relaxed p ps t start (start + size + 1)
+unfolding NoneBehind LimitsPieces cut_by is_allowed
+typed-behind relaxed p name k ps t start n size rest is simple at limit least = rw (is, simple) (λ end low. elim (cases_Bool (is_end t start end)) [
+  | inl inside ↦ elim (cases_Bool (is_some (piece_read k (slice_range t start end)))) [
+      | inl some ↦
+          let parts = end-parts t start end inside in
+          let high = place-within t end parts.1 in
+          let long : length rest ≡ length t - start = ap (λ (xs : List ℕ). length xs) at ∙ length-drop start t in
+          let read : is_some (piece_read k (take (end - start) rest)) ≡ true = ap (λ (xs : List ℕ). is_some (piece_read k (take (end - start) xs))) at ∙ some in
+          let under = limit (end - start) (omega (arith, long, high)) read in
+          absurd (omega (arith, under, low, least, long, high, parts.0))
+      | inr none ↦ rw (inside, none) refl
+    ]
+  | inr out ↦ rw out refl
+])
+
+pub ruleset bound_steps = (before-start, end-behind, literal-before, literal-behind, number-before, number-behind, number-short, typed-behind, place-within)
 
 -- Where items begin.
 

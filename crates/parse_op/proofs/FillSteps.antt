@@ -1,8 +1,8 @@
 -- Pieces as the cells of a row.
-use Rattle.std.proofs.Common.{◌≡◌, ◌<◌, ◌≤◌, ◌+◌, ◌++◌, ◌&&◌, ℕ, zero, suc, Bool, true, false, List, [], ◌∷◌, map, length, get_or, take, drop, refl, sym, ap, ◌∙◌, arith, subst, append_assoc}
+use Rattle.std.proofs.Common.{◌≡◌, ◌<◌, ◌≤◌, ◌+◌, ◌++◌, ◌&&◌, ◌==◌, ℕ, zero, suc, Bool, true, false, List, [], ◌∷◌, map, length, get_or, take, drop, refl, sym, ap, ◌∙◌, arith, inl, inr, subst, append_assoc, take_all}
 use Rattle.std.specs.Prelude.{IfOk, IsSomeAnd, None, Ok, Err, OnOk, Option, Result, Some, find, slice_get, slice_range}
 use Rattle.std.specs.Str.{IsCharBoundary}
-use Rattle.std.proofs.lemmas.Bool.{and_parts, cases_Bool, leb-true}
+use Rattle.std.proofs.lemmas.Bool.{and_parts, cases_Bool, eqb-true, leb-true}
 use Rattle.std.proofs.lemmas.List.{length-map, map-append, take_more}
 use Rattle.kql_cells.specs.Keys.{absent}
 use Rattle.kql_cells.specs.Ordered.{text_in}
@@ -73,6 +73,15 @@ shows-kind k v e = subst (IsOfKind k) (sym e) (absent-kind k)
 
 pub shows-form : (k : Kind) (v : Value) → v ≡ absent k → IsWellFormed v
 shows-form k v e = subst IsWellFormed (sym e) (absent-form k)
+
+no-bytes : (piece : List ℕ) → length piece ≡ 0 → piece ≡ []
+no-bytes [] h = refl
+no-bytes (b ∷ bs) h = absurd (omega (arith, h))
+
+pub empty-cell : {A E : Type 0} (r : Result A E) (old new : Growing) (v : Value) (k : Kind) (piece : List ℕ) (b : Bool) → b ≡ (length piece == 0) → b ≡ true → v ≡ absent k → OnOk r (new ≡ with_cell old v) → OnOk r (new ≡ with_cell old (piece_value k piece))
+empty-cell r old new v k piece b test holds shown h =
+    let none = no-bytes piece (eqb-true (length piece) 0 (sym test ∙ holds)) in
+    subst (λ x. OnOk r (new ≡ with_cell old x)) (shown ∙ empty-piece k piece none) h
 
 pub ruleset cell_steps = (fits-next, empty-piece, dynamic-piece, shows-kind, shows-form)
 

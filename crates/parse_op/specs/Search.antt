@@ -1,7 +1,10 @@
 -- The first cut of a text from a place on, item by item, and what is remembered of places where there is none.
-use Rattle.std.specs.Prelude.{ℕ, ◌≡◌, ◌<◌, ◌≤◌, ◌+◌, ◌==◌, ◌&&◌, Bool, true, false, nat_le, List, [], ◌∷◌, Option, None, Some, drop, find, length, map, option_map, slice_index_or, slice_range, if◌then◌else◌}
+use Rattle.std.specs.Prelude.{ℕ, ◌≡◌, ◌<◌, ◌≤◌, ◌+◌, ◌==◌, ◌&&◌, Bool, true, false, nat_le, List, [], ◌∷◌, Option, None, Some, drop, find, is_some, length, map, option_map, slice_index_or, slice_range, take, if◌then◌else◌}
+use Rattle.std.specs.List.{prefix_len}
+use Rattle.kql_ticks.specs.Forms.{is_of_number}
+use Rattle.kql_cells.specs.declared.value.Kind.{Kind}
 use Rattle.kql_bound.specs.declared.parts.PatItem.{PatItem}
-use Rattle.kql_meaning.specs.Cuts.{is_allowed, is_between_characters, is_cut_from, is_end, rising_lists}
+use Rattle.kql_meaning.specs.Cuts.{is_allowed, is_between_characters, is_cut_from, is_end, piece_read, rising_lists}
 use Rattle.parse_op.specs.declared.slot.Slot.{Slot}
 
 -- The first cut of a text from a place on.
@@ -35,6 +38,15 @@ unfoldable pub first_fits : List ℕ → Option ℕ → Bool
 first_fits [] found = true
 first_fits (b ∷ bs) None = false
 first_fits (b ∷ bs) (Some c) = b == c
+
+-- No longer piece at the start of a text reads as a value of a type.
+unfoldable pub LimitsPieces : Kind → List ℕ → ℕ → Type 0
+LimitsPieces k rest n = (size : ℕ) → size ≤ length rest → is_some (piece_read k (take size rest)) ≡ true → size ≤ n
+
+-- A timespan is a number and a unit, or a number of days and a time: no timespan at the start of a text is longer.
+unfoldable pub span_limit : List ℕ → ℕ
+span_limit [] = 0
+span_limit (b ∷ bs) = if b == 45 then prefix_len is_of_number bs + 18 else prefix_len is_of_number (b ∷ bs) + 17
 
 -- From a place on, which is not before the start of an item's piece, the item allows every end.
 unfoldable pub TakesAny : Bool → PatItem → List PatItem → List ℕ → ℕ → ℕ → Type 0

@@ -1,7 +1,9 @@
 //! Which pieces an item allows.
 ghost use Rattle.std.specs.Prelude.{◌≡◌, ◌≤◌, false, length, is_some, slice_get, IfSome, IsTrue};
 ghost use Rattle.kql_meaning.specs.Cuts.{digits_length, is_allowed, is_number_before_star, number_length, piece_read};
-ghost use Rattle.parse_op.specs.Search.{HasNoCut, NoneBefore, NoneBehind, TakesAny, first_fits, is_place};
+ghost use Rattle.std.specs.List.{prefix_len};
+ghost use Rattle.kql_ticks.specs.Forms.{is_of_number};
+ghost use Rattle.parse_op.specs.Search.{HasNoCut, LimitsPieces, NoneBefore, NoneBehind, TakesAny, first_fits, is_place, span_limit};
 
 use kql_bound::PatItem;
 use kql_cells::{Kind, read_bool, read_long};
@@ -50,11 +52,16 @@ pub(crate) fn ends_between(
             (start + size, start + size + 1)
         }
         PatItem::Column { name: _, kind } => {
-            if !is_number_before_star(*kind, later) {
+            let rest = &text.as_bytes()[start..];
+            if is_number_before_star(*kind, later) {
+                let size = number_length(rest);
+                return (start + size, start + size + 1);
+            }
+            if relaxed {
                 return (start, text.len() + 1);
             }
-            let size = number_length(&text.as_bytes()[start..]);
-            (start + size, start + size + 1)
+            let size = longest_piece(*kind, rest).min(rest.len());
+            (start, start + size + 1)
         }
     }
 }
@@ -145,6 +152,49 @@ fn is_number_before_star(kind: Kind, later: &[PatItem]) -> bool
         Kind::Long => matches!(later.first(), Some(PatItem::Star)),
         _ => false,
     }
+}
+
+/// No longer piece at the start of a text reads as a value of a type.
+#[tactic(auto, using(crate::proofs::LimitSteps::limit_steps))]
+fn longest_piece(kind: Kind, text: &[u8]) -> usize
+    ensures { LimitsPieces kind text.now result }
+{
+    match kind {
+        Kind::Bool => 5,
+        Kind::Long => number_length(text),
+        Kind::Moment => 28,
+        Kind::Span => span_limit(text),
+        Kind::Text => text.len(),
+        Kind::Dynamic => text.len(),
+    }
+}
+
+// The same of timespans: what goes before the unit or the time is a number.
+#[tactic(auto, using(crate::proofs::LimitSteps::span_steps), unfolding(crate::specs::Search::span_limit))]
+fn span_limit(text: &[u8]) -> usize
+    ensures { result ≡ span_limit text.now }
+{
+    let Some((first, behind)) = text.split_first() else {
+        return 0;
+    };
+    if *first == b'-' {
+        number_bytes(behind) + 18
+    } else {
+        number_bytes(text) + 17
+    }
+}
+
+// How many bytes of a number a text begins with.
+fn number_bytes(text: &[u8]) -> usize
+    ensures { result ≡ prefix_len is_of_number text.now }
+{
+    text.iter().take_while(|b| is_of_number(**b)).count()
+}
+
+fn is_of_number(byte: u8) -> bool
+    ensures { result ≡ is_of_number byte }
+{
+    byte.is_ascii_digit() || byte == b'.'
 }
 
 /// The length of the longest number that a text begins with.
