@@ -1,5 +1,5 @@
 -- Where pieces can end, and where items cannot begin.
-use Rattle.std.proofs.Common.{◌≡◌, ◌<◌, ◌≤◌, ◌+◌, ◌-◌, ◌&&◌, ◌||◌, ◌==◌, ℕ, zero, suc, Bool, true, false, List, [], ◌∷◌, length, take, drop, refl, sym, ap, ◌∙◌, arith, inl, inr, subst, length-drop, length-take-le}
+use Rattle.std.proofs.Common.{◌≡◌, ◌<◌, ◌≤◌, ◌+◌, ◌-◌, ◌&&◌, ◌||◌, ◌==◌, ℕ, zero, suc, Bool, true, false, List, [], ◌∷◌, length, take, drop, refl, sym, ap, ◌∙◌, arith, inl, inr, subst, length-drop, length-take-le, take_all}
 use Rattle.std.specs.Prelude.{None, Option, Some, bytes_eq, is_some, min, nat_le, not, slice_get, slice_range}
 use Rattle.std.proofs.lemmas.Bool.{and_parts, cases_Bool, eq-eqb, eqb-true, leb-true}
 use Rattle.std.proofs.lemmas.Slice.Eq.{bytes_eq-Decides}
@@ -108,6 +108,9 @@ typed-behind relaxed p name k ps t start n size rest is simple at limit least = 
     ]
   | inr out ↦ rw out refl
 ])
+
+pub rest-is : (xs t : List ℕ) (n : ℕ) → xs ≡ t → take (length xs - n) (drop n xs) ≡ drop n t
+rest-is xs t n e = take_all (length xs - n) (drop n xs) (omega (arith, length-drop n xs)) ∙ ap (drop n) e
 
 pub ruleset bound_steps = (before-start, end-behind, literal-before, literal-behind, number-before, number-behind, number-short, typed-behind, place-within)
 

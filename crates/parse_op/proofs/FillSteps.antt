@@ -300,6 +300,6 @@ grown-more p values i v t old new lt at is before after =
 
 pub grown-all : (p : ParsePlan) (values : List Value) (i : ℕ) (b : Growing) (t : Grid) → b ≡ grown p values i → length values ≤ i → t ≡ b.grid → t ≡ parsed_grid p values
 unfolding grown
-grown-all p values i b t e le is = is ∙ (ap (λ (g : Growing). g.grid) e ∙ ap (parsed_grid p) (take_all values i le))
+grown-all p values i b t e le is = is ∙ (ap (λ (g : Growing). g.grid) e ∙ ap (parsed_grid p) (take_all i values le))
 
 pub ruleset table_steps = (grown-start, grown-columns, grown-bare, grown-more, grown-all)

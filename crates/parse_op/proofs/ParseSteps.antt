@@ -12,6 +12,7 @@ use Rattle.kql_cells.specs.declared.schema.Column.{Column}
 use Rattle.kql_cells.specs.declared.value.Kind.TheVariants as kind
 use Rattle.kql_cells.specs.declared.value.Value.{Value}
 use Rattle.kql_functions.specs.Kinds.{same_kind}
+use Rattle.kql_bound.specs.declared.expr.BExpr.{BExpr}
 use Rattle.kql_bound.specs.declared.parts.ParsePlan.{ParsePlan}
 use Rattle.kql_meaning.specs.declared.position.Position.TheVariants as position
 use Rattle.kql_meaning.specs.Expressions.{kind_of, val}
@@ -45,11 +46,14 @@ all-rows : (t : Grid) (n : ℕ) → n ≡ length t.lines → rows 0 n ≡ places
 unfolding rows places places_below
 all-rows t n e = let same : n - 0 ≡ length t.lines = omega (arith, e) in ap (range_with_len 0) same
 
-pub of-texts : (p : ParsePlan) (t made : Grid) (n : ℕ) (texts : List Value) → n ≡ length t.lines → texts ≡ map (λ i. val p.text t i []) (rows 0 n) → made ≡ parsed_grid p texts → made ≡ parsed_grid p (values_down p.text t)
+pub column-down : (e : BExpr) (t : Grid) (n : ℕ) (v : List Value) → n ≡ length t.lines → v ≡ map (λ i. val e t i []) (rows 0 n) → v ≡ values_down e t
 unfolding values_down
-of-texts p t made n texts len is e = e ∙ ap (parsed_grid p) (is ∙ ap (map (λ i. val p.text t i [])) (all-rows t n len))
+column-down e t n v len is = is ∙ ap (map (λ i. val e t i [])) (all-rows t n len)
 
-pub ruleset text_steps = (text-scalar, of-texts)
+pub of-texts : (p : ParsePlan) (t made : Grid) (texts : List Value) → texts ≡ values_down p.text t → made ≡ parsed_grid p texts → made ≡ parsed_grid p (values_down p.text t)
+of-texts p t made texts is e = e ∙ ap (parsed_grid p) is
+
+pub ruleset text_steps = (text-scalar, column-down, of-texts)
 
 -- The columns.
 

@@ -9,7 +9,7 @@ ghost use Rattle.kql_meaning.specs.Cuts.{cut};
 ghost use Rattle.kql_meaning.specs.Parse.{cut_values, parsed_values, pattern_columns, piece_value, pieces_values};
 ghost use Rattle.kql_meaning.specs.Tables.{absent_row};
 ghost use Rattle.kql_values.specs.Growing.{closed, with_cell};
-ghost use Rattle.parse_op.specs.Filled.{AreEnds, has_row, parsed_grid};
+ghost use Rattle.parse_op.specs.Filled.{AreEnds, grown, has_row, parsed_grid};
 ghost use Rattle.parse_op.specs.Search.{ends_in, is_place};
 
 use crate::whole::{cut_into, slots_of};
@@ -35,10 +35,27 @@ pub(crate) fn parsed_table(
     let columns = pattern_columns(alloc, p.pattern.as_slice())?;
     let mut builder = TableBuilder::new(alloc, Schema::from_items(columns))?;
     let mut slots = slots_of(alloc, p.pattern.len())?;
-    'rows: for i in 0..texts.len() {
-        fill_row(alloc, &mut builder, p, &mut slots, text_in(texts.cell(i)))?;
-    }
+    fill_rows(alloc, &mut builder, texts, p, &mut slots)?;
     Ok(builder.finish())
+}
+
+// Adds the rows of texts.
+#[tactic(auto, using(crate::proofs::FillSteps::table_steps))]
+fn fill_rows(
+    alloc: Global,
+    builder: &mut TableBuilder,
+    texts: &Vector,
+    p: &ParsePlan,
+    slots: &mut [Slot],
+) -> Result<(), AllocError>
+    requires count { length slots.old ≡ length p.now.pattern }
+    requires empty { builder.old ≡ grown p.now texts.now 0 }
+    ensures filled { OnOk result (builder.new ≡ grown p.now texts.now (length texts.now)) }
+{
+    'rows: for i in 0..texts.len() {
+        fill_row(alloc, builder, p, slots, text_in(texts.cell(i)))?;
+    }
+    Ok(())
 }
 
 // The text that a cell shows.

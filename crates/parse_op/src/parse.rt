@@ -10,7 +10,7 @@ use crate::fill::parsed_table;
 use kql_bound::ParsePlan;
 use kql_columns::pattern_columns;
 use kql_scalar::Located;
-use kql_values::Table;
+use kql_values::{Table, Vector};
 use std::alloc::{AllocError, Global};
 
 /// `parse`: each row with the pieces of its text in the columns of the pattern, behind the other columns of the table. Where the text
@@ -36,8 +36,17 @@ fn pieces_of_rows(alloc: Global, t: &Table, p: &ParsePlan) -> Result<Table, Allo
     requires names { HasDistinctNames column_name (pattern_columns p.now.pattern) }
     ensures rows { IfOk result (λ r. r ≡ parsed_grid p.now (values_down p.now.text t.now)) }
 {
-    let located = Located::new(alloc, &p.text, t.schema())?;
-    let texts = located.column_of(alloc, t, 0, t.len())?;
+    let texts = texts_of_rows(alloc, t, p)?;
     let made = parsed_table(alloc, &texts, p)?;
     Ok(made)
+}
+
+// The text of each row.
+#[tactic(auto, using(crate::proofs::ParseSteps::text_steps))]
+fn texts_of_rows(alloc: Global, t: &Table, p: &ParsePlan) -> Result<Vector, AllocError>
+    requires fits { IsTrue (parse_fits p.now t.now.columns) }
+    ensures values { IfOk result (λ v. v ≡ values_down p.now.text t.now) }
+{
+    let located = Located::new(alloc, &p.text, t.schema())?;
+    located.column_of(alloc, t, 0, t.len())
 }

@@ -24,11 +24,27 @@ pub fn cut(
     ensures cut { IfOk result (λ o. o ≡ cut relaxed pattern.now text.now) }
 {
     let mut slots = slots_of(alloc, pattern.len())?;
-    let is_cut = cut_into(relaxed, pattern, text, &mut slots)?;
+    let found = cut_with(alloc, relaxed, pattern, text, &mut slots)?;
+    Ok(found)
+}
+
+// The same, with a slot for each item.
+#[tactic(auto, using(crate::proofs::SlotSteps::cut_steps))]
+fn cut_with(
+    alloc: Global,
+    relaxed: bool,
+    pattern: &[PatItem],
+    text: &str,
+    slots: &mut [Slot],
+) -> Result<Option<Places>, AllocError>
+    requires count { length slots.old ≡ length pattern.now }
+    ensures cut { IfOk result (λ o. o ≡ cut relaxed pattern.now text.now) }
+{
+    let is_cut = cut_into(relaxed, pattern, text, slots)?;
     if !is_cut {
         return Ok(None);
     }
-    let ends = ends_of(alloc, &slots)?;
+    let ends = ends_of(alloc, slots)?;
     Ok(Some(ends))
 }
 
