@@ -22,13 +22,13 @@ only-end : (relaxed : Bool) (p : PatItem) (ps : List PatItem) (t : List ℕ) (st
 unfolding cut_by
 only-end relaxed p ps t start n one end other = elim (cases_Bool (is_end t start end)) [
   | inl inside ↦ elim (cases_Bool (is_allowed relaxed p ps (slice_range t start end) (drop start t))) [
-      | inl fits ↦
-          let parts = end-parts t start end inside in
-          let size = piece-length t start end parts.0 (place-within t end parts.1) in
-          let long = one (slice_range t start end) fits in
-          absurd (other (omega (arith, size, long, parts.0)))
-      | inr not ↦ rw (inside, not) refl
-    ]
+    | inl fits ↦
+        let parts = end-parts t start end inside in
+        let size = piece-length t start end parts.0 (place-within t end parts.1) in
+        let long = one (slice_range t start end) fits in
+        absurd (other (omega (arith, size, long, parts.0)))
+    | inr not ↦ rw (inside, not) refl
+  ]
   | inr out ↦ rw out refl
 ]
 
@@ -97,15 +97,15 @@ pub typed-behind : (relaxed : Bool) (p : PatItem) (name : List ℕ) (k : Kind) (
 unfolding NoneBehind LimitsPieces cut_by is_allowed
 typed-behind relaxed p name k ps t start n size rest is simple at limit least = rw (is, simple) (λ end low. elim (cases_Bool (is_end t start end)) [
   | inl inside ↦ elim (cases_Bool (is_some (piece_read k (slice_range t start end)))) [
-      | inl some ↦
-          let parts = end-parts t start end inside in
-          let high = place-within t end parts.1 in
-          let long : length rest ≡ length t - start = ap (λ (xs : List ℕ). length xs) at ∙ length-drop start t in
-          let read : is_some (piece_read k (take (end - start) rest)) ≡ true = ap (λ (xs : List ℕ). is_some (piece_read k (take (end - start) xs))) at ∙ some in
-          let under = limit (end - start) (omega (arith, long, high)) read in
-          absurd (omega (arith, under, low, least, long, high, parts.0))
-      | inr none ↦ rw (inside, none) refl
-    ]
+    | inl some ↦
+        let parts = end-parts t start end inside in
+        let high = place-within t end parts.1 in
+        let long : length rest ≡ length t - start = ap (λ (xs : List ℕ). length xs) at ∙ length-drop start t in
+        let read : is_some (piece_read k (take (end - start) rest)) ≡ true = ap (λ (xs : List ℕ). is_some (piece_read k (take (end - start) xs))) at ∙ some in
+        let under = limit (end - start) (omega (arith, long, high)) read in
+        absurd (omega (arith, under, low, least, long, high, parts.0))
+    | inr none ↦ rw (inside, none) refl
+  ]
   | inr out ↦ rw out refl
 ])
 
@@ -134,9 +134,9 @@ no-literal : (relaxed : Bool) (x : List ℕ) (ps : List PatItem) (t : List ℕ) 
 unfolding NoneBehind cut_by is_allowed
 no-literal relaxed x ps t i other = none-at relaxed (item.Literal x) ps t i (λ end low. elim (cases_Bool (is_end t i end)) [
   | inl inside ↦ elim (cases_Bool (bytes_eq (slice_range t i end) x)) [
-      | inl same ↦ let clash : false ≡ true = sym other ∙ fits-where-begun x t i end ((bytes_eq-Decides (slice_range t i end) x).0 same) in cc
-      | inr not ↦ rw (inside, not) refl
-    ]
+    | inl same ↦ let clash : false ≡ true = sym other ∙ fits-where-begun x t i end ((bytes_eq-Decides (slice_range t i end) x).0 same) in cc
+    | inr not ↦ rw (inside, not) refl
+  ]
   | inr out ↦ rw out refl
 ])
 

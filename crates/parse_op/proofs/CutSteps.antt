@@ -15,23 +15,25 @@ use Rattle.parse_op.specs.Search.{NoneBefore, NoneBehind, cut_by, cut_from, is_p
 pub place-boundary : (t : List ℕ) (i : ℕ) → is_place t i ≡ true → IsCharBoundary t i
 unfolding is_place is_between_characters
 place-boundary t i h =
-    let outer = and_parts (nat_le i (length t)) (nat_le (length t) i || (nat_lt (slice_index t i) 128 || nat_le 192 (slice_index t i))) h in
-    (leb-true i (length t) outer.0, λ lt high. elim (cases_Bool (nat_le (length t) i)) [
-      | inl end ↦ absurd (omega (arith, lt, leb-true (length t) i end))
-      | inr more ↦ elim (cases_Bool (nat_lt (slice_index t i) 128)) [
+    let outer = and_parts (nat_le i (length t)) (nat_le (length t) i || (nat_lt (slice_index t i) 128 || nat_le 192 (slice_index t i))) h in (
+      leb-true i (length t) outer.0,
+      λ lt high. elim (cases_Bool (nat_le (length t) i)) [
+        | inl end ↦ absurd (omega (arith, lt, leb-true (length t) i end))
+        | inr more ↦ elim (cases_Bool (nat_lt (slice_index t i) 128)) [
           | inl low ↦ absurd (omega (arith, high, ltb-true (slice_index t i) 128 low))
           | inr other ↦ let test : nat_le 192 (slice_index t i) ≡ true = rw (more, other) at outer.1 in leb-true 192 (slice_index t i) test
         ]
-    ])
+      ],
+    )
 
 pub boundary-place : (t : List ℕ) (i : ℕ) → IsCharBoundary t i → is_place t i ≡ true
 unfolding is_place is_between_characters
 boundary-place t i h = elim (cases_Bool (nat_le (length t) i)) [
   | inl end ↦ rw (le-leb i (length t) h.0, end) refl
   | inr more ↦ elim (cases_Bool (nat_lt (slice_index t i) 128)) [
-      | inl low ↦ rw (le-leb i (length t) h.0, more, low) refl
-      | inr other ↦ rw (le-leb i (length t) h.0, more, other, le-leb 192 (slice_index t i) (h.1 (leb-false (length t) i more) (ltb-false (slice_index t i) 128 other))) refl
-    ]
+    | inl low ↦ rw (le-leb i (length t) h.0, more, low) refl
+    | inr other ↦ rw (le-leb i (length t) h.0, more, other, le-leb 192 (slice_index t i) (h.1 (leb-false (length t) i more) (ltb-false (slice_index t i) 128 other))) refl
+  ]
 ]
 
 -- A search in lists with one head.
@@ -54,9 +56,9 @@ by-end relaxed p ps t start end =
     let whole : List ℕ → Bool = is_cut_from relaxed (p ∷ ps) t start in
     elim (cases_Bool (is_end t start end)) [
       | inl inside ↦ elim (cases_Bool (is_allowed relaxed p ps (slice_range t start end) (drop start t))) [
-          | inl fits ↦ rw (inside, fits) (in-map whole (is_cut_from relaxed ps t end) (λ es. end ∷ es) lists (λ es. rw (inside, fits) refl))
-          | inr not ↦ rw (inside, not) (never whole (λ es. end ∷ es) lists (λ es. rw (inside, not) refl))
-        ]
+        | inl fits ↦ rw (inside, fits) (in-map whole (is_cut_from relaxed ps t end) (λ es. end ∷ es) lists (λ es. rw (inside, fits) refl))
+        | inr not ↦ rw (inside, not) (never whole (λ es. end ∷ es) lists (λ es. rw (inside, not) refl))
+      ]
       | inr out ↦ rw out (never whole (λ es. end ∷ es) lists (λ es. rw out refl))
     ]
 
@@ -167,8 +169,8 @@ pub later-none : (relaxed : Bool) (p : PatItem) (ps : List PatItem) (t : List �
 unfolding cut_by
 later-none relaxed p ps t start end none = elim (cases_Bool (is_end t start end)) [
   | inl inside ↦ elim (cases_Bool (is_allowed relaxed p ps (slice_range t start end) (drop start t))) [
-      | inl fits ↦ rw (inside, fits, none (end-parts t start end inside).1) refl
-      | inr not ↦ rw (inside, not) refl
-    ]
+    | inl fits ↦ rw (inside, fits, none (end-parts t start end inside).1) refl
+    | inr not ↦ rw (inside, not) refl
+  ]
   | inr out ↦ rw out refl
 ]

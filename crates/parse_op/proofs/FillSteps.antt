@@ -159,21 +159,21 @@ unfolding has_row pieces_values
 fill-column r old mid new items later p name k slots behind slot t start piece is at are cut made h =
     let rest = pieces_values later t slot.end (ends_in behind) in
     let all : piece_value k piece ∷ rest ≡ pieces_values items t start (ends_in slots) =
-      ap (λ x. piece_value k x ∷ rest) cut ∙ sym (ap (λ xs. pieces_values xs t start (ends_in slots)) (is ∙ ap (λ q. q ∷ later) at) ∙ ap (λ ss. pieces_values (item.Column name k ∷ later) t start (ends_in ss)) are) in
+    ap (λ x. piece_value k x ∷ rest) cut ∙ sym (ap (λ xs. pieces_values xs t start (ends_in slots)) (is ∙ ap (λ q. q ∷ later) at) ∙ ap (λ ss. pieces_values (item.Column name k ∷ later) t start (ends_in ss)) are) in
     on-ok (new ≡ has_row mid (mid.row ++ rest)) (new ≡ has_row old (old.row ++ pieces_values items t start (ends_in slots))) r (λ e. e ∙ (ap (λ (g : Growing). has_row g (g.row ++ rest)) made ∙ ap (λ x. has_row old x) (append_assoc old.row (piece_value k piece ∷ []) rest ∙ ap (λ x. old.row ++ x) all))) h
 
 pub fill-star : {A E : Type 0} (r : Result A E) (old new : Growing) (items later : List PatItem) (p : PatItem) (slots behind : List Slot) (slot : Slot) (t : List ℕ) (start : ℕ) → items ≡ p ∷ later → p ≡ item.Star → slots ≡ slot ∷ behind → OnOk r (new ≡ has_row old (old.row ++ pieces_values later t slot.end (ends_in behind))) → OnOk r (new ≡ has_row old (old.row ++ pieces_values items t start (ends_in slots)))
 unfolding has_row pieces_values
 fill-star r old new items later p slots behind slot t start is at are h =
     let all : pieces_values later t slot.end (ends_in behind) ≡ pieces_values items t start (ends_in slots) =
-      sym (ap (λ xs. pieces_values xs t start (ends_in slots)) (is ∙ ap (λ q. q ∷ later) at) ∙ ap (λ ss. pieces_values (item.Star ∷ later) t start (ends_in ss)) are) in
+    sym (ap (λ xs. pieces_values xs t start (ends_in slots)) (is ∙ ap (λ q. q ∷ later) at) ∙ ap (λ ss. pieces_values (item.Star ∷ later) t start (ends_in ss)) are) in
     on-ok (new ≡ has_row old (old.row ++ pieces_values later t slot.end (ends_in behind))) (new ≡ has_row old (old.row ++ pieces_values items t start (ends_in slots))) r (λ e. e ∙ ap (λ x. has_row old (old.row ++ x)) all) h
 
 pub fill-literal : {A E : Type 0} (r : Result A E) (old new : Growing) (items later : List PatItem) (p : PatItem) (w : List ℕ) (slots behind : List Slot) (slot : Slot) (t : List ℕ) (start : ℕ) → items ≡ p ∷ later → p ≡ item.Literal w → slots ≡ slot ∷ behind → OnOk r (new ≡ has_row old (old.row ++ pieces_values later t slot.end (ends_in behind))) → OnOk r (new ≡ has_row old (old.row ++ pieces_values items t start (ends_in slots)))
 unfolding has_row pieces_values
 fill-literal r old new items later p w slots behind slot t start is at are h =
     let all : pieces_values later t slot.end (ends_in behind) ≡ pieces_values items t start (ends_in slots) =
-      sym (ap (λ xs. pieces_values xs t start (ends_in slots)) (is ∙ ap (λ q. q ∷ later) at) ∙ ap (λ ss. pieces_values (item.Literal w ∷ later) t start (ends_in ss)) are) in
+    sym (ap (λ xs. pieces_values xs t start (ends_in slots)) (is ∙ ap (λ q. q ∷ later) at) ∙ ap (λ ss. pieces_values (item.Literal w ∷ later) t start (ends_in ss)) are) in
     on-ok (new ≡ has_row old (old.row ++ pieces_values later t slot.end (ends_in behind))) (new ≡ has_row old (old.row ++ pieces_values items t start (ends_in slots))) r (λ e. e ∙ ap (λ x. has_row old (old.row ++ x)) all) h
 
 pub ruleset piece_steps = (column-next, columns-behind, columns-past-star, columns-past-literal, first-order, first-place, later-ends, place-boundary, no-piece, fill-column, fill-star, fill-literal)
@@ -293,8 +293,8 @@ unfolding has_row grown parsed_grid
 grown-more p values i v t old new lt at is before after =
     let f = λ (w : Value). parsed_values p (text_in w) in
     let lines : map f (take i values) ++ parsed_values p t ∷ [] ≡ map f (take (i + 1) values) =
-      ap (λ x. map f (take i values) ++ parsed_values p x ∷ []) (is ∙ ap text_in at)
-      ∙ sym (ap (map f) (take_more values i value.Null lt) ∙ map-append f (take i values) (value_at values i ∷ [])) in
+    ap (λ x. map f (take i values) ++ parsed_values p x ∷ []) (is ∙ ap text_in at)
+    ∙ sym (ap (map f) (take_more values i value.Null lt) ∙ map-append f (take i values) (value_at values i ∷ [])) in
     after ∙ (ap (λ (g : Growing). closed (has_row g (parsed_values p t))) before
     ∙ ap (λ (ls : List (List Value)). record { grid = record { columns = pattern_columns p.pattern; lines = ls }; row = [] }) lines)
 

@@ -47,9 +47,9 @@ unfolding bool_written
 bool-short t h = elim (cases_Bool (str_eq_ignore_ascii_case t (codes "true"))) [
   | inl set ↦ omega (arith, same-length t (codes "true") set)
   | inr other ↦ elim (cases_Bool (str_eq_ignore_ascii_case t (codes "false"))) [
-      | inl set ↦ omega (arith, same-length t (codes "false") set)
-      | inr none ↦ let clash : false ≡ true = rw (other, none) at h in cc
-    ]
+    | inl set ↦ omega (arith, same-length t (codes "false") set)
+    | inr none ↦ let clash : false ≡ true = rw (other, none) at h in cc
+  ]
 ]
 
 -- Datetimes.
@@ -60,12 +60,12 @@ fraction-short [] h = omega arith
 fraction-short (b ∷ bs) h = elim (cases_Bool (nat_le (length bs) 7)) [
   | inl le ↦ omega (arith, leb-true (length bs) 7 le)
   | inr gt ↦ elim (cases_Bool (b == dot)) [
-      | inl point ↦ elim (cases_Bool (nat_le 1 (length bs))) [
-          | inl some ↦ let clash : false ≡ true = rw (point, some, gt) at h in cc
-          | inr few ↦ let clash : false ≡ true = rw (point, few) at h in cc
-        ]
-      | inr other ↦ let clash : false ≡ true = rw other at h in cc
+    | inl point ↦ elim (cases_Bool (nat_le 1 (length bs))) [
+      | inl some ↦ let clash : false ≡ true = rw (point, some, gt) at h in cc
+      | inr few ↦ let clash : false ≡ true = rw (point, few) at h in cc
     ]
+    | inr other ↦ let clash : false ≡ true = rw other at h in cc
+  ]
 ]
 
 seconds-short : (t : List ℕ) → is_some (seconds_in t) ≡ true → length t ≤ 11
@@ -225,24 +225,24 @@ unfolding unit_in
 unit-short t h = elim (cases_Bool (bytes_eq t (codes "d"))) [
   | inl a ↦ omega (arith, of-length t (codes "d") a)
   | inr a ↦ elim (cases_Bool (bytes_eq t (codes "h"))) [
-      | inl b ↦ omega (arith, of-length t (codes "h") b)
-      | inr b ↦ elim (cases_Bool (bytes_eq t (codes "m"))) [
-          | inl c ↦ omega (arith, of-length t (codes "m") c)
-          | inr c ↦ elim (cases_Bool (bytes_eq t (codes "s"))) [
-              | inl d ↦ omega (arith, of-length t (codes "s") d)
-              | inr d ↦ elim (cases_Bool (bytes_eq t (codes "ms"))) [
-                  | inl e ↦ omega (arith, of-length t (codes "ms") e)
-                  | inr e ↦ elim (cases_Bool (bytes_eq t (codes "microsecond"))) [
-                      | inl f ↦ omega (arith, of-length t (codes "microsecond") f)
-                      | inr f ↦ elim (cases_Bool (bytes_eq t (codes "tick"))) [
-                          | inl g ↦ omega (arith, of-length t (codes "tick") g)
-                          | inr g ↦ let clash : false ≡ true = rw (a, b, c, d, e, f, g) at h in cc
-                        ]
-                    ]
-                ]
+    | inl b ↦ omega (arith, of-length t (codes "h") b)
+    | inr b ↦ elim (cases_Bool (bytes_eq t (codes "m"))) [
+      | inl c ↦ omega (arith, of-length t (codes "m") c)
+      | inr c ↦ elim (cases_Bool (bytes_eq t (codes "s"))) [
+        | inl d ↦ omega (arith, of-length t (codes "s") d)
+        | inr d ↦ elim (cases_Bool (bytes_eq t (codes "ms"))) [
+          | inl e ↦ omega (arith, of-length t (codes "ms") e)
+          | inr e ↦ elim (cases_Bool (bytes_eq t (codes "microsecond"))) [
+            | inl f ↦ omega (arith, of-length t (codes "microsecond") f)
+            | inr f ↦ elim (cases_Bool (bytes_eq t (codes "tick"))) [
+              | inl g ↦ omega (arith, of-length t (codes "tick") g)
+              | inr g ↦ let clash : false ≡ true = rw (a, b, c, d, e, f, g) at h in cc
             ]
+          ]
         ]
+      ]
     ]
+  ]
 ]
 
 place-is : (p : ℕ → Bool) (t : List ℕ) (i : ℕ) → position p t ≡ Some i → i ≡ position_or_len p t
@@ -348,4 +348,5 @@ pub numbers-below : (t : List ℕ) (n : ℕ) → n ≡ prefix_len is_of_number t
 numbers-below t n is = omega (arith, is, prefix-below is_of_number t)
 
 pub ruleset span_steps = (numbers-below)
+
 pub ruleset limit_steps = (bool-limit, long-limit, moment-limit, span-limit, any-limit)

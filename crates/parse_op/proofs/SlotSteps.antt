@@ -80,6 +80,9 @@ unfolding Answers
 some-cut b o es ends e h is = ap Some is ∙ sym (subst (λ x. Answers x o es) e h)
 
 pub ruleset fresh_steps = (none-fresh, more-fresh)
+
 pub ruleset cut_steps = (first-place, fresh-slots, of-whole, no-cut, some-cut)
+
 pub ruleset slot_steps = (from-lesser, one-more, place-within)
+
 pub ruleset mark_steps = (place-within)

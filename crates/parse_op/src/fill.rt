@@ -12,8 +12,8 @@ ghost use Rattle.kql_values.specs.Growing.{closed, with_cell};
 ghost use Rattle.parse_op.specs.Filled.{AreEnds, grown, has_row, parsed_grid};
 ghost use Rattle.parse_op.specs.Search.{ends_in, is_place};
 
-use crate::whole::{cut_into, slots_of};
 use crate::slot::Slot;
+use crate::whole::{cut_into, slots_of};
 use kql_bound::{ParsePlan, PatItem};
 use kql_cells::{CellRef, Kind, Schema, read_bool, read_long};
 use kql_columns::pattern_columns;
@@ -153,11 +153,7 @@ fn fill_piece(
 
 // Adds a cell of a column's type.
 #[tactic(auto, using(crate::proofs::FillSteps::cell_steps))]
-fn fill_cell(
-    builder: &mut TableBuilder,
-    kind: Kind,
-    cell: CellRef<'_>,
-) -> Result<(), AllocError>
+fn fill_cell(builder: &mut TableBuilder, kind: Kind, cell: CellRef<'_>) -> Result<(), AllocError>
     requires column { IsSomeAnd (slice_get builder.old.grid.columns (length builder.old.row)) (λ c. c.kind ≡ kind) }
     requires of_kind { IsOfKind kind (seen cell) }
     requires form { IsWellFormed (seen cell) }

@@ -35,4 +35,5 @@ pub found-distinct : (cs : List Column) (ns : List (List ℕ)) (b : Bool) → ns
 found-distinct cs ns b names is e = names-differ cs (ap are_distinct (sym names) ∙ (sym is ∙ e))
 
 pub ruleset plan_steps = (plan-fits)
+
 pub ruleset name_steps = (found-distinct)

@@ -100,15 +100,27 @@ const PIECES: &[Cut] = &[
     (LITERALS, "aaab", Some(&[1, 3, 4, 4])),
     (LITERALS, "aabaab", Some(&[0, 2, 3, 6])),
     (LITERALS, "aacab", None),
-    (&[Part::Is("a"), Part::Any, Part::Is("a")], "aaa", Some(&[1, 2, 3])),
+    (
+        &[Part::Is("a"), Part::Any, Part::Is("a")],
+        "aaa",
+        Some(&[1, 2, 3]),
+    ),
     (&[Part::Is("a"), Part::Any, Part::Is("a")], "a", None),
     (
         &[Part::Of("a", Kind::Text), Part::Is(","), Part::Any],
         "1,2,3",
         Some(&[1, 2, 5]),
     ),
-    (&[Part::Is("a"), Part::Of("s", Kind::Text), Part::Is("b")], "ab", Some(&[1, 1, 2])),
-    (&[Part::Is("a"), Part::Of("n", Kind::Long), Part::Is("b")], "ab", None),
+    (
+        &[Part::Is("a"), Part::Of("s", Kind::Text), Part::Is("b")],
+        "ab",
+        Some(&[1, 1, 2]),
+    ),
+    (
+        &[Part::Is("a"), Part::Of("n", Kind::Long), Part::Is("b")],
+        "ab",
+        None,
+    ),
 ];
 
 // Whether a text has this cut.

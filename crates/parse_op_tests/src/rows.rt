@@ -218,7 +218,12 @@ const CASES: &[Case] = &[
     // A column of the table goes, and its name stands behind the others; a text that is not cut gets null.
     Case {
         relaxed: false,
-        parts: &[Part::Any, Part::Is("id="), Part::Of("n", Kind::Long), Part::Any],
+        parts: &[
+            Part::Any,
+            Part::Is("id="),
+            Part::Of("n", Kind::Long),
+            Part::Any,
+        ],
         texts: &["id=x id=-42 end", "no", "id=7"],
         names: &["m", "n"],
         rows: &[
@@ -230,7 +235,11 @@ const CASES: &[Case] = &[
     // The text's own column goes too; an absent string is empty.
     Case {
         relaxed: false,
-        parts: &[Part::Of("m", Kind::Text), Part::Is("="), Part::Of("r", Kind::Text)],
+        parts: &[
+            Part::Of("m", Kind::Text),
+            Part::Is("="),
+            Part::Of("r", Kind::Text),
+        ],
         texts: &["k=é€", "k", "="],
         names: &["n", "m", "r"],
         rows: &[

@@ -10,9 +10,9 @@ pieces_of_rows-requires-clause-names c = pattern-differs c.args.p.now c.args.t.c
 pub returns : goal.returns
 returns c = record {
   table = parsed-table c.args.p.now c.args.t c.in_ok-kept.kept c.in_ok-added.added c.in_ok-parsed.parsed c.columns.result.now c.as_slice.result.now c.in_ok-kept.ensures.columns c.in_ok-added.ensures.rows
-  (c.columns.ensures.columns ∙ c.schema.ensures.columns)
-  (c.as_slice.ensures.items ∙ (c.in_ok-places.ensures.places ∙ ap (places_without c.columns.result.now) (c.columns-2.ensures.columns ∙ c.schema-2.ensures.columns)))
-  (subst (HasDistinctNames column_name) c.schema-2.ensures.columns c.columns-2.ensures.distinct)
-  c.schema-2.ensures.fits
-  c.in_ok-parsed.ensures.columns;
+      (c.columns.ensures.columns ∙ c.schema.ensures.columns)
+      (c.as_slice.ensures.items ∙ (c.in_ok-places.ensures.places ∙ ap (places_without c.columns.result.now) (c.columns-2.ensures.columns ∙ c.schema-2.ensures.columns)))
+      (subst (HasDistinctNames column_name) c.schema-2.ensures.columns c.columns-2.ensures.distinct)
+      c.schema-2.ensures.fits
+      c.in_ok-parsed.ensures.columns;
 }
