@@ -36,6 +36,7 @@ use Rattle.kql_fit_laws.specs.LawsOfRows.{IsTable, IsTableOf}
 use Rattle.kql_fit_laws.proofs.RowFacts.{answer-some}
 use Rattle.kql_fit_laws.proofs.RowLaws.{means}
 use Rattle.kql_fit_laws.proofs.ScanRows.{each_scan_keeps}
+use Rattle.scan_ops.proofs.ExtendedFacts.{columns-all, columns-start}
 use Rattle.scan_ops.specs.Steps.{AreSetsScalar, AreStepsScalar, IsStepScalar, scan_answers}
 
 -- What fits.
@@ -133,19 +134,28 @@ means-Scan p w t = means (O.Scan p) (Op-F.Scan p) (search (rules, the_lemmas)) w
 scan-grid : (p : ScanPlan) (t : Grid) → HasDistinctNames column_name t.columns → IsGrid t → scan_answers p t.columns ≡ true → IsGrid (scan_table p t)
 scan-grid p t names fits e = subst IsGrid (means-Scan p nowhere t) (made-table p t (names, fits) e).1.1
 
-pub rows-fit : (p : ScanPlan) (t u : Grid) (cs : List Column) (rows : List (List Value)) → HasDistinctNames column_name t.columns → IsGrid t → scan_answers p t.columns ≡ true → u ≡ with_declared p t → cs ≡ scan_columns p t.columns → rows ≡ scan_rows p u → IsGrid (record { columns = cs; lines = rows })
+pub rows-fit : (p : ScanPlan) (t : Grid) (cs : List Column) (rows : List (List Value)) → HasDistinctNames column_name t.columns → IsGrid t → scan_answers p t.columns ≡ true → cs ≡ scan_columns p t.columns → rows ≡ scan_rows p (with_declared p t) → IsGrid (record { columns = cs; lines = rows })
 unfolding scan_table
-rows-fit p t u cs rows names fits e extended named made =
+rows-fit p t cs rows names fits e named made =
     let same : record { columns = scan_columns p t.columns; lines = scan_rows p (with_declared p t) } ≡ record { columns = cs; lines = rows } =
-    ap₂ (λ (ds : List Column) (ls : List (List Value)). record { columns = ds; lines = ls }) (sym named) (sym (made ∙ ap (scan_rows p) extended)) in
+    ap₂ (λ (ds : List Column) (ls : List (List Value)). record { columns = ds; lines = ls }) (sym named) (sym made) in
     subst IsGrid same (scan-grid p t names fits e)
 
-pub table-made : (p : ScanPlan) (t u r : Grid) (cs : List Column) (rows : List (List Value)) → u ≡ with_declared p t → cs ≡ scan_columns p t.columns → rows ≡ scan_rows p u → r ≡ record { columns = cs; lines = rows } → r ≡ scan_table p t
+pub table-made : (p : ScanPlan) (t r : Grid) (cs : List Column) (rows : List (List Value)) → cs ≡ scan_columns p t.columns → rows ≡ scan_rows p (with_declared p t) → r ≡ record { columns = cs; lines = rows } → r ≡ scan_table p t
 unfolding scan_table
-table-made p t u r cs rows extended named made e =
-    e ∙ ap₂ (λ (ds : List Column) (ls : List (List Value)). record { columns = ds; lines = ls }) named (made ∙ ap (scan_rows p) extended)
+table-made p t r cs rows named made e =
+    e ∙ ap₂ (λ (ds : List Column) (ls : List (List Value)). record { columns = ds; lines = ls }) named made
 
-pub ruleset scan_facts = (answer-differ, declared-differ, declared-fit, scan-scalar, rows-fit)
+pub ruleset answer_facts = (answer-differ, rows-fit)
+
+-- The rows with the declared columns are those of the table, where none is declared.
+pub plain-rows : (p : ScanPlan) (t : Grid) (rows : List (List Value)) → p.declared ≡ [] → rows ≡ scan_rows p t → rows ≡ scan_rows p (with_declared p t)
+plain-rows p t rows none e = e ∙ ap (scan_rows p) (columns-all p [] 0 t t (sym none) (omega arith) (columns-start t t [] refl))
+
+pub more-rows : (p : ScanPlan) (t u : Grid) (rows : List (List Value)) → u ≡ with_declared p t → rows ≡ scan_rows p u → rows ≡ scan_rows p (with_declared p t)
+more-rows p t u rows extended e = e ∙ ap (scan_rows p) extended
+
+pub ruleset scan_facts = (declared-differ, declared-fit, scan-scalar)
 
 -- The rows.
 

@@ -1,6 +1,6 @@
 //! The machine, and the scan of a whole table.
 ghost use Rattle.std.specs.Prelude.{◌≡◌, ◌<◌, ◌++◌, [], length, IfOk, IsTrue, OnOk};
-ghost use Rattle.kql_meaning.specs.Scan.{machine_at_start, row_after, rows_at_end, scan_rows, scan_table};
+ghost use Rattle.kql_meaning.specs.Scan.{machine_at_start, row_after, rows_at_end, scan_rows, scan_table, with_declared};
 ghost use Rattle.scan_ops.specs.Steps.{AreStepsScalar, scan_answers};
 
 use crate::emit::emit_ends;
@@ -111,13 +111,29 @@ impl<'a> ScanMachine<'a> {
 
 /// `scan`: the rows taken through the steps one after another, and the records that are emitted in their order, with the declared columns and
 /// the match id.
+///
+/// Where columns are declared, the machine goes over a copy of the table that has them.
 #[tactic(auto, using(crate::proofs::MachineFacts::scan_facts))]
 pub fn scan_rows(alloc: Global, t: &Table, s: &ScanPlan) -> Result<Table, AllocError>
     requires fits { IsTrue (scan_answers s.now t.now.columns) }
     ensures table { IfOk result (λ r. r ≡ scan_table s.now t.now) }
 {
+    if s.declared.is_empty() {
+        let plain = emitted_rows(alloc, s, t)?;
+        return answered(alloc, t, s, plain);
+    }
     let extended = with_declared(alloc, s, t)?;
     let rows = emitted_rows(alloc, s, &extended)?;
+    answered(alloc, t, s, rows)
+}
+
+// The table of the rows that a scan emits.
+#[tactic(auto, using(crate::proofs::MachineFacts::answer_facts))]
+fn answered(alloc: Global, t: &Table, s: &ScanPlan, rows: Rows) -> Result<Table, AllocError>
+    requires fits { IsTrue (scan_answers s.now t.now.columns) }
+    requires rows { rows ≡ scan_rows s.now (with_declared s.now t.now) }
+    ensures table { IfOk result (λ r. r ≡ scan_table s.now t.now) }
+{
     let columns = scan_columns(alloc, s, t.schema().columns())?;
     let made = Table::new(alloc, Schema::from_items(columns), rows)?;
     Ok(made)
