@@ -1,0 +1,3 @@
+pub mod Transposed
+pub mod InColumnFacts
+pub mod UnionFacts
