@@ -1,11 +1,11 @@
 -- A table in the columns of a union.
 use Rattle.std.proofs.Common.{◌≡◌, ◌<◌, ◌+◌, ℕ, zero, suc, true, List, [], ◌∷◌, map, length, get_or, replicate, refl, sym, ap, ◌∙◌, subst, inl, inr, arith}
 use Rattle.std.specs.Prelude.{All, bytes_eq, find, None, Option, Some, slice_get}
-use Rattle.std.specs.List.{list_all, range_with_len}
+use Rattle.std.specs.List.{range_with_len}
 use Rattle.std.proofs.lemmas.Bool.{cases_Bool}
 use Rattle.std.proofs.lemmas.List.FromFn.{length-range_with_len}
 use Rattle.std.proofs.lemmas.Option.{slice_get_within}
-use Rattle.kql_cells.specs.Named.{HasDistinctNames, column_name, place_of}
+use Rattle.kql_cells.specs.Named.{column_name, place_of}
 use Rattle.kql_cells.specs.Seen.{row_at, value_at}
 use Rattle.kql_cells.specs.Table.{CellFits, Grid, IsGrid, RowFits}
 use Rattle.kql_cells.specs.declared.schema.Column.{Column}

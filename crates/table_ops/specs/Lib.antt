@@ -1,1 +1,2 @@
 pub mod InColumns
+pub mod Parts

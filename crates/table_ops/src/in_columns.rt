@@ -10,11 +10,7 @@ use std::alloc::{AllocError, Global};
 
 /// The rows of a table in these columns: a copy of each column that it has, and absent cells in each that it lacks.
 #[tactic(auto, using(crate::proofs::InColumnFacts::in_column_facts))]
-pub(crate) fn in_columns(
-    alloc: Global,
-    t: &Table,
-    columns: &[Column],
-) -> Result<Table, AllocError>
+pub(crate) fn in_columns(alloc: Global, t: &Table, columns: &[Column]) -> Result<Table, AllocError>
     requires typed { IsTrue (are_of_type_in columns.now t.now.columns) }
     requires names { HasDistinctNames column_name columns.now }
     ensures table { IfOk result (λ r. r ≡ record { columns = columns.now; lines = rows_in_columns columns.now t.now }) }
