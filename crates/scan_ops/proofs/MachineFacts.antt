@@ -137,7 +137,7 @@ pub rows-fit : (p : ScanPlan) (t : Grid) (cs : List Column) (rows : List (List V
 unfolding scan_table
 rows-fit p t cs rows names fits e named made =
     let same : record { columns = scan_columns p t.columns; lines = scan_rows p (with_declared p t) } ≡ record { columns = cs; lines = rows } =
-        ap₂ (λ (ds : List Column) (ls : List (List Value)). record { columns = ds; lines = ls }) (sym named) (sym made) in
+    ap₂ (λ (ds : List Column) (ls : List (List Value)). record { columns = ds; lines = ls }) (sym named) (sym made) in
     subst IsGrid same (scan-grid p t names fits e)
 
 pub table-made : (p : ScanPlan) (t r : Grid) (cs : List Column) (rows : List (List Value)) → cs ≡ scan_columns p t.columns → rows ≡ scan_rows p (with_declared p t) → r ≡ record { columns = cs; lines = rows } → r ≡ scan_table p t

@@ -430,8 +430,13 @@ pub within-run : (p : ScanPlan) (cs : List Column) (at : ℕ) (s : PlacedStep) (
 within-run p cs at s r h k = omega (arith, step-within p cs at s h, k.count)
 
 pub ruleset try_facts = (tried-one, tried-two, tried-none)
+
 pub ruleset check_facts = (records-sound, within-run, state-there)
+
 pub ruleset move_facts = (records-sound, new-width, step-within, within-run, state-there)
+
 pub ruleset up_facts = (up-held, up-room)
+
 pub ruleset begin_facts = (records-sound, new-width, step-within, within-run, state-there)
+
 pub ruleset renew_facts = (records-sound, new-width, step-within, within-run, state-there)

@@ -196,12 +196,7 @@ fn promote(
 
 // Moves the state of the step before to a step, with a new record, and leaves an empty one.
 #[tactic(auto, using(crate::proofs::RunFacts::up_facts))]
-fn move_up(
-    alloc: Global,
-    at: usize,
-    line: Row,
-    states: &mut Vec<State>,
-) -> Result<(), AllocError>
+fn move_up(alloc: Global, at: usize, line: Row, states: &mut Vec<State>) -> Result<(), AllocError>
     requires above { 0 < at }
     requires within { at < length states.old.items }
     requires states { AreStates (length states.old.items) (length line) states.old.items }
@@ -239,8 +234,21 @@ fn begin(
         return Err(AllocError);
     };
     let line = step.record(alloc, t, i, run.states.as_slice()[at].records())?;
-    emit_held(alloc, plan, at, &run.states.as_slice()[at], &mut run.emitted)?;
-    emit_at_once(alloc, plan, step, line.as_slice(), run.begun, &mut run.emitted)?;
+    emit_held(
+        alloc,
+        plan,
+        at,
+        &run.states.as_slice()[at],
+        &mut run.emitted,
+    )?;
+    emit_at_once(
+        alloc,
+        plan,
+        step,
+        line.as_slice(),
+        run.begun,
+        &mut run.emitted,
+    )?;
     run.states[at].begin(run.begun, line);
     run.begun = next;
     Ok(())
@@ -266,7 +274,14 @@ fn renew(
     ensures run { IsRun plan.now t.now.columns run.new }
 {
     let line = step.record(alloc, t, i, run.states.as_slice()[at].records())?;
-    emit_with(alloc, plan, step, line.as_slice(), &run.states.as_slice()[at], &mut run.emitted)?;
+    emit_with(
+        alloc,
+        plan,
+        step,
+        line.as_slice(),
+        &run.states.as_slice()[at],
+        &mut run.emitted,
+    )?;
     run.states[at].take(at, line);
     Ok(())
 }

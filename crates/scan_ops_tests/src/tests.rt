@@ -8,11 +8,7 @@ use std::alloc::Global;
 use std::test::Fail;
 
 // Events, steps, and the rows that are emitted.
-type Case = (
-    &'static [Event],
-    &'static [Step],
-    &'static [Emitted],
-);
+type Case = (&'static [Event], &'static [Step], &'static [Emitted]);
 
 // Of a funnel of three steps: the sessions 7 and 8, interleaved.
 const SESSIONS: &[Event] = &[
@@ -181,10 +177,7 @@ const CASES: &[Case] = &[
     ),
     (
         ONE,
-        &[
-            (Nothing, 1, None, None),
-            (All, 2, None, Some((2, 3, 1))),
-        ],
+        &[(Nothing, 1, None, None), (All, 2, None, Some((2, 3, 1)))],
         &[(2, Some(11), 0), (3, Some(12), 0), (6, Some(11), 1)],
     ),
     // The third step reads the record of the second, also where its own is replaced.
@@ -230,12 +223,7 @@ fn emits(alloc: Global, scan: Made<ScanPlan>, t: Made<Table>, want: &[Emitted]) 
 fn first_wrong(alloc: Global, cases: &[Case]) -> Made<Option<usize>> {
     for i in 0..cases.len() {
         let (events, steps, want) = cases[i];
-        let right = emits(
-            alloc,
-            scan_of(alloc, steps),
-            table_of(alloc, events),
-            want,
-        )?;
+        let right = emits(alloc, scan_of(alloc, steps), table_of(alloc, events), want)?;
         if !right {
             return Ok(Some(i));
         }

@@ -52,14 +52,14 @@ returns-clause-turn c =
     let here = state-at at ss c.as_slice.result.now b c.as_slice.ensures.value c.index-as_slice-at.is in
     let second = state-at at ss c.as_slice-2.result.now b2 c.as_slice-2.ensures.value c.index-as_slice-at-2.is in
     let one : c.emit_held.new.emitted ≡ r.emitted ++ held_rows p (at + 1) b.held =
-        c.in_ok-emit_held.ensures.rows ∙ ap (λ (x : StateSeen). r.emitted ++ held_rows p (at + 1) x.held) (state-same at ss b2 b inside second here) in
+    c.in_ok-emit_held.ensures.rows ∙ ap (λ (x : StateSeen). r.emitted ++ held_rows p (at + 1) x.held) (state-same at ss b2 b inside second here) in
     let two : c.emit_at_once.new.emitted ≡ c.emit_held.new.emitted ++ emitted_at_once p s line r.begun =
-        c.in_ok-emit_at_once.ensures.rows ∙ ap (λ (l : List Value). c.emit_held.new.emitted ++ emitted_at_once p s l r.begun) c.as_slice-3.ensures.items in
+    c.in_ok-emit_at_once.ensures.rows ∙ ap (λ (l : List Value). c.emit_held.new.emitted ++ emitted_at_once p s l r.begun) c.as_slice-3.ensures.items in
     let made : c.begin.new.self ≡ record { size = b.size; held = Some (begun_with r.begun line) } =
-        c.begin.ensures.after ∙ ap (λ (x : StateSeen). record { size = x.size; held = Some (begun_with r.begun line) }) (state-same at ss m b inside c.index_mut.ensures.value here) in
+    c.begin.ensures.after ∙ ap (λ (x : StateSeen). record { size = x.size; held = Some (begun_with r.begun line) }) (state-same at ss m b inside c.index_mut.ensures.value here) in
     let next : c.in-Some.next ≡ r.begun + 1 = search rules in
     let turn = begun-turn p s c.args.t.now c.args.i at (length c.args.t.now.columns) ss (slice_set ss at c.begin.new.self) r.begun r.emitted c.emit_held.new.emitted c.emit_at_once.new.emitted b c.begin.new.self c.records.result.now line
-        c.requires.first inside here c.requires.run.states c.requires.check c.records.ensures.records c.in_ok-line.ensures.line one two refl made in
+    c.requires.first inside here c.requires.run.states c.requires.check c.records.ensures.records c.in_ok-line.ensures.line one two refl made in
     ap (λ k. Some (turn_with (machine_of (slice_set ss at c.begin.new.self) k) c.emit_at_once.new.emitted)) next ∙ turn
 
 pub returns-clause-run : goal.returns-clause-run
@@ -81,10 +81,10 @@ returns-clause-run c =
     let state = state-in n w at ss c.as_slice-2.result.now b2 c.requires.run.states c.as_slice-2.ensures.value inside c.index-as_slice-at-2.is in
     let one = held-added-wide p n w at b2 r.emitted c.emit_held.new.emitted state c.requires.run.width c.in_ok-emit_held.ensures.rows in
     let two : c.emit_at_once.new.emitted ≡ c.emit_held.new.emitted ++ emitted_at_once p s line r.begun =
-        c.in_ok-emit_at_once.ensures.rows ∙ ap (λ (l : List Value). c.emit_held.new.emitted ++ emitted_at_once p s l r.begun) c.as_slice-3.ensures.items in
+    c.in_ok-emit_at_once.ensures.rows ∙ ap (λ (l : List Value). c.emit_held.new.emitted ++ emitted_at_once p s l r.begun) c.as_slice-3.ensures.items in
     let fits : HaveLength (width_of p w) (emitted_at_once p s line r.begun) = subst (λ k. HaveLength (width_of p k) (emitted_at_once p s line r.begun)) wide (once-wide p s line r.begun) in
     let made : c.begin.new.self ≡ record { size = b.size; held = Some (begun_with r.begun line) } =
-        c.begin.ensures.after ∙ ap (λ (x : StateSeen). record { size = x.size; held = Some (begun_with r.begun line) }) (state-same at ss m b inside c.index_mut.ensures.value here) in
+    c.begin.ensures.after ∙ ap (λ (x : StateSeen). record { size = x.size; held = Some (begun_with r.begun line) }) (state-same at ss m b inside c.index_mut.ensures.value here) in
     record {
       count = set-count ss (slice_set ss at c.begin.new.self) at c.begin.new.self refl ∙ c.requires.run.count;
       states = begun-states n w at r.begun ss (slice_set ss at c.begin.new.self) line b c.begin.new.self c.requires.run.states c.requires.first inside here wide c.in_ok-line.ensures.form refl made;

@@ -35,9 +35,9 @@ returns-clause-turn c =
     let old = state-at at ss c.as_slice-4.result.now o c.as_slice-4.ensures.value c.index-as_slice-at-3.is in
     let same = state-same (at - 1) ss b2 b below second before in
     let rows : c.emit_move.new.emitted ≡ r.emitted ++ emitted_by_move p s at line b.held o.held =
-        c.in_ok-emit_move.ensures.rows
-        ∙ (ap (λ (l : List Value). r.emitted ++ emitted_by_move p s at l b2.held o.held) c.as_slice-2.ensures.items
-        ∙ ap (λ (x : StateSeen). r.emitted ++ emitted_by_move p s at line x.held o.held) same) in
+    c.in_ok-emit_move.ensures.rows
+    ∙ (ap (λ (l : List Value). r.emitted ++ emitted_by_move p s at l b2.held o.held) c.as_slice-2.ensures.items
+    ∙ ap (λ (x : StateSeen). r.emitted ++ emitted_by_move p s at line x.held o.held) same) in
     promoted-turn p s c.args.t.now c.args.i at (length c.args.t.now.columns) ss c.move_up.new.states.items r.begun r.emitted c.emit_move.new.emitted b o c.records.result.now line
     c.requires.above inside before old c.requires.run.states c.requires.check c.records.ensures.records c.in_ok-line.ensures.line rows c.in_ok-move_up.ensures.moved
 

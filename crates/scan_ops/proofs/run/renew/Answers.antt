@@ -23,11 +23,11 @@ returns-clause-turn c =
     let here = state-at at ss c.as_slice.result.now b c.as_slice.ensures.value c.index-as_slice-at.is in
     let second = state-at at ss c.as_slice-3.result.now b2 c.as_slice-3.ensures.value c.index-as_slice-at-2.is in
     let rows : c.emit_with.new.emitted ≡ r.emitted ++ emitted_with p s line b.held =
-        c.in_ok-emit_with.ensures.rows
-        ∙ (ap (λ (l : List Value). r.emitted ++ emitted_with p s l b2.held) c.as_slice-2.ensures.items
-        ∙ ap (λ (x : StateSeen). r.emitted ++ emitted_with p s line x.held) (state-same at ss b2 b inside second here)) in
+    c.in_ok-emit_with.ensures.rows
+    ∙ (ap (λ (l : List Value). r.emitted ++ emitted_with p s l b2.held) c.as_slice-2.ensures.items
+    ∙ ap (λ (x : StateSeen). r.emitted ++ emitted_with p s line x.held) (state-same at ss b2 b inside second here)) in
     let made : c.take.new.self ≡ record { size = b.size; held = option_map (held_with at line) b.held } =
-        c.take.ensures.after ∙ ap (λ (x : StateSeen). record { size = x.size; held = option_map (held_with at line) x.held }) (state-same at ss m b inside c.index_mut.ensures.value here) in
+    c.take.ensures.after ∙ ap (λ (x : StateSeen). record { size = x.size; held = option_map (held_with at line) x.held }) (state-same at ss m b inside c.index_mut.ensures.value here) in
     replaced-turn p s c.args.t.now c.args.i at (length c.args.t.now.columns) ss (slice_set ss at c.take.new.self) r.begun r.emitted c.emit_with.new.emitted b c.take.new.self c.records.result.now line
     c.requires.above inside here c.requires.run.states c.requires.check c.records.ensures.records c.in_ok-line.ensures.line rows refl made
 
@@ -48,7 +48,7 @@ returns-clause-run c =
     let m = c.index_mut.result.now in
     let here = state-at at ss c.as_slice.result.now b c.as_slice.ensures.value c.index-as_slice-at.is in
     let made : c.take.new.self ≡ record { size = b.size; held = option_map (held_with at line) b.held } =
-        c.take.ensures.after ∙ ap (λ (x : StateSeen). record { size = x.size; held = option_map (held_with at line) x.held }) (state-same at ss m b inside c.index_mut.ensures.value here) in
+    c.take.ensures.after ∙ ap (λ (x : StateSeen). record { size = x.size; held = option_map (held_with at line) x.held }) (state-same at ss m b inside c.index_mut.ensures.value here) in
     let rows : c.emit_with.new.emitted ≡ r.emitted ++ emitted_with p s line b2.held = c.in_ok-emit_with.ensures.rows ∙ ap (λ (l : List Value). r.emitted ++ emitted_with p s l b2.held) c.as_slice-2.ensures.items in
     let fits : HaveLength (width_of p w) (emitted_with p s line b2.held) = subst (λ k. HaveLength (width_of p k) (emitted_with p s line b2.held)) wide (with-wide p s line b2.held) in
     record {
