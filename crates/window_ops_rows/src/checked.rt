@@ -18,6 +18,8 @@ use window_ops::{extend_rows, project_rows, where_rows, window_rows};
 
 type Told = Result<Option<String>, AllocError>;
 
+type Made = Result<Option<Table>, AllocError>;
+
 fn names(alloc: Global, name: &str) -> Result<Names, AllocError> {
     let mut names = Items::new(alloc);
     names.push(KText::from_str(alloc, name)?)?;
@@ -50,36 +52,54 @@ fn names_differ(alloc: Global, columns: &[Column]) -> Result<bool, AllocError>
     Ok(are_distinct(names.as_slice()))
 }
 
-// What is wrong with `project` of an item.
-fn wrong_project(alloc: Global, t: &Table, items: &[BItem], kind: Kind, texts: &str) -> Told {
+// `project` of a table that is lent, if the item fits.
+fn lent_project(alloc: Global, t: &Table, items: &[BItem]) -> Made {
     let columns = items_columns(alloc, items, t.schema().columns())?;
-    let copy = t.copy(alloc)?;
     if !names_differ(alloc, columns.as_slice())?
         || !items_fit(alloc, items, t.schema().columns(), Position::Window)?
-        || !items_fit(alloc, items, copy.schema().columns(), Position::Window)?
     {
-        return Ok(Some(String::from_str(alloc, "it does not fit")?));
+        return Ok(None);
     }
-    let made = window_rows(alloc, t, items)?;
-    let told = wrong_last(alloc, &made, kind, texts, 1, t.len())?;
-    if told.is_some() {
-        return Ok(told);
-    }
-    let made = project_rows(alloc, copy, items)?;
-    wrong_last(alloc, &made, kind, texts, 1, t.len())
+    Ok(Some(window_rows(alloc, t, items)?))
 }
 
-// What is wrong with `extend` of an item that has the name of a column.
-fn wrong_extend(alloc: Global, t: &Table, items: &[BItem], kind: Kind, texts: &str) -> Told {
-    let copy = t.copy(alloc)?;
-    let columns = extend_columns(alloc, items, copy.schema().columns())?;
+// `project` of a table that is moved, if the item fits.
+fn moved_project(alloc: Global, t: Result<Table, AllocError>, items: &[BItem]) -> Made {
+    let t = t?;
+    let columns = items_columns(alloc, items, t.schema().columns())?;
     if !names_differ(alloc, columns.as_slice())?
-        || !items_fit(alloc, items, copy.schema().columns(), Position::Window)?
+        || !items_fit(alloc, items, t.schema().columns(), Position::Window)?
     {
-        return Ok(Some(String::from_str(alloc, "it does not fit")?));
+        return Ok(None);
     }
-    let made = extend_rows(alloc, copy, items)?;
-    wrong_last(alloc, &made, kind, texts, t.schema().len(), t.len())
+    Ok(Some(project_rows(alloc, t, items)?))
+}
+
+// `extend`, if the item fits.
+fn extended(alloc: Global, t: Result<Table, AllocError>, items: &[BItem]) -> Made {
+    let t = t?;
+    let columns = extend_columns(alloc, items, t.schema().columns())?;
+    if !names_differ(alloc, columns.as_slice())?
+        || !items_fit(alloc, items, t.schema().columns(), Position::Window)?
+    {
+        return Ok(None);
+    }
+    Ok(Some(extend_rows(alloc, t, items)?))
+}
+
+// What is wrong with what was made, whose last column is that of the item.
+fn wrong_made(
+    alloc: Global,
+    made: Made,
+    kind: Kind,
+    texts: &str,
+    width: usize,
+    count: usize,
+) -> Told {
+    match made? {
+        None => Ok(Some(String::from_str(alloc, "it does not fit")?)),
+        Some(t) => wrong_last(alloc, &t, kind, texts, width, count),
+    }
 }
 
 // What is wrong with `where` of a bool.
@@ -94,15 +114,22 @@ fn wrong_where(alloc: Global, t: &Table, e: &BExpr, texts: &str) -> Told {
     Ok(Some(String::from_str(alloc, "other rows are kept")?))
 }
 
-// What is wrong with an item.
+// What is wrong with an item, which has the name of a column.
 fn wrong_item(alloc: Global, t: &Table, items: &[BItem], kind: Kind, texts: &str) -> Told {
-    let projected = wrong_project(alloc, t, items, kind, texts)?;
-    if projected.is_some() {
-        return Ok(projected);
+    let lent = lent_project(alloc, t, items);
+    let told = wrong_made(alloc, lent, kind, texts, 1, t.len())?;
+    if told.is_some() {
+        return Ok(told);
     }
-    let extended = wrong_extend(alloc, t, items, kind, texts)?;
-    if extended.is_some() || kind != Kind::Bool {
-        return Ok(extended);
+    let moved = moved_project(alloc, t.copy(alloc), items);
+    let told = wrong_made(alloc, moved, kind, texts, 1, t.len())?;
+    if told.is_some() {
+        return Ok(told);
+    }
+    let extended = extended(alloc, t.copy(alloc), items);
+    let told = wrong_made(alloc, extended, kind, texts, t.schema().len(), t.len())?;
+    if told.is_some() || kind != Kind::Bool {
+        return Ok(told);
     }
     match items {
         [item, ..] => wrong_where(alloc, t, &item.expr, texts),
