@@ -1,13 +1,13 @@
 -- Where pieces can end, and where items cannot begin.
-use Rattle.std.proofs.Common.{◌≡◌, ◌<◌, ◌≤◌, ◌+◌, ◌-◌, ◌&&◌, ◌||◌, ◌==◌, ℕ, zero, suc, Bool, true, false, List, [], ◌∷◌, length, take, drop, refl, sym, ap, ◌∙◌, arith, inl, inr, subst, length-drop, length-take-le, take_all}
-use Rattle.std.specs.Prelude.{None, Option, Some, bytes_eq, is_some, min, nat_le, not, slice_get, slice_range}
-use Rattle.std.proofs.lemmas.Bool.{and_parts, cases_Bool, eq-eqb, eqb-true, leb-true}
+use Rattle.std.proofs.Common.{◌≡◌, ◌≤◌, ◌+◌, ◌-◌, ◌||◌, ◌==◌, ℕ, zero, suc, Bool, true, false, List, [], ◌∷◌, length, take, drop, refl, sym, ap, ◌∙◌, arith, inl, inr, length-drop, length-take-le, take_all}
+use Rattle.std.specs.Prelude.{None, Some, bytes_eq, is_some, min, not, slice_get, slice_range}
+use Rattle.std.proofs.lemmas.Bool.{and_parts, cases_Bool, eq-eqb, eqb-true}
 use Rattle.std.proofs.lemmas.Slice.Eq.{bytes_eq-Decides}
 use Rattle.kql_cells.specs.declared.value.Kind.{Kind}
 use Rattle.kql_bound.specs.declared.parts.PatItem.{PatItem}
 use Rattle.kql_bound.specs.declared.parts.PatItem.TheVariants as item
 use Rattle.kql_meaning.specs.Cuts.{behind_dash, digits_length, is_allowed, is_end, is_number_before_star, number_length, piece_read}
-use Rattle.parse_op.specs.Search.{HasNoCut, LimitsPieces, NoneBefore, NoneBehind, cut_by, cut_from, first_fits, is_place}
+use Rattle.parse_op.specs.Search.{HasNoCut, LimitsPieces, NoneBefore, NoneBehind, cut_by, cut_from, first_fits}
 use Rattle.parse_op.proofs.CutSteps.{before-start, end-parts, none-at, not-at-end, place-within}
 use Rattle.parse_op.proofs.PieceSteps.{digits-short}
 

@@ -1,8 +1,7 @@
 -- Pieces as the cells of a row.
-use Rattle.std.proofs.Common.{◌≡◌, ◌<◌, ◌≤◌, ◌+◌, ◌++◌, ◌&&◌, ◌==◌, ℕ, zero, suc, Bool, true, false, List, [], ◌∷◌, map, length, get_or, take, drop, refl, sym, ap, ◌∙◌, arith, inl, inr, subst, append_assoc, take_all}
-use Rattle.std.specs.Prelude.{IfOk, IsSomeAnd, None, Ok, Err, OnOk, Option, Result, Some, find, slice_get, slice_range}
-use Rattle.std.specs.Str.{IsCharBoundary}
-use Rattle.std.proofs.lemmas.Bool.{and_parts, cases_Bool, eqb-true, leb-true}
+use Rattle.std.proofs.Common.{◌≡◌, ◌<◌, ◌≤◌, ◌+◌, ◌++◌, ◌&&◌, ◌==◌, ℕ, zero, suc, Bool, true, false, List, [], ◌∷◌, map, length, take, drop, refl, sym, ap, ◌∙◌, arith, inl, inr, subst, append_assoc, take_all}
+use Rattle.std.specs.Prelude.{IsSomeAnd, None, Ok, Err, OnOk, Option, Result, Some, find, slice_get, slice_range}
+use Rattle.std.proofs.lemmas.Bool.{and_parts, cases_Bool, eqb-true}
 use Rattle.std.proofs.lemmas.List.{length-map, map-append, take_more}
 use Rattle.kql_cells.specs.Keys.{absent}
 use Rattle.kql_cells.specs.Ordered.{text_in}
@@ -21,9 +20,9 @@ use Rattle.kql_bound.specs.declared.parts.PatItem.TheVariants as item
 use Rattle.kql_meaning.specs.Cuts.{cut, filled_piece_read, is_allowed, is_cut, is_cut_from, is_end, piece_read, rising_lists}
 use Rattle.kql_meaning.specs.Parse.{cut_values, parsed_values, pattern_columns, piece_value, pieces_values}
 use Rattle.kql_meaning.specs.Tables.{absent_row}
-use Rattle.kql_values.specs.Growing.{FitsNext, Growing, closed, started, with_cell}
+use Rattle.kql_values.specs.Growing.{Growing, closed, started, with_cell}
 use Rattle.parse_op.specs.Filled.{AreEnds, grown, has_row, parsed_grid}
-use Rattle.parse_op.specs.Search.{Answers, cut_from, ends_in, is_place}
+use Rattle.parse_op.specs.Search.{Answers, ends_in, is_place}
 use Rattle.parse_op.specs.declared.slot.Slot.{Slot}
 use Rattle.parse_op.proofs.CutSteps.{end-parts, place-boundary}
 

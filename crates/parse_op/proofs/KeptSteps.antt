@@ -15,7 +15,7 @@ use Rattle.kql_cells.specs.declared.value.Value.{Value}
 use Rattle.kql_cells.specs.declared.value.Value.TheVariants as value
 use Rattle.kql_cells.proofs.RowLaws.{length-RowFits}
 use Rattle.kql_meaning.specs.Items.{cells_in, without}
-use Rattle.kql_meaning.specs.Tables.{absent_in, cell, cell_in, has_column, is_name_among, names_of, places, places_below}
+use Rattle.kql_meaning.specs.Tables.{absent_in, cell, cell_in, has_column, names_of, places, places_below}
 use Rattle.kql_meaning.proofs.JoinLaws.{map-map}
 use Rattle.kql_meaning.proofs.MemberLaws.{Pairwise, pairs-of}
 use Rattle.kql_meaning.proofs.RowByRowLaws.{rows-at-all}

@@ -1,16 +1,16 @@
 -- How long a piece is that reads as a value of a type.
-use Rattle.std.proofs.Common.{◌≡◌, ◌<◌, ◌≤◌, ◌+◌, ◌-◌, ◌*◌, ◌^◌, ◌++◌, ◌&&◌, ◌||◌, ◌==◌, ℕ, zero, suc, Bool, true, false, List, [], ◌∷◌, map, length, take, drop, refl, sym, ap, ◌∙◌, arith, inl, inr, subst, length-drop, length-take-le, take-append-drop, append_assoc}
+use Rattle.std.proofs.Common.{◌≡◌, ◌≤◌, ◌+◌, ◌-◌, ◌*◌, ◌^◌, ◌&&◌, ◌||◌, ◌==◌, ℕ, zero, suc, Bool, true, false, List, [], ◌∷◌, length, take, drop, refl, sym, ap, ◌∙◌, arith, inl, inr, subst, length-drop, length-take-le}
 use Rattle.std.specs.Prelude.{if◌then◌else◌, None, Option, Some, bytes_eq, codes, is_some, nat_le, nat_lt, not, option_and_then, option_map, pos, neg_ℤ, slice_index, slice_range}
 use Rattle.std.specs.Char.{is_ascii_digit, to_ascii_lowercase}
 use Rattle.std.specs.List.{position, position_or_len, prefix_len}
 use Rattle.std.specs.Str.{all_ascii_digits, str_eq_ignore_ascii_case, str_to_ascii_lowercase}
 use Rattle.std.specs.Str.Parse.{digits_value}
-use Rattle.std.proofs.lemmas.Bool.{and_parts, cases_Bool, eqb-true, leb-true, ltb-true}
+use Rattle.std.proofs.lemmas.Bool.{and_parts, cases_Bool, leb-true}
 use Rattle.std.proofs.lemmas.List.{length-map}
 use Rattle.std.proofs.lemmas.Slice.Eq.{bytes_eq-Decides}
 use Rattle.kql_ticks.specs.Forms.{amount_in, before_z, clock_in, date_in, days_in, fraction_in, is_of_number, length_from, length_in, minutes_in, moment_in, quantity_in, seconds_in, span_in, time_in, time_of_day_in, unit_in}
 use Rattle.kql_ticks.specs.Ranges.{fit}
-use Rattle.kql_ticks.specs.Numbers.{◌>>=◌, number, share}
+use Rattle.kql_ticks.specs.Numbers.{◌>>=◌, number}
 use Rattle.kql_ticks.specs.Texts.{colon, dash, dot, letter_t, letter_z, space}
 use Rattle.kql_cells.specs.Readings.{bool_written, is_whole, long_written}
 use Rattle.kql_cells.specs.declared.value.Kind.{Kind}

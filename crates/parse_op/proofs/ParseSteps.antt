@@ -1,6 +1,6 @@
 -- The table of `parse`: the columns that stay, and those of the pattern beside them.
-use Rattle.std.proofs.Common.{◌≡◌, ◌≢◌, ◌<◌, ◌-◌, ◌++◌, ℕ, suc, Bool, true, List, [], ◌∷◌, map, length, refl, sym, ap, ◌∙◌, subst, arith}
-use Rattle.std.specs.Prelude.{◌&&◌, All, AllPairs, not}
+use Rattle.std.proofs.Common.{◌≡◌, ◌≢◌, ◌<◌, ◌-◌, ◌++◌, ℕ, suc, true, List, [], ◌∷◌, map, length, refl, sym, ap, ◌∙◌, subst, arith}
+use Rattle.std.specs.Prelude.{All, AllPairs, not}
 use Rattle.std.specs.List.{range_with_len}
 use Rattle.std.proofs.lemmas.Bool.{and_parts}
 use Rattle.std.proofs.lemmas.List.{length-map}
@@ -18,7 +18,7 @@ use Rattle.kql_meaning.specs.declared.position.Position.TheVariants as position
 use Rattle.kql_meaning.specs.Expressions.{kind_of, val}
 use Rattle.kql_meaning.specs.FittingExpressions.{expr_fits, fits_as, has_kind, scope_of}
 use Rattle.kql_meaning.specs.FittingOperators.{is_empty, parse_fits}
-use Rattle.kql_meaning.specs.Items.{cells_in, without}
+use Rattle.kql_meaning.specs.Items.{without}
 use Rattle.kql_meaning.specs.Parse.{parse_columns, parse_table, parsed_values, pattern_columns, pattern_names}
 use Rattle.kql_meaning.specs.Tables.{names_of, places, places_below}
 use Rattle.kql_meaning.proofs.JoinLaws.{map-map}

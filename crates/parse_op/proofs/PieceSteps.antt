@@ -1,5 +1,5 @@
 -- Which pieces items allow.
-use Rattle.std.proofs.Common.{◌≡◌, ◌<◌, ◌≤◌, ◌+◌, ◌-◌, ◌^◌, ℕ, zero, suc, Bool, true, false, List, [], ◌∷◌, length, take, drop, refl, sym, ap, ◌∙◌, arith, inl, inr, subst, length-drop, length-take-le}
+use Rattle.std.proofs.Common.{◌≡◌, ◌<◌, ◌≤◌, ◌+◌, ◌-◌, ℕ, zero, suc, Bool, true, false, List, [], ◌∷◌, length, take, drop, refl, sym, ap, ◌∙◌, arith, inl, inr, subst, length-drop, length-take-le}
 use Rattle.std.specs.Prelude.{is_some, slice_range}
 use Rattle.std.specs.Char.{is_ascii_digit}
 use Rattle.std.specs.List.{prefix_len}
@@ -8,8 +8,8 @@ use Rattle.kql_cells.specs.declared.value.Kind.{Kind}
 use Rattle.kql_cells.specs.declared.value.Kind.TheVariants as kind
 use Rattle.kql_bound.specs.declared.parts.PatItem.{PatItem}
 use Rattle.kql_bound.specs.declared.parts.PatItem.TheVariants as item
-use Rattle.kql_meaning.specs.Cuts.{behind_dash, digits_length, filled_piece_read, is_allowed, is_number_before_star, number_length, piece_read}
-use Rattle.parse_op.specs.Search.{TakesAny, is_place}
+use Rattle.kql_meaning.specs.Cuts.{behind_dash, digits_length, filled_piece_read, is_allowed, is_number_before_star, piece_read}
+use Rattle.parse_op.specs.Search.{TakesAny}
 use Rattle.parse_op.proofs.CutSteps.{place-within}
 
 -- Items that take any piece.

@@ -1,10 +1,10 @@
 -- Steps of the search.
-use Rattle.std.proofs.Common.{◌≡◌, ◌<◌, ◌≤◌, ◌+◌, ◌↔◌, ◌&&◌, ◌||◌, ◌==◌, ℕ, zero, suc, Bool, true, false, List, [], ◌∷◌, map, length, refl, sym, ap, ◌∙◌, arith, inl, inr, subst}
-use Rattle.std.specs.Prelude.{IfOk, IsTrue, None, Ok, Err, Option, Result, Some, drop, min, nat_le, nat_lt, option_map, slice_index, slice_index_or, slice_range}
+use Rattle.std.proofs.Common.{◌≡◌, ◌<◌, ◌≤◌, ◌+◌, ◌↔◌, ◌==◌, ℕ, Bool, true, false, List, [], ◌∷◌, length, sym, ap, ◌∙◌, arith, inl, inr, subst}
+use Rattle.std.specs.Prelude.{IfOk, IsTrue, None, Ok, Err, Option, Result, Some, drop, min, nat_le, option_map, slice_index_or, slice_range}
 use Rattle.std.specs.Str.{IsCharBoundary}
-use Rattle.std.proofs.lemmas.Bool.{and_parts, cases_Bool, eqb-false, eqb-true, le-leb, leb-false, leb-true, ltb-false, ltb-true}
+use Rattle.std.proofs.lemmas.Bool.{cases_Bool, eqb-false, eqb-true, leb-false, leb-true}
 use Rattle.kql_bound.specs.declared.parts.PatItem.{PatItem}
-use Rattle.kql_meaning.specs.Cuts.{is_allowed, is_between_characters}
+use Rattle.kql_meaning.specs.Cuts.{is_allowed}
 use Rattle.parse_op.specs.declared.slot.Slot.{Slot}
 use Rattle.parse_op.specs.Search.{Answers, AreRemembered, HasNoCut, IsRemembered, NoneBefore, NoneBehind, cut_by, cut_from, ends_in, is_place}
 use Rattle.parse_op.proofs.CutSteps.{at-end, before-start, boundary-place, by-later, found-at, later-none, no-place, none-at, not-allowed, not-at-end, place-boundary, place-within}

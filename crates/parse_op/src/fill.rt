@@ -1,12 +1,11 @@
 //! The pieces of a text as the cells of a row.
-ghost use Rattle.std.specs.Prelude.{◌≡◌, ◌≢◌, ◌++◌, ◌∷◌, [], drop, length, slice_get, IfOk, IsSomeAnd, IsTrue, OnOk};
+ghost use Rattle.std.specs.Prelude.{◌≡◌, ◌≢◌, ◌++◌, [], drop, length, slice_get, IfOk, IsSomeAnd, IsTrue, OnOk};
 ghost use Rattle.kql_cells.specs.Named.{HasDistinctNames, column_name};
 ghost use Rattle.kql_cells.specs.Ordered.{text_in};
 ghost use Rattle.kql_cells.specs.Seen.{seen};
 ghost use Rattle.kql_cells.specs.Values.{IsOfKind, IsWellFormed};
 ghost use Rattle.kql_cells.specs.declared.value.Kind.TheVariants.{Dynamic};
-ghost use Rattle.kql_meaning.specs.Cuts.{cut};
-ghost use Rattle.kql_meaning.specs.Parse.{cut_values, parsed_values, pattern_columns, piece_value, pieces_values};
+ghost use Rattle.kql_meaning.specs.Parse.{parsed_values, pattern_columns, piece_value, pieces_values};
 ghost use Rattle.kql_meaning.specs.Tables.{absent_row};
 ghost use Rattle.kql_values.specs.Growing.{closed, with_cell};
 ghost use Rattle.parse_op.specs.Filled.{AreEnds, grown, has_row, parsed_grid};

@@ -34,11 +34,11 @@ pub(crate) fn allows(
 /// Two places such that an item's piece ends at none before the first, and at none from the second on.
 #[tactic(auto, using(crate::proofs::BoundSteps::bound_steps))]
 pub(crate) fn ends_between(
+    relaxed: bool,
     item: &PatItem,
     later: &[PatItem],
     text: &str,
     start: usize,
-    relaxed: bool,
 ) -> (usize, usize)
     requires place { IsTrue (is_place text.now start) }
     ensures order { start ≤ result.0 }

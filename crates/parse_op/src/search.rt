@@ -1,5 +1,5 @@
 //! The search for the first cut.
-ghost use Rattle.std.specs.Prelude.{◌≡◌, ◌≤◌, ◌+◌, ◌∷◌, None, Some, length, IfOk, IsTrue, MatchOption};
+ghost use Rattle.std.specs.Prelude.{◌≡◌, ◌≤◌, ◌∷◌, None, Some, length, IfOk, IsTrue, MatchOption};
 ghost use Rattle.parse_op.specs.Search.{Answers, AreRemembered, NoneBefore, NoneBehind, cut_by, cut_from, ends_in, is_place};
 
 use crate::pieces::{allows, ends_between, may_begin};
@@ -33,7 +33,7 @@ pub(crate) fn search(
     if slot.has_failed(start) {
         return Ok(false);
     }
-    let (first, last) = ends_between(item, later, text, start, relaxed);
+    let (first, last) = ends_between(relaxed, item, later, text, start);
     let beyond = last.min(slot.fails_from);
     match first_end(relaxed, item, later, text, start, first, beyond, behind)? {
         Some(end) => {

@@ -1,5 +1,5 @@
 //! What the search for a cut keeps of an item.
-ghost use Rattle.std.specs.Prelude.{◌≡◌, ◌<◌, ◌≤◌, ◌⊎◌, ℕ, true, false, length, slice_index_or, IsTrue};
+ghost use Rattle.std.specs.Prelude.{◌≡◌, ◌<◌, ◌≤◌, ◌⊎◌, ℕ, true, false, slice_index_or, IsTrue};
 ghost use Rattle.parse_op.specs.Search.{NoneBehind, is_place};
 
 use crate::pieces::takes_any_from;

@@ -1,6 +1,6 @@
 -- The rows that are emitted, and how wide they are.
-use Rattle.std.proofs.Common.{◌≡◌, ◌<◌, ◌≤◌, ◌+◌, ◌-◌, ◌++◌, ℕ, zero, suc, Bool, true, false, List, [], ◌∷◌, map, length, get_or, refl, sym, ap, ◌∙◌, subst, arith, append_assoc, append-nil, length-append}
-use Rattle.std.specs.Prelude.{All, IfSome, None, Option, Some, is_some, pos, slice_get, slice_index_or, if◌then◌else◌}
+use Rattle.std.proofs.Common.{◌≡◌, ◌<◌, ◌+◌, ◌-◌, ◌++◌, ℕ, zero, suc, Bool, true, false, List, [], ◌∷◌, map, length, get_or, refl, sym, ap, ◌∙◌, subst, arith, append_assoc, append-nil, length-append}
+use Rattle.std.specs.Prelude.{All, IfSome, None, Option, Some, pos, slice_get, slice_index_or, if◌then◌else◌}
 use Rattle.std.specs.List.{flat_map, range_with_len}
 use Rattle.std.proofs.lemmas.Grind.{flat_map-append}
 use Rattle.std.proofs.lemmas.List.{get_or-map, length-map, map-id}
@@ -10,13 +10,12 @@ use Rattle.kql_cells.specs.Seen.{seen}
 use Rattle.kql_cells.specs.declared.cell.CellRef.{CellRef}
 use Rattle.kql_cells.specs.declared.value.Value.{Value}
 use Rattle.kql_cells.specs.declared.value.Value.TheVariants as value
-use Rattle.kql_bound.specs.declared.parts.Output.{Output}
 use Rattle.kql_bound.specs.declared.parts.Output.TheVariants as output
 use Rattle.kql_bound.specs.declared.parts.ScanPlan.{ScanPlan}
 use Rattle.kql_bound.specs.declared.parts.ScanStep.{ScanStep}
 use Rattle.kql_meaning.specs.Scan.{Held, Machine, emitted_at_once, emitted_if_last, held_rows, id_cells, is_all, is_last, row_of_record, rows_at_end, state_of}
 use Rattle.kql_values.specs.Grids.{HaveLength}
-use Rattle.kql_values.proofs.GridLaws.{HaveLength-append, HaveLength-push}
+use Rattle.kql_values.proofs.GridLaws.{HaveLength-append}
 use Rattle.scan_ops.specs.Runs.{AreStates, IsStateAt, IsWide, emitted_by_move, emitted_with, held_in, id_width, machine_of, width_of}
 use Rattle.scan_ops.specs.States.{IsHeld, StateSeen, id_in, record_in, rows_held}
 

@@ -1,9 +1,9 @@
 -- Rows with declared columns.
-use Rattle.std.proofs.Common.{◌≡◌, ◌≢◌, ◌<◌, ◌≤◌, ◌+◌, ◌++◌, ℕ, zero, suc, true, List, [], ◌∷◌, map, length, replicate, take, drop, get_or, refl, sym, ap, ap₂, ◌∙◌, subst, arith, append-nil, append_assoc}
-use Rattle.std.specs.Prelude.{All, ◌&&◌}
+use Rattle.std.proofs.Common.{◌≡◌, ◌<◌, ◌≤◌, ◌+◌, ◌++◌, ℕ, zero, suc, true, List, [], ◌∷◌, map, length, replicate, take, drop, get_or, refl, sym, ap, ap₂, ◌∙◌, subst, arith, append-nil, append_assoc}
+use Rattle.std.specs.Prelude.{All}
 use Rattle.std.specs.List.{list_all}
 use Rattle.std.proofs.lemmas.Bool.{and_parts}
-use Rattle.std.proofs.lemmas.List.{get_or-replicate, length-map, length-replicate, map-append, take-append-drop, take_all, take_more}
+use Rattle.std.proofs.lemmas.List.{get_or-replicate, length-replicate, map-append, take-append-drop, take_all, take_more}
 use Rattle.kql_cells.specs.Named.{HasDistinctNames, IsAbsent, column_name}
 use Rattle.kql_cells.specs.Table.{CellFits, Grid}
 use Rattle.kql_cells.specs.declared.schema.Column.{Column}

@@ -1,12 +1,11 @@
 -- What a scan that fits gives a machine.
-use Rattle.std.proofs.Common.{◌≡◌, ◌<◌, ◌≤◌, ◌+◌, ◌++◌, ℕ, zero, suc, Bool, true, false, List, [], ◌∷◌, map, length, take, get_or, refl, sym, ap, ap₂, ◌∙◌, subst, arith, rules, append_assoc, length-append}
-use Rattle.std.specs.Prelude.{◌&&◌, All, AllPairs, None, Option, Some, fold, is_some}
+use Rattle.std.proofs.Common.{◌≡◌, ◌+◌, ◌++◌, ℕ, zero, suc, Bool, true, false, List, [], ◌∷◌, length, refl, sym, ap, ap₂, ◌∙◌, subst, arith, rules, append_assoc, length-append}
+use Rattle.std.specs.Prelude.{◌&&◌, All, Some, fold, is_some}
 use Rattle.std.specs.List.{list_all, range_with_len}
 use Rattle.std.proofs.lemmas.Bool.{and_parts}
 use Rattle.std.proofs.lemmas.Grind.{fold-append}
 use Rattle.std.proofs.lemmas.List.{get_or_append_left, map-id}
 use Rattle.std.proofs.lemmas.List.FromFn.{map-range_with_len_more}
-use Rattle.kql_cells.specs.Catalogues.{Named}
 use Rattle.kql_cells.specs.Named.{HasDistinctNames, column_name}
 use Rattle.kql_cells.specs.Table.{Grid, IsGrid}
 use Rattle.kql_cells.specs.declared.schema.Column.{Column}
@@ -25,7 +24,7 @@ use Rattle.kql_meaning.specs.Expressions.{column_kind, kind_of}
 use Rattle.kql_meaning.specs.FittingExpressions.{Scope, expr_fits, fits_as, has_kind, same_known}
 use Rattle.kql_meaning.specs.FittingOperators.{answer_if, are_distinct, assigns, assigns_one, columns_if, defaults_fit, is_empty, scan_fits, scan_scope, scan_step_fits, set_fits, step_names}
 use Rattle.kql_meaning.specs.Items.{items_names}
-use Rattle.kql_meaning.specs.Fits.{Known, known_of, op_columns}
+use Rattle.kql_meaning.specs.Fits.{Known, known_of}
 use Rattle.kql_meaning.specs.Plans.{World, op_means}
 use Rattle.kql_meaning.specs.Scan.{Turn, all_rows, declared_columns, id_columns, machine_at_start, row_after, rows_at_end, scan_columns, scan_rows, scan_table, with_declared}
 use Rattle.kql_meaning.specs.Tables.{places, places_below}
@@ -37,7 +36,7 @@ use Rattle.kql_fit_laws.proofs.RowFacts.{answer-some}
 use Rattle.kql_fit_laws.proofs.RowLaws.{means}
 use Rattle.kql_fit_laws.proofs.ScanRows.{each_scan_keeps}
 use Rattle.scan_ops.proofs.ExtendedFacts.{columns-all, columns-start}
-use Rattle.scan_ops.specs.Steps.{AreSetsScalar, AreStepsScalar, IsStepScalar, scan_answers}
+use Rattle.scan_ops.specs.Steps.{AreStepsScalar, IsStepScalar, scan_answers}
 
 -- What fits.
 

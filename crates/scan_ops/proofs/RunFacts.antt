@@ -1,6 +1,6 @@
 -- A row at a step.
-use Rattle.std.proofs.Common.{◌≡◌, ◌<◌, ◌≤◌, ◌+◌, ◌-◌, ◌++◌, ℕ, zero, suc, Bool, true, false, List, [], ◌∷◌, map, length, replicate, take, get_or, refl, sym, ap, ap₂, ◌∙◌, ◌≢◌, ◌⊎◌, subst, arith, inl, inr, append-nil, append_assoc, length-append}
-use Rattle.std.specs.Prelude.{◌==◌, All, IfSome, None, Option, Some, is_some, nat_lt, option_map, slice_get, slice_index_or, slice_set, if◌then◌else◌}
+use Rattle.std.proofs.Common.{◌≡◌, ◌<◌, ◌≤◌, ◌+◌, ◌-◌, ◌++◌, ℕ, zero, suc, Bool, true, false, List, [], ◌∷◌, map, length, replicate, take, get_or, refl, sym, ap, ap₂, ◌∙◌, ◌≢◌, ◌⊎◌, subst, arith, inl, inr, append_assoc, length-append}
+use Rattle.std.specs.Prelude.{◌==◌, All, IfSome, None, Option, Some, is_some, nat_lt, option_map, slice_get, slice_set, if◌then◌else◌}
 use Rattle.std.proofs.lemmas.Bool.{cases_Bool}
 use Rattle.std.proofs.lemmas.Bool.Decides.{nat_tests}
 use Rattle.std.proofs.lemmas.List.{get_or-replicate, get_or-set_other, get_or-set_same, length-map, length-replicate, length-set, map-set, length-take-le, take_all}
@@ -18,7 +18,7 @@ use Rattle.kql_meaning.specs.Scan.{Held, Machine, Turn, after, begun_anew, check
 use Rattle.kql_meaning.specs.Values.{holds}
 use Rattle.kql_values.specs.Grids.{HaveLength}
 use Rattle.kql_scalar.specs.Evaluated.{AreSound}
-use Rattle.scan_ops.specs.Runs.{AreStates, HasMovedUp, IsRun, IsStateAt, IsStepOf, emitted_by_move, emitted_with, held_in, machine_of, turn_of, width_of}
+use Rattle.scan_ops.specs.Runs.{AreStates, HasMovedUp, IsRun, IsStateAt, IsStepOf, emitted_by_move, emitted_with, held_in, machine_of}
 use Rattle.scan_ops.specs.States.{StateSeen, begun_with, held_with, id_in}
 use Rattle.scan_ops.specs.Steps.{PlacedStep}
 use Rattle.scan_ops.specs.declared.run.Run.{Run}

@@ -1,7 +1,7 @@
 -- Sources of the columns of a record.
-use Rattle.std.proofs.Common.{◌≡◌, ◌<◌, ◌≤◌, ◌+◌, ◌++◌, ℕ, zero, suc, Bool, true, false, List, [], ◌∷◌, map, length, take, get_or, refl, sym, ap, ◌∙◌, subst, arith}
+use Rattle.std.proofs.Common.{◌≡◌, ◌<◌, ◌≤◌, ◌+◌, ◌++◌, ℕ, zero, suc, Bool, List, [], ◌∷◌, map, length, take, get_or, refl, sym, ap, ◌∙◌, subst, arith}
 use Rattle.std.specs.Prelude.{All, IfSome, None, Option, Some, bytes_eq, find, slice_get}
-use Rattle.std.proofs.lemmas.List.{length-map, map_more, take_all, take_more}
+use Rattle.std.proofs.lemmas.List.{map_more, take_all, take_more}
 use Rattle.std.proofs.lemmas.List.Elements.{All-push}
 use Rattle.std.proofs.lemmas.List.Quantifiers.{position-Some}
 use Rattle.std.proofs.lemmas.Option.{slice_get-get_or}
@@ -16,20 +16,18 @@ use Rattle.kql_cells.specs.declared.value.Value.TheVariants as value
 use Rattle.kql_cells.proofs.RowLaws.{length-RowFits}
 use Rattle.kql_scalar_fns.specs.Arguments.{AreWellFormed}
 use Rattle.kql_bound.specs.declared.expr.BExpr.{BExpr}
-use Rattle.kql_bound.specs.declared.expr.BExpr.TheVariants as V
 use Rattle.kql_bound.specs.declared.parts.BItem.{BItem}
 use Rattle.kql_bound.specs.declared.parts.ScanStep.{ScanStep}
 use Rattle.kql_meaning.specs.Expressions.{val}
 use Rattle.kql_meaning.specs.Readings.{Records}
 use Rattle.kql_meaning.specs.Scan.{assigned, new_record}
-use Rattle.kql_meaning.specs.Tables.{absent_in, cell, cell_in, is_name_among}
+use Rattle.kql_meaning.specs.Tables.{cell, cell_in, is_name_among}
 use Rattle.kql_meaning.specs.Values.{holds}
-use Rattle.kql_meaning.proofs.MemberLaws.{Member}
 use Rattle.kql_scalar.specs.Placed.{Placed}
 use Rattle.kql_scalar.specs.Rows.{passes_with}
 use Rattle.kql_scalar.specs.Scalar.{IsScalar}
 use Rattle.kql_fit_laws.proofs.KnownValues.{found-holds}
-use Rattle.kql_fit_laws.proofs.RowFacts.{found-place, of-all}
+use Rattle.kql_fit_laws.proofs.RowFacts.{of-all}
 use Rattle.scan_ops.specs.Steps.{AreSetsScalar, AreStepsScalar, IsSourceIn, IsStepScalar, PlacedStep, placed_step, source_at, source_of, sourced}
 use Rattle.scan_ops.specs.declared.step.Source.{Source}
 use Rattle.scan_ops.specs.declared.step.Source.TheVariants as source

@@ -1,5 +1,5 @@
 -- The states of steps.
-use Rattle.std.specs.Prelude.{ℕ, ◌<◌, List, [], ◌∷◌, ◌++◌, Option, None, Some, IfSome, length, option_map, slice_index_or, take}
+use Rattle.std.specs.Prelude.{ℕ, ◌<◌, List, [], ◌∷◌, ◌++◌, Option, None, Some, IfSome, length, slice_index_or, take}
 use Rattle.kql_cells.specs.declared.value.Value.{Value}
 use Rattle.kql_meaning.specs.Readings.{Records}
 use Rattle.kql_bound.specs.declared.parts.ScanPlan.{ScanPlan}

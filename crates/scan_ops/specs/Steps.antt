@@ -1,6 +1,5 @@
 -- The steps of a scan over columns, and where the columns of their records come from.
-use Rattle.std.specs.Prelude.{◌≡◌, ◌<◌, ℕ, Bool, true, List, Option, None, Some, All, IfSome, find, is_some, length}
-use Rattle.std.specs.List.{list_all}
+use Rattle.std.specs.Prelude.{◌≡◌, ◌<◌, ℕ, Bool, List, Option, None, Some, All, IfSome, find, is_some, length}
 use Rattle.kql_cells.specs.Named.{column_name, place_of}
 use Rattle.kql_cells.specs.Table.{Grid}
 use Rattle.kql_cells.specs.declared.schema.Column.{Column}
@@ -13,7 +12,7 @@ use Rattle.kql_meaning.specs.FittingOperators.{answer_if, scan_fits}
 use Rattle.kql_meaning.specs.Readings.{Records}
 use Rattle.kql_meaning.specs.Scan.{scan_columns}
 use Rattle.kql_meaning.specs.Tables.{cell_in, is_name_among}
-use Rattle.kql_scalar.specs.Scalar.{IsScalar, is_scalar}
+use Rattle.kql_scalar.specs.Scalar.{IsScalar}
 use Rattle.scan_ops.specs.declared.step.Source.{Source}
 use Rattle.scan_ops.specs.declared.step.Source.TheVariants as source
 

@@ -1,4 +1,4 @@
-use Rattle.std.proofs.Common.{rules, ◌≡◌, refl}
+use Rattle.std.proofs.Common.{rules, refl}
 use Rattle.parse_op.specs.Search.{AreRemembered}
 use Rattle.parse_op.proofs.SearchSteps.{ended, failed-before, none-beyond, of-both, of-first, of-later, other-end}
 use Rattle.parse_op.proofs.search.+search.Goals as goal

@@ -1,6 +1,5 @@
-use Rattle.std.proofs.Common.{refl, rules, sym, ap, ◌∙◌}
+use Rattle.std.proofs.Common.{rules}
 use Rattle.scan_ops.proofs.ExtendedFacts.{column-added, column-fits}
-use Rattle.scan_ops.specs.Extended.{column_declared}
 use Rattle.scan_ops.proofs.extended.push_declared.Goals as goal
 
 pub push_column-requires-clause-fits : goal.push_column-requires-clause-fits
