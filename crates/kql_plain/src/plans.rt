@@ -20,11 +20,12 @@ use kql_items::Items;
 use kql_values::{Catalogue, Table, Tables};
 use order_ops::{sort_rows, top_rows};
 use parse_op::parse_rows;
-use row_ops::{computed_rows, count_rows, extend_rows, project_rows, where_rows};
+use row_ops::count_rows;
 use scan_ops::scan_rows;
 use std::alloc::{AllocError, Global};
 use summarize_op::summarize_rows;
 use table_ops::{expand_rows, union_tables};
+use window_ops::{extend_rows, project_rows, where_rows, window_rows};
 
 /// The table of a plan: its source, and then its operators.
 #[cycle(plan_table)]
@@ -152,7 +153,7 @@ fn projected(alloc: Global, items: &[BItem], from: Input<'_>) -> Result<Table, A
     ensures table { IfOk result (λ t. t ≡ project_table items.now (input_table from.entry)) }
 {
     match from {
-        Input::Lent(t) => computed_rows(alloc, t, items),
+        Input::Lent(t) => window_rows(alloc, t, items),
         Input::Owned(t) => project_rows(alloc, t, items),
     }
 }
