@@ -1,6 +1,6 @@
 -- The tables of the kinds of join.
-use Rattle.std.proofs.Common.{◌≡◌, ◌<◌, ◌≤◌, ◌+◌, ℕ, zero, suc, Bool, true, false, List, [], ◌∷◌, ◌++◌, map, filter, length, length-append, refl, ap, ap₂, sym, ◌∙◌, subst, inl, inr, arith}
-use Rattle.std.specs.Prelude.{All, AllPairs, Option, None, Some}
+use Rattle.std.proofs.Common.{◌≡◌, ◌<◌, ◌≤◌, ◌+◌, ℕ, true, false, List, [], ◌∷◌, ◌++◌, map, length, length-append, refl, ap, ap₂, sym, ◌∙◌, subst, inl, inr, arith}
+use Rattle.std.specs.Prelude.{All, AllPairs, Option, Some}
 use Rattle.std.specs.List.{AllByRecursion, flat_map}
 use Rattle.std.proofs.lemmas.List.{length-map, map-append}
 use Rattle.std.proofs.lemmas.List.Elements.{All-append}
@@ -30,7 +30,6 @@ use Rattle.join_op.specs.declared.sides.Side.TheVariants as side
 use Rattle.join_op.proofs.KeySteps.{left-keys, right-keys}
 use Rattle.join_op.proofs.ListSteps.{beside-append}
 use Rattle.join_op.proofs.MatchSteps.{lead-inside}
-use Rattle.join_op.proofs.PairSteps.{one_row}
 use Rattle.join_op.proofs.RowSteps.{full-left, full-right, lead, left-only, left-rows, of-pairs, other, right-only, right-rows}
 
 -- The keys of the side that leads, and of the other.

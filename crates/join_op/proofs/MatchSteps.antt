@@ -1,5 +1,5 @@
 -- What a probe finds for the keys of a row are the rows that match it.
-use Rattle.std.proofs.Common.{◌≡◌, ◌<◌, ◌≤◌, Bor, ℕ, Bool, true, false, List, [], ◌∷◌, ◌++◌, map, filter, length, refl, ap, ap₂, sym, ◌∙◌, subst, inl, inr, arith}
+use Rattle.std.proofs.Common.{◌≡◌, ◌<◌, ◌≤◌, Bor, ℕ, Bool, true, false, List, [], ◌∷◌, map, filter, length, refl, ap, ap₂, sym, ◌∙◌, subst, inl, inr, arith}
 use Rattle.std.specs.Prelude.{All, Option, not, ◌&&◌, ◌||◌}
 use Rattle.std.specs.List.{AllByRecursion, flat_map, list_all, list_any, range_with_len}
 use Rattle.std.proofs.lemmas.Bool.{cases_Bool}
@@ -20,7 +20,7 @@ use Rattle.kql_fit_laws.proofs.RowFacts.{all-members, place-below}
 use Rattle.kql_keys.specs.Matches.{has_null, matches_in, keys_match as lists_match}
 use Rattle.kql_keys.specs.Numbers.{first_places}
 use Rattle.kql_keys.proofs.KeyLaws.{matches-are}
-use Rattle.kql_keys.proofs.NumberLaws.{firsts-are, is_first}
+use Rattle.kql_keys.proofs.NumberLaws.{firsts-are}
 use Rattle.kql_values.specs.Grids.{row_of, rows_of}
 use Rattle.join_op.specs.Pairs.{given, join_pairs, lead_rows, pairs_by, row_rule, rows_led}
 use Rattle.join_op.specs.Sides.{column_cells, key_cells, key_name, lead_side, matches_of, opposite}
@@ -28,7 +28,6 @@ use Rattle.join_op.specs.declared.pairs.RowRule.{RowRule}
 use Rattle.join_op.specs.declared.sides.Side.{Side}
 use Rattle.join_op.specs.declared.sides.Side.TheVariants as side
 use Rattle.join_op.proofs.ListSteps.{all-same, any-range-same, filter-range-same, flat-same-in}
-use Rattle.join_op.proofs.PairSteps.{one_row}
 
 -- Keys match where all their cells do.
 

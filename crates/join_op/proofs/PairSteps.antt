@@ -1,11 +1,10 @@
 -- Pairs of places, row by row.
-use Rattle.std.proofs.Common.{◌≡◌, ◌<◌, ◌≤◌, ◌+◌, Bor, ℕ, suc, List, [], ◌∷◌, ◌++◌, map, flat_map, length, get_or, take, refl, ap, ap₂, sym, ◌∙◌, arith}
-use Rattle.std.specs.Prelude.{All, Option, None, Some}
+use Rattle.std.proofs.Common.{◌≡◌, ◌<◌, ◌+◌, ℕ, List, [], ◌∷◌, ◌++◌, map, flat_map, length, get_or, take, refl, ap, ap₂, sym, ◌∙◌, arith}
+use Rattle.std.specs.Prelude.{Option, Some}
 use Rattle.std.specs.List.{range_with_len}
 use Rattle.std.proofs.lemmas.List.{append-nil, map-append, map-id, take_more}
 use Rattle.std.proofs.lemmas.List.Concat.{flat_map-append}
 use Rattle.std.proofs.lemmas.List.FromFn.{map-range_with_len_more}
-use Rattle.kql_cells.specs.declared.value.Value.{Value}
 use Rattle.join_op.specs.Pairs.{given, pairs_by}
 use Rattle.join_op.specs.declared.pairs.RowRule.{RowRule}
 use Rattle.join_op.specs.declared.pairs.RowRule.TheVariants as rule

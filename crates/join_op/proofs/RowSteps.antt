@@ -1,7 +1,7 @@
 -- The rows of a join, made of its pairs of places.
-use Rattle.std.proofs.Common.{◌≡◌, ◌<◌, ◌+◌, ◌⊎◌, ℕ, Bool, true, false, List, [], ◌∷◌, ◌++◌, map, filter, length, get_or, refl, ap, ap₂, sym, ◌∙◌, inl, inr, arith}
+use Rattle.std.proofs.Common.{◌≡◌, ◌+◌, ◌⊎◌, ℕ, Bool, true, false, List, [], ◌∷◌, ◌++◌, map, filter, get_or, refl, ap, ap₂, sym, ◌∙◌, inl, inr, arith}
 use Rattle.std.specs.Prelude.{not, Option, None, Some, slice_get, slice_index_or}
-use Rattle.std.specs.List.{flat_map, list_all, list_any, range_with_len}
+use Rattle.std.specs.List.{flat_map, list_any, range_with_len}
 use Rattle.std.proofs.lemmas.Bool.{cases_Bool}
 use Rattle.std.proofs.lemmas.List.{get_or-map, length-map, map-id}
 use Rattle.kql_cells.specs.Named.{column_name, place_of}
@@ -23,7 +23,7 @@ use Rattle.join_op.specs.Sides.{lead_side, matches_of}
 use Rattle.join_op.specs.declared.pairs.RowRule.{RowRule}
 use Rattle.join_op.specs.declared.pairs.RowRule.TheVariants as rule
 use Rattle.join_op.specs.declared.sides.Side.TheVariants as side
-use Rattle.join_op.proofs.ListSteps.{all-same, beside-pairs, filter-same, flat-at, flat-same, map-flat, map-same}
+use Rattle.join_op.proofs.ListSteps.{all-same, beside-pairs, filter-same, flat-at, flat-same, map-flat}
 use Rattle.join_op.proofs.PairSteps.{one_row}
 
 abbrev pub lead : ℕ × Option ℕ → ℕ

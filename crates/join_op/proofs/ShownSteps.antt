@@ -1,14 +1,14 @@
 -- The right columns that a join shows, at places, and the rows of a left table with them.
-use Rattle.std.proofs.Common.{◌≡◌, ◌≢◌, ◌<◌, ◌≤◌, ◌+◌, ℕ, zero, suc, Bool, true, false, List, [], ◌∷◌, ◌++◌, map, filter, length, get_or, take, refl, ap, ap₂, sym, ◌∙◌, subst, inl, inr, arith}
-use Rattle.std.specs.Prelude.{All, AllPairs, not, ◌&&◌, bytes_eq, nat_lt, if◌then◌else◌, Option, None, Some}
+use Rattle.std.proofs.Common.{◌≡◌, ◌<◌, ◌+◌, ℕ, zero, suc, Bool, true, false, List, [], ◌∷◌, ◌++◌, map, filter, length, get_or, take, refl, ap, ap₂, sym, ◌∙◌, subst, inl, inr, arith}
+use Rattle.std.specs.Prelude.{All, not, ◌&&◌, bytes_eq, nat_lt, if◌then◌else◌, Option, None, Some}
 use Rattle.std.specs.List.{AllByRecursion, position_or_len}
 use Rattle.std.proofs.lemmas.Bool.{cases_Bool}
 use Rattle.std.proofs.lemmas.List.{append-nil, get_or-map, length-map, map-append, take_more}
-use Rattle.std.proofs.lemmas.List.Elements.{All-from_recursion, All-head, All-tail, filter-append, recursion_from_All}
+use Rattle.std.proofs.lemmas.List.Elements.{All-from_recursion, filter-append, recursion_from_All}
 use Rattle.std.proofs.lemmas.Slice.Eq.{bytes_eq-Decides}
 use Rattle.kql_cells.specs.Keys.{absent}
 use Rattle.kql_cells.specs.Named.{HasDistinctNames, column_name, place_of}
-use Rattle.kql_cells.specs.Seen.{row_at, value_at}
+use Rattle.kql_cells.specs.Seen.{value_at}
 use Rattle.kql_cells.specs.Table.{Grid, IsGrid, RowFits}
 use Rattle.kql_cells.specs.declared.schema.Column.{Column}
 use Rattle.kql_cells.specs.declared.value.Value.{Value}

@@ -1,5 +1,5 @@
 -- The rows of a join as pairs of places: one of the side that leads, and one of the other side, or none.
-use Rattle.std.specs.Prelude.{ℕ, Bool, true, false, List, [], ◌∷◌, Option, None, Some, filter, length, map}
+use Rattle.std.specs.Prelude.{ℕ, Bool, true, false, List, [], ◌∷◌, Option, None, Some, filter, map}
 use Rattle.std.specs.List.{flat_map, range_with_len}
 use Rattle.kql_cells.specs.Keys.{same_keys}
 use Rattle.kql_cells.specs.Table.{Grid}

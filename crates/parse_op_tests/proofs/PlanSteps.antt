@@ -24,7 +24,7 @@ filled [] h = absurd (h refl)
 filled (p ∷ ps) h = refl
 
 pub plan-fits : (p : ParsePlan) (cs : List Column) (n : List ℕ) (b : Bool) (k : Option Kind) → p.text ≡ V.Column n → (p.pattern ≡ [] → ⊥) → b ≡ has_column n cs → b ≡ true → k ≡ kind_of p.text cs → k ≡ Some kind.Text → parse_fits p cs ≡ true
-unfolding parse_fits fits_as has_kind same_kind takes_columns scope_of
+unfolding parse_fits fits_as has_kind takes_columns
 plan-fits p cs n b k is some test held at text =
     let here : has_column n cs ≡ true = sym test ∙ held in
     let fits : expr_fits p.text (scope_of cs) position.Plain ≡ true = ap (λ e. expr_fits e (scope_of cs) position.Plain) is ∙ (fits-Column n (scope_of cs) position.Plain ∙ rw here refl) in

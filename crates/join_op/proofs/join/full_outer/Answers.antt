@@ -1,5 +1,4 @@
 use Rattle.std.proofs.Common.{◌∙◌, ◌++◌, ap, map}
-use Rattle.std.specs.Prelude.{Some}
 use Rattle.kql_bound.specs.declared.parts.JoinKind.TheVariants as join
 use Rattle.join_op.specs.Pairs.{join_pairs}
 use Rattle.join_op.proofs.JoinSteps.{absent-columns, full-joined, full-shows, names-shown}
