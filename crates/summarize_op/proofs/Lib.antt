@@ -1,0 +1,9 @@
+mod AppliedSteps
+mod ColumnFacts
+mod ItemSteps
+mod KeyedGroups
+mod KeySteps
+mod OneGroup
+mod PartSteps
+mod TableSteps
+mod ValueSteps

@@ -1,0 +1,4 @@
+pub mod Columns
+pub mod Groups
+pub mod Grouped
+pub mod Calls
