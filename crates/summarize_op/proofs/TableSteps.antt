@@ -25,6 +25,7 @@ use Rattle.kql_fit_laws.proofs.RowFacts.{answer-some}
 use Rattle.kql_fit_laws.proofs.RowLaws.{means}
 use Rattle.kql_fit_laws.specs.LawsOfRows.{IsTable, IsTableOf}
 use Rattle.summarize_op.specs.Columns.{AreColumns}
+use Rattle.summarize_op.specs.Grouped.{AreNumbers}
 use Rattle.summarize_op.specs.Groups.{AreGroups, group_at}
 use Rattle.summarize_op.proofs.ColumnFacts.{map-range-same, row-of-append}
 
@@ -91,4 +92,7 @@ table-fits g t count kcs ics vs rows numbers cs fits names here a b e there name
     let all = summary-table g t (names, here) fits in
     subst IsGrid (sym (table-is g t (record { columns = cs; lines = rows }) count kcs ics vs rows numbers cs a b e there named refl)) all.1
 
-pub ruleset table_steps = (keys-fit, items-fit, names-differ, both-long)
+pub group-numbers : (keys : List BItem) (t : Grid) (cs : List (List Value)) (ns : List ℕ) (count : ℕ) → AreGroups keys t cs ns count → AreNumbers t ns count
+group-numbers keys t cs ns count a = record { within = a.within; each = a.each }
+
+pub ruleset table_steps = (keys-fit, items-fit, names-differ, both-long, group-numbers)

@@ -1,4 +1,6 @@
-pub mod Columns
-pub mod Groups
-pub mod Grouped
 pub mod Calls
+pub mod Columns
+pub mod Grouped
+pub mod Groups
+pub mod Passes
+pub mod Picks

@@ -33,9 +33,9 @@ pub(crate) fn apply_over(
     Ok(made)
 }
 
-// What vectors have at a place.
+/// What vectors have at a place.
 #[tactic(auto, using(crate::proofs::AppliedSteps::cell_steps))]
-fn cells_at<'a>(
+pub(crate) fn cells_at<'a>(
     alloc: Global,
     vectors: &'a [Vector],
     g: usize,

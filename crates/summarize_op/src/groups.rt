@@ -48,9 +48,9 @@ fn one_group(alloc: Global, t: &Table) -> Result<Groups, AllocError>
     })
 }
 
-// So many zeros.
+/// So many zeros.
 #[tactic(auto, unfolding(crate::specs::Groups::zeros))]
-fn zeros(alloc: Global, count: usize) -> Result<Items<usize>, AllocError>
+pub(crate) fn zeros(alloc: Global, count: usize) -> Result<Items<usize>, AllocError>
     ensures zeros { IfOk result (λ ns. ns ≡ zeros count) }
 {
     let mut numbers = Items::with_capacity(alloc, count)?;

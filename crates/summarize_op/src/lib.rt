@@ -5,9 +5,12 @@
 #![tactic(auto)]
 
 mod applied;
+mod arguments;
 mod calls;
 mod groups;
 mod items;
+mod passes;
+mod picks;
 mod summarize;
 mod values;
 

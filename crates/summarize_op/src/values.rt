@@ -105,7 +105,7 @@ fn values_of_all(
 
 /// The values of a chain behind first ones.
 #[cycle(values)]
-#[tactic(auto, using(crate::proofs::PartSteps::grouped_items, crate::proofs::ValueSteps::along_steps))]
+#[tactic(auto, using(crate::proofs::PartSteps::grouped_link))]
 fn values_along(
     alloc: Global,
     links: &[Link],
