@@ -87,9 +87,9 @@ gathered-row (v ∷ vs) ps g lt = ap₂ (λ (x : Value) (xs : List Value). x ∷
 
 -- What the numbering gives, for columns that are the keys' values.
 module _ (keys : List BItem) (t : Grid) (numbers firsts : List ℕ) (cs : List (List Value))
-  (en : numbers ≡ numbers_of same_keys (rows_of (length t.lines) (key_columns keys t)))
-  (ef : map (row_of (key_columns keys t)) firsts ≡ distinct same_keys (rows_of (length t.lines) (key_columns keys t)))
-  (ec : cs ≡ map (λ v. map (value_at v) firsts) (key_columns keys t)) where
+    (en : numbers ≡ numbers_of same_keys (rows_of (length t.lines) (key_columns keys t)))
+    (ef : map (row_of (key_columns keys t)) firsts ≡ distinct same_keys (rows_of (length t.lines) (key_columns keys t)))
+    (ec : cs ≡ map (λ v. map (value_at v) firsts) (key_columns keys t)) where
   keys-are : map (row_of (key_columns keys t)) firsts ≡ distinct_keys (key_by keys t) t
   keys-are = ef ∙ (ap (distinct same_keys) (keys-rows keys t) ∙ keys-distinct keys t)
 

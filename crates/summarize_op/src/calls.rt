@@ -121,7 +121,14 @@ fn folded_vector(
     let columns = argument_vectors(alloc, t, first_args(args, needs(f)))?;
     let folds = fold_groups(alloc, call, columns.as_slice(), numbers, count)?;
     let kind = kind_of_values(call);
-    let values = finish_all(alloc, kind, folds.as_slice(), call, columns.as_slice(), numbers)?;
+    let values = finish_all(
+        alloc,
+        kind,
+        folds.as_slice(),
+        call,
+        columns.as_slice(),
+        numbers,
+    )?;
     Ok(values)
 }
 
@@ -151,7 +158,14 @@ fn best_of(
     let columns = argument_vectors(alloc, t, first_args(args, needs(f)))?;
     let folds = fold_groups(alloc, call, columns.as_slice(), numbers, count)?;
     let kind = kind_of_values(call);
-    let values = finish_all(alloc, kind, folds.as_slice(), call, columns.as_slice(), numbers)?;
+    let values = finish_all(
+        alloc,
+        kind,
+        folds.as_slice(),
+        call,
+        columns.as_slice(),
+        numbers,
+    )?;
     let places = chosen_places(alloc, folds.as_slice(), call, columns.as_slice(), numbers)?;
     Ok(Best { values, places })
 }
@@ -250,9 +264,7 @@ fn first_vector(
     requires numbers { AreNumbers t.now numbers.now count }
     ensures values { IfOk result (λ v. v ≡ over (aggregate_call f args.now) t.now numbers.now count) }
 {
-    let [column, ..] = args else {
-        unreachable!()
-    };
+    let [column, ..] = args else { unreachable!() };
     let rows = first_rows(alloc, t, numbers, count)?;
     let vector = picked_column(alloc, t, column, rows.as_slice())?;
     Ok(vector)

@@ -60,9 +60,7 @@ fn columns_of_item(
         BExpr::Chain(_, _) => expression_column(alloc, t, &item.expr, numbers, count),
         BExpr::Path(_, _) => expression_column(alloc, t, &item.expr, numbers, count),
         BExpr::Window(_, _) => expression_column(alloc, t, &item.expr, numbers, count),
-        BExpr::Aggregate(f, args) => {
-            call_vectors(alloc, *f, args.as_slice(), t, numbers, count)
-        }
+        BExpr::Aggregate(f, args) => { call_vectors(alloc, *f, args.as_slice(), t, numbers, count) }
     }
 }
 

@@ -1,6 +1,6 @@
 //! Expressions of aggregate calls and constants: one value for each group, worked out part by part over vectors.
 ghost use Rattle.std.specs.Prelude.{◌≡◌, IfOk, length};
-ghost use Rattle.kql_scalar_fns.specs.Applied.{applied};
+ghost use Rattle.kql_bound.specs.Signs.{sign_func};
 ghost use Rattle.kql_scalar_fns.specs.Arguments.{AreWellFormed};
 ghost use Rattle.summarize_op.specs.Grouped.{AreFormed, AreGrouped, AreLinksGrouped, AreNumbers, IsGrouped, all_over, along, applied_to_both, down, over};
 
@@ -73,9 +73,7 @@ pub(crate) fn values_of(
             values_down(alloc, parts(steps, t), left, kind, t, numbers, count)
         }
         BExpr::Window(_, _) => unreachable!(),
-        BExpr::Aggregate(f, args) => {
-            call_vector(alloc, *f, args.as_slice(), t, numbers, count)
-        }
+        BExpr::Aggregate(f, args) => { call_vector(alloc, *f, args.as_slice(), t, numbers, count) }
     }
 }
 
@@ -124,7 +122,7 @@ fn values_along(
 {
     let mut left = first;
     'links: for link in links {
-        let next = linked(alloc, link.0.func(), &link.1, left, kind, t, numbers, count)?;
+        let next = linked_by(alloc, link, left, kind, t, numbers, count)?;
         left = next;
     }
     Ok(left)
@@ -156,6 +154,28 @@ fn values_down(
         left = next;
     }
     Ok(left)
+}
+
+/// The values of one link: what stands on the left, and the part behind the sign.
+#[cycle(values)]
+fn linked_by(
+    alloc: Global,
+    link: &Link,
+    left: Vector,
+    kind: Kind,
+    t: &Table,
+    numbers: &[usize],
+    count: usize,
+) -> Result<Vector, AllocError>
+    requires grouped { IsGrouped t.now.columns link.now.1 }
+    requires numbers { AreNumbers t.now numbers.now count }
+    requires long { length left ≡ count }
+    requires form { AreWellFormed left }
+    ensures values { IfOk result (λ v. v ≡ applied_to_both (sign_func link.now.0) left (over link.now.1 t.now numbers.now count) count) }
+    ensures long { IfOk result (λ v. length v ≡ count) }
+    ensures form { IfOk result AreWellFormed }
+{
+    linked(alloc, link.0.func(), &link.1, left, kind, t, numbers, count)
 }
 
 /// The values of one sign or step: what stands on the left, and the part on the right.

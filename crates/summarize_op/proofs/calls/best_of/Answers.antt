@@ -10,6 +10,11 @@ use Rattle.summarize_op.proofs.PassSteps.{folds-many, same-folds}
 use Rattle.summarize_op.proofs.ResultSteps.{best-not-first, chosen-values, folded-values}
 use Rattle.summarize_op.proofs.calls.best_of.Goals as goal
 
+pub argument_vectors-requires : goal.argument_vectors-requires
+argument_vectors-requires c = record {
+  plain = first-arguments c.args.t.now.columns c.args.f c.args.args.now c.first_args.result.now c.needs.result c.requires.call c.first_args.ensures.first;
+}
+
 pub fold_groups-requires-clause-long : goal.fold_groups-requires-clause-long
 fold_groups-requires-clause-long c =
     columns-long c.args.t.now c.args.numbers.now c.args.count (length c.args.numbers.now) c.first_args.result.now c.as_slice.result.now c.requires.numbers (c.as_slice.ensures.value ∙ c.in_ok-columns.ensures.values) refl

@@ -1,4 +1,4 @@
-use Rattle.std.proofs.Common.{◌≡◌, ◌∙◌, ap, get_or, map, refl, subst, sym}
+use Rattle.std.proofs.Common.{◌≡◌, ◌∙◌, List, ap, get_or, map, refl, subst, sym}
 use Rattle.std.specs.Prelude.{IfOk}
 use Rattle.kql_cells.specs.Keys.{absent}
 use Rattle.kql_cells.specs.Named.{column_name, place_of}
@@ -20,6 +20,6 @@ returns c =
     let cells = c.column.result.now in
     let away = seen c.absent-absent.result in
     let ep = ap (place_of column_name n) (sym c.schema.ensures.columns) ∙ (sym c.find.ensures.place ∙ c.in-Some.is) in
-    let ea = c.absent-absent.ensures.value ∙ ap (λ (col : Column). absent col.kind) (c.index-columns-place.is ∙ ap (λ cs. get_or cs j d) (c.columns.ensures.columns ∙ c.schema-in-Some.ensures.columns)) in
+    let ea = c.absent-absent.ensures.value ∙ ap (λ (cs : List Column). absent (get_or cs j d).kind) (c.columns.ensures.columns ∙ c.schema-in-Some.ensures.columns) in
     let same = named-picked n t j d c.args.rows.now cells (map (value_or away cells) c.args.rows.now) away c.schema.ensures.fits ep c.requires.within c.column.ensures.cells ea refl in
     record { values = subst (λ z. IfOk c.gather_or_absent.result (λ v. v ≡ z)) same c.gather_or_absent.ensures.cells }

@@ -1,4 +1,5 @@
-use Rattle.std.proofs.Common.{◌∙◌, rules, subst, sym}
+use Rattle.std.proofs.Common.{◌∙◌, refl, rules, subst, sym}
+use Rattle.kql_bound.specs.Signs.{sign_func}
 use Rattle.summarize_op.specs.Grouped.{AreFormed}
 use Rattle.summarize_op.proofs.ValueSteps.{all-start, all-step, along-start, along-step, columns-formed, down-start, down-step, no-columns-formed}
 use Rattle.summarize_op.proofs.values.+values.Goals as goal
@@ -24,7 +25,7 @@ values_along-links-init t c = record {
 
 pub values_along-links-preserved : goal.values_along-links-preserved
 values_along-links-preserved t c = record {
-  made = along-step c.args.links.now c.args.t.now c.args.numbers.now c.args.count c.links.link-index c.link-item.result c.func.result c.args.first c.links.left c.in_ok-next.next (search rules) c.link-item.is c.func.ensures.func c.links.invariant.made c.in_ok-next.ensures.values;
+  made = along-step c.args.links.now c.args.t.now c.args.numbers.now c.args.count c.links.link-index c.link-item.result (sign_func c.link-item.result.0) c.args.first c.links.left c.in_ok-next.next (search rules) c.link-item.is refl c.links.invariant.made c.in_ok-next.ensures.values;
   long = c.in_ok-next.ensures.long;
   form = c.in_ok-next.ensures.form;
 }
