@@ -1,6 +1,7 @@
 use Rattle.std.proofs.Common.{◌∙◌, refl, rules, subst, sym}
 use Rattle.kql_bound.specs.Signs.{sign_func}
 use Rattle.summarize_op.specs.Grouped.{AreFormed}
+use Rattle.summarize_op.proofs.PartSteps.{grouped_link}
 use Rattle.summarize_op.proofs.ValueSteps.{all-start, all-step, along-start, along-step, columns-formed, down-start, down-step, no-columns-formed}
 use Rattle.summarize_op.proofs.values.+values.Goals as goal
 
@@ -22,6 +23,10 @@ values_along-links-init t c = record {
   long = c.requires.long;
   form = c.requires.form;
 }
+
+pub values_along-linked_by-requires : goal.values_along-linked_by-requires
+values_along-linked_by-requires t c =
+    (search rules, (grouped_link c.args.t.now.columns c.args.links.now c.links.link-index c.link-item.result c.link-item.is (search rules) c.requires.grouped, (c.requires.numbers, (c.links.invariant.long, c.links.invariant.form))))
 
 pub values_along-links-preserved : goal.values_along-links-preserved
 values_along-links-preserved t c = record {
