@@ -19,7 +19,7 @@ use Rattle.kql_meaning.proofs.ExpressionFitLaws.{fits-Column}
 use Rattle.kql_meaning.proofs.KindLaws.{kind-Column}
 
 pub column-fits : (cs : List Column) (item : ExpandItem) (m n : List ℕ) → item.expr ≡ V.Column m → n ≡ m → has_column n cs ≡ true → column_kind n cs ≡ Some kind.Dynamic → expand_item_fits cs item ≡ true
-unfolding expand_item_fits fits_as has_kind takes_columns same_kind
+unfolding expand_item_fits fits_as has_kind takes_columns
 column-fits cs item m n is named there dynamic =
     let e : item.expr ≡ V.Column n = is ∙ ap V.Column (sym named) in
     subst (λ (x : BExpr). (expr_fits x (scope_of cs) position.Plain && has_kind (same_kind kind.Dynamic) (kind_of x cs)) ≡ true) (sym e)
