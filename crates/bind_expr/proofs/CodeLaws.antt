@@ -47,11 +47,11 @@ use Rattle.kql_syntax.specs.declared.tree.SumSign.{SumSign}
 use Rattle.kql_syntax.specs.declared.tree.Word.{Word}
 use Rattle.bind_expr.specs.AggregateCalls.{aggregate_call, aggregate_given, aggregate_stands, aggregate_taken, aggregate_typed}
 use Rattle.bind_expr.specs.Arguments.{arg_link, first_slot, next_slot, no_args, plain_arg, taken}
-use Rattle.bind_expr.specs.Bound.{Binds, Look, Named, Takes, access_read, access_step, and_bound, and_step, arg_bound, arg_step, args_taken, bound_expr, call_bound, cmp_bound, cmp_step, entry_key, expr_bound, expr_step, first_spot, found_call, inside, negated, operand_link, path_from, path_of, post_bound, post_of, post_step, prod_bound, prod_sign, prod_step, sign_bound, sign_step, sum_bound, sum_sign, sum_step, term_read, term_step}
+use Rattle.bind_expr.specs.Bound.{Binds, Look, Named, Takes, access_read, access_step, and_bound, and_step, arg_bound, arg_step, args_taken, bound_expr, bound_single, call_bound, cmp_bound, cmp_step, entry_key, expr_bound, expr_step, first_spot, found_call, inside, negated, operand_link, path_from, path_of, post_bound, post_of, post_step, prod_bound, prod_sign, prod_step, sign_bound, sign_step, sum_bound, sum_sign, sum_step, term_read, term_step}
 use Rattle.bind_expr.specs.Calls.{from_moment, moment_call, moment_call_as, moment_sign, plain_call, plain_call_as, scalar_call, scalar_call_as, takes_args}
 use Rattle.bind_expr.specs.Chains.{chain_whole, chained_from, closed, linked, linked_as, opened}
 use Rattle.bind_expr.specs.Comparisons.{among_func, among_kind, between_func, bounded, compare_func, compared, compared_as, in_node, is_of_any_type, listed}
-use Rattle.bind_expr.specs.Laws.{EachIsTold, Tells, is_bind_code, tells}
+use Rattle.bind_expr.specs.Laws.{EachIsTold, EachSingleIsTold, Tells, is_bind_code, tells}
 use Rattle.bind_expr.specs.Literals.{literal_bound, read_or_fault, typed_literal, typed_of_kind}
 use Rattle.typed_literals.specs.Reading.{kind_of_word, trimmed, value_or_null}
 use Rattle.bind_expr.specs.Logic.{joined_as, joined_from, terms_closed, terms_opened, terms_whole, with_term}
@@ -576,6 +576,10 @@ pub each-told : EachIsTold
 unfolding bound_expr
 each-told e scope = every-expr e scope (record { position = scope.position; alone = true })
 
+pub each-single-told : EachSingleIsTold
+unfolding bound_single
+each-single-told e scope = every-expr e scope (inside scope.position)
+
 -- What an answer says, its definition tells.
 told-answer : (d r : Outcome Typed) (code : ℕ) (place : Place) → Tells d → Answers r d → r ≡ Err (fault.Refused code place) → is_bind_code code ≡ true
 told-answer d r code place h a is =
@@ -588,4 +592,4 @@ code-told e scope spot r a code place is = told-answer (expr_bound e scope spot)
 
 pub ruleset code_laws = (code-told)
 
-pub ruleset told_laws = (each-told)
+pub ruleset told_laws = (each-told, each-single-told)

@@ -4,5 +4,6 @@ pub mod BoundSteps
 pub mod CallSteps
 pub mod CodeLaws
 pub mod ConstantSteps
+pub mod GroupForms
 pub mod OperandSteps
 pub mod StepFacts

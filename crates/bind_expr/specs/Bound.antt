@@ -276,3 +276,7 @@ args_of scope first next (a ∷ more) = args_to scope next (arg_link scope first
 -- The whole: an expression as it stands in its scope.
 unfoldable pub bound_expr : Expr → Scope → Outcome Typed
 bound_expr e scope = expr_bound e scope (record { position = scope.position; alone = true })
+
+-- An expression that is to have one column: no call with several result columns may stand in it.
+unfoldable pub bound_single : Expr → Scope → Outcome Typed
+bound_single e scope = expr_bound e scope (inside scope.position)

@@ -7,6 +7,7 @@ pub mod Comparisons
 pub mod Constants
 pub mod Counts
 pub mod Forms
+pub mod GroupForms
 pub mod KindTests
 pub mod Laws
 pub mod Literals

@@ -25,7 +25,7 @@ use Rattle.bind_expr.specs.Arguments.{aggregate_position, inner_position}
 use Rattle.bind_expr.specs.Forms.{is_column}
 use Rattle.bind_expr.specs.KindTests.{meets}
 use Rattle.bind_expr.specs.declared.scope.Scope.{Scope}
-use Rattle.bind_expr_laws.specs.Refused.{counts_badly, is_bad_count}
+use Rattle.bind_expr.specs.GroupForms.{counts_badly, is_bad_count}
 use Rattle.bind_expr_laws.specs.Scopes.{read_scope}
 use Rattle.bind_expr_laws.proofs.Standing.{counts_well}
 use Rattle.bind_expr_laws.proofs.Arguments.{HasArgs, args-parts}

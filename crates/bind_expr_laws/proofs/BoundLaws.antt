@@ -1,5 +1,5 @@
 -- Every expression that is bound, by induction over its tree.
-use Rattle.std.proofs.Common.{◌≡◌, ◌≢◌, ℕ, true, List, [], ◌∷◌, ◌++◌, map, refl, sym, ap, ◌∙◌, subst}
+use Rattle.std.proofs.Common.{◌≡◌, ◌≢◌, ℕ, true, false, List, [], ◌∷◌, ◌++◌, map, refl, sym, ap, ◌∙◌, subst}
 use Rattle.std.specs.Prelude.{Ok, Err, Option, None, Some, fold}
 use Rattle.std.proofs.lemmas.Bool.{and_parts, and_from}
 use Rattle.kql_cells.specs.declared.value.Kind.TheVariants as kind
@@ -35,7 +35,7 @@ use Rattle.kql_syntax.specs.declared.tree.ProdSign.{ProdSign}
 use Rattle.kql_syntax.specs.declared.tree.SumSign.{SumSign}
 use Rattle.kql_syntax.specs.declared.tree.Word.{Word}
 use Rattle.bind_expr.specs.Arguments.{aggregate_position, first_slot, next_slot, plain_arg, window_first, window_next}
-use Rattle.bind_expr.specs.Bound.{Binds, Look, Named, Takes, access_read, access_step, and_bound, and_step, arg_bound, arg_step, args_taken, bound_expr, cmp_bound, cmp_step, entry_key, expr_bound, expr_step, found_call, inside, negated, operand_link, path_from, post_bound, post_of, post_step, prod_bound, prod_sign, prod_step, sign_bound, sign_step, sum_bound, sum_sign, sum_step, term_read, term_step}
+use Rattle.bind_expr.specs.Bound.{Binds, Look, Named, Takes, access_read, access_step, and_bound, and_step, arg_bound, arg_step, args_taken, bound_expr, bound_single, cmp_bound, cmp_step, entry_key, expr_bound, expr_step, found_call, inside, negated, operand_link, path_from, post_bound, post_of, post_step, prod_bound, prod_sign, prod_step, sign_bound, sign_step, sum_bound, sum_sign, sum_step, term_read, term_step}
 use Rattle.bind_expr.specs.Comparisons.{bounded, compared, in_node, listed}
 use Rattle.bind_expr.specs.Constants.{is_constant}
 use Rattle.bind_expr.specs.Names.{name_bound}
@@ -43,7 +43,7 @@ use Rattle.bind_expr.specs.Outcome.{Outcome, ◌>>=◌}
 use Rattle.bind_expr.specs.Paths.{step_bound, step_named}
 use Rattle.bind_expr.specs.declared.scope.Scope.{Scope}
 use Rattle.bind_expr.specs.declared.typed.Typed.{Typed}
-use Rattle.bind_expr_laws.specs.Laws.{BoundIsSound, IsSound, NameIsSound}
+use Rattle.bind_expr_laws.specs.Laws.{BoundIsSound, IsSound, NameIsSound, SingleIsSound}
 use Rattle.bind_expr_laws.specs.Scopes.{IsSoundScope, read_scope}
 use Rattle.bind_expr_laws.proofs.Aggregates.{aggregate-bound}
 use Rattle.bind_expr_laws.proofs.Arguments.{HasArgs, IsArg, aggregate-slots, args-taken, scalar-slots, window-slots}
@@ -54,7 +54,7 @@ use Rattle.bind_expr.proofs.ConstantSteps.{constant-Aggregate}
 use Rattle.bind_expr_laws.proofs.Constants.{constant-given, constant-is, every-free, literal-part, value-literal}
 use Rattle.bind_expr_laws.proofs.Logic.{and-joins, or-joins, terms-bound}
 use Rattle.bind_expr_laws.proofs.Outcomes.{Each, Gives, gives-fold, gives-map, gives-then, given}
-use Rattle.bind_expr_laws.proofs.Parts.{AreOperands, IsBound, IsPart, part-bound}
+use Rattle.bind_expr_laws.proofs.Parts.{AreOperands, IsBound, IsPart, fits-whole, part-bound}
 use Rattle.bind_expr_laws.proofs.Paths.{path-bound}
 use Rattle.bind_expr_laws.proofs.Shapes.{Spot}
 use Rattle.bind_expr_laws.proofs.Standing.{stands}
@@ -437,9 +437,21 @@ bound-sound e scope t sound is =
     let spot : Spot = record { position = scope.position; alone = true } in
     whole-sound scope t sound (given (IsBound scope spot) (expr_bound e scope spot) t (every-expr e scope sound spot) is)
 
+pub single-sound : SingleIsSound
+unfolding bound_single
+single-sound e scope t sound is =
+    let spot : Spot = record { position = scope.position; alone = false } in
+    let b : IsBound scope spot t = given (IsBound scope spot) (expr_bound e scope spot) t (every-expr e scope sound spot) is in
+    record {
+      sound = whole-sound scope t sound (record { kind = b.kind; fits = λ s. fits-whole t.expr (read_scope scope) scope.position (b.fits s) });
+      group = λ e columns counts.
+          let there : IsBound scope (record { position = position.Group; alone = false }) t = subst (λ (q : Position). IsBound scope (record { position = q; alone = false }) t) e b in
+          there.fits ((every-free t.expr).grouped columns counts);
+    }
+
 pub name-sound : NameIsSound
 name-sound n scope t sound is =
     let spot : Spot = record { position = scope.position; alone = true } in
     whole-sound scope t sound (given (IsBound scope spot) (name_bound n scope) t (name-bound scope spot n sound) is)
 
-pub ruleset bound_laws = (bound-sound, name-sound)
+pub ruleset bound_laws = (bound-sound, single-sound, name-sound)

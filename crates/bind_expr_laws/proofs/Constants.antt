@@ -38,9 +38,9 @@ use Rattle.bind_expr.specs.declared.scope.Scope.{Scope}
 use Rattle.bind_expr.specs.declared.typed.Typed.{Typed}
 use Rattle.bind_expr_laws.proofs.Standing.{counts_well, stands}
 use Rattle.bind_expr_laws.specs.Scopes.{read_scope}
-use Rattle.bind_expr_laws.specs.Refused.{has_bad_count, has_bare_column}
+use Rattle.bind_expr.specs.GroupForms.{has_bad_count, has_bare_column}
 use Rattle.bind_expr_laws.proofs.Parts.{IsPart}
-use Rattle.bind_expr_laws.proofs.RefusedSteps.{bad-Aggregate, bad-Call, bad-Chain, bad-Path, bare-Call, bare-Chain, bare-Column, bare-Path, bare-Step}
+use Rattle.bind_expr.proofs.GroupForms.{bare-Call, bare-Chain, bare-Column, bare-Path, bare-Step, count-Aggregate, count-Call, count-Chain, count-Path}
 use Rattle.bind_expr_laws.proofs.StandingSteps.{stands-Aggregate, stands-Call, stands-Chain, stands-Column, stands-Literal, stands-Path, stands-Step, stands-Window}
 use Rattle.bind_expr_laws.proofs.Facts.{if-some, never}
 
@@ -153,7 +153,7 @@ of-layer (BExpr-F.Call f args) = subst IsFree (sym (V.rolls-Call f (map bare arg
         standing = λ at. stands-Call at f (map bare args) ∙ steady-stand (map bare args) at h;
         value = λ t u i j r s. val-Call f (map bare args) t i r ∙ (ap (applied f) (steady-values (map bare args) h t u i j r s) ∙ sym (val-Call f (map bare args) u j s));
       };
-  grouped = λ a b. stands-Call position.Group f (map bare args) ∙ all-grouped args (sym (bare-Call f (map bare args)) ∙ a) (sym (bad-Call f (map bare args)) ∙ b);
+  grouped = λ a b. stands-Call position.Group f (map bare args) ∙ all-grouped args (sym (bare-Call f (map bare args)) ∙ a) (sym (count-Call f (map bare args)) ∙ b);
 })
 of-layer (BExpr-F.Chain first links) = subst IsFree (sym (V.rolls-Chain first.0 (map bare_link links))) (record {
   in_columns = λ at e. stands-Chain at first.0 (map bare_link links) ∙ and_from _ _ (first.1.in_columns at e) (links-open links at e);
@@ -167,7 +167,7 @@ of-layer (BExpr-F.Chain first links) = subst IsFree (sym (V.rolls-Chain first.0 
       };
   grouped = λ a b.
       let columns = or_parts _ _ (sym (bare-Chain first.0 (map bare_link links)) ∙ a) in
-      let counts = or_parts _ _ (sym (bad-Chain first.0 (map bare_link links)) ∙ b) in
+      let counts = or_parts _ _ (sym (count-Chain first.0 (map bare_link links)) ∙ b) in
       stands-Chain position.Group first.0 (map bare_link links) ∙ and_from _ _ (first.1.grouped columns.0 counts.0) (links-grouped links columns.1 counts.1);
 })
 of-layer (BExpr-F.Path whole steps) = subst IsFree (sym (V.rolls-Path whole.0 (map bare steps))) (record {
@@ -182,7 +182,7 @@ of-layer (BExpr-F.Path whole steps) = subst IsFree (sym (V.rolls-Path whole.0 (m
       };
   grouped = λ a b.
       let columns = or_parts _ _ (sym (bare-Path whole.0 (map bare steps)) ∙ a) in
-      let counts = or_parts _ _ (sym (bad-Path whole.0 (map bare steps)) ∙ b) in
+      let counts = or_parts _ _ (sym (count-Path whole.0 (map bare steps)) ∙ b) in
       stands-Path position.Group whole.0 (map bare steps) ∙ and_from _ _ (whole.1.grouped columns.0 counts.0) (all-grouped steps columns.1 counts.1);
 })
 of-layer (BExpr-F.Window f args) = subst IsFree (sym (V.rolls-Window f (map bare args))) (record {
@@ -193,7 +193,7 @@ of-layer (BExpr-F.Window f args) = subst IsFree (sym (V.rolls-Window f (map bare
 of-layer (BExpr-F.Aggregate f args) = subst IsFree (sym (V.rolls-Aggregate f (map bare args))) (record {
   in_columns = λ at e. stands-Aggregate at f (map bare args) ∙ counts-open at f (map bare args) e;
   steady = λ c. never (is_constant (V.Aggregate f (map bare args))) (constant-Aggregate f (map bare args)) c;
-  grouped = λ a b. stands-Aggregate position.Group f (map bare args) ∙ ap not (sym (bad-Aggregate f (map bare args)) ∙ b);
+  grouped = λ a b. stands-Aggregate position.Group f (map bare args) ∙ ap not (sym (count-Aggregate f (map bare args)) ∙ b);
 })
 
 pub every-free : (e : BExpr) → IsFree e

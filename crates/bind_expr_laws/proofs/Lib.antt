@@ -12,7 +12,6 @@ pub mod Parts
 pub mod Paths
 pub mod PlaceLaws
 pub mod PlaceSteps
-pub mod RefusedSteps
 pub mod Shapes
 pub mod Standing
 pub mod StandingSteps

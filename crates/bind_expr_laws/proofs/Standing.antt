@@ -8,7 +8,7 @@ use Rattle.kql_bound.specs.declared.expr.ChainSign.{ChainSign}
 use Rattle.kql_meaning.specs.FittingExpressions.{takes_columns}
 use Rattle.kql_meaning.specs.declared.position.Position.{Position}
 use Rattle.kql_meaning.specs.declared.position.Position.TheVariants as position
-use Rattle.bind_expr_laws.specs.Refused.{counts_badly}
+use Rattle.bind_expr.specs.GroupForms.{counts_badly}
 
 -- Whether a call of an aggregate in a position counts rightly: lists and sets stand in `Group` alone.
 abbrev pub counts_well : Position → Aggregate → List BExpr → Bool

@@ -7,12 +7,12 @@ use Rattle.kql_meaning.specs.Expressions.{kind_of}
 use Rattle.kql_meaning.specs.FittingExpressions.{call_or_expr_fits, expr_fits, is_aggregate_call, takes_columns}
 use Rattle.kql_meaning.specs.Literals.{literal_fits}
 use Rattle.kql_meaning.specs.declared.position.Position.TheVariants as position
-use Rattle.bind_expr.specs.Bound.{bound_expr}
+use Rattle.bind_expr.specs.Bound.{bound_expr, bound_single}
 use Rattle.bind_expr.specs.Constants.{constant_of}
+use Rattle.bind_expr.specs.GroupForms.{has_bad_count, has_bare_column}
 use Rattle.bind_expr.specs.Names.{name_bound}
 use Rattle.bind_expr.specs.declared.scope.Scope.{Scope}
 use Rattle.bind_expr.specs.declared.typed.Typed.{Typed}
-use Rattle.bind_expr_laws.specs.Refused.{has_bad_count, has_bare_column}
 use Rattle.bind_expr_laws.specs.Scopes.{IsSoundScope, read_scope}
 
 -- It has its type over the scope's columns. It fits where columns may stand. As an item of `summarize` it fits, perhaps with several result
@@ -27,6 +27,14 @@ pub record IsSound (scope : Scope) (t : Typed) : Type 0 where
 
 abbrev pub BoundIsSound : Type 0
 BoundIsSound = (e : Expr) (scope : Scope) (t : Typed) → IsSoundScope scope → bound_expr e scope ≡ Ok t → IsSound scope t
+
+-- One that is to have one column is sound too, and fits as an item of `summarize` with one column, but for what `summarize` refuses then.
+pub record IsSoundSingle (scope : Scope) (t : Typed) : Type 0 where
+  pub sound : IsSound scope t
+  pub group : scope.position ≡ position.Group → has_bare_column t.expr ≡ false → has_bad_count t.expr ≡ false → expr_fits t.expr (read_scope scope) position.Group ≡ true
+
+abbrev pub SingleIsSound : Type 0
+SingleIsSound = (e : Expr) (scope : Scope) (t : Typed) → IsSoundScope scope → bound_single e scope ≡ Ok t → IsSoundSingle scope t
 
 -- The same of a name alone.
 abbrev pub NameIsSound : Type 0

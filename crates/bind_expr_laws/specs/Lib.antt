@@ -1,4 +1,3 @@
 pub mod Laws
 pub mod Places
-pub mod Refused
 pub mod Scopes

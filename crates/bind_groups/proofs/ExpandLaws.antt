@@ -19,12 +19,12 @@ use Rattle.bind_expr.proofs.AnswerFacts.{answers-along, goes_on, goes_under}
 use Rattle.bind_operators.specs.Faults.{unless}
 use Rattle.bind_operators.specs.Items.{given_name, names_or_own, one_name, twice}
 use Rattle.bind_operators.specs.Places.{item_start}
-use Rattle.bind_operators.proofs.NameLaws.{apart, different}
+use Rattle.bind_operators.proofs.NameLaws.{apart, different, pairwise-of}
 use Rattle.bind_groups.specs.MvExpand.{expand_faults, expand_link, expand_part_bound, expands_bound, no_expands, with_expand}
 use Rattle.bind_groups.specs.Names.{singles}
 use Rattle.bind_groups.specs.declared.part.ExpandPart.{ExpandPart}
 use Rattle.bind_groups.specs.declared.part.NamedExpands.{NamedExpands}
-use Rattle.bind_groups.proofs.NameSteps.{apart-of, not-among, pairwise-of, written-once}
+use Rattle.bind_groups.proofs.NameSteps.{apart-of, not-among, written-once}
 
 -- Items from left to right.
 
@@ -49,7 +49,7 @@ pub ruleset turn_steps = (expands-start, expands-turn)
 abbrev is_even : NamedExpands → Type 0
 is_even d = length d.places ≡ length d.items
 
-one-more : {X Y : Type 0} (xs : List X) (x : X) (ys : List Y) (y : Y) → length xs ≡ length ys → length (xs ++ x ∷ []) ≡ length (ys ++ y ∷ [])
+pub one-more : {X Y : Type 0} (xs : List X) (x : X) (ys : List Y) (y : Y) → length xs ≡ length ys → length (xs ++ x ∷ []) ≡ length (ys ++ y ∷ [])
 one-more xs x ys y e = length-append xs (x ∷ []) ∙ (ap (λ n. n + 1) e ∙ sym (length-append ys (y ∷ [])))
 
 link-even : (before : Outcome NamedExpands) (item : Item) (next : Outcome ExpandPart) → IfOk before is_even → IfOk (expand_link before item next) is_even

@@ -17,7 +17,7 @@ use Rattle.bind_operators.specs.Faults.{fault_if, unless}
 use Rattle.bind_operators.specs.Items.{given_name, item_link, items_from, names_or_own, no_items, with_item}
 use Rattle.bind_operators.specs.Known.{scope_at}
 use Rattle.bind_operators.specs.Places.{item_start}
-use Rattle.bind_operators.proofs.NameLaws.{is_even}
+use Rattle.bind_operators.proofs.NameLaws.{from-even}
 use Rattle.bind_groups.specs.Summarize.{column_alone, group_item, group_items_bound, group_key, group_keys_bound, group_scope}
 
 -- The column that a key is.
@@ -34,45 +34,7 @@ alone-refused r d code place names is a e =
 
 pub ruleset alone_steps = (alone-bound, alone-refused)
 
--- The first of two faults.
-
-pub first-told : {X : Type 0} (b : Bool) (code : ℕ) (place : Place) (more : List BindFault) (x : X) → b ≡ true → Answers (Err (fault.Refused code place)) (unless (fault_if b code place ++ more) x)
-unfolding unless fault_if
-first-told b code place more x is = rw is (record { holds = refl })
-
-pub second-told : {X : Type 0} (a b : Bool) (code other : ℕ) (place there : Place) (x : X) → a ≡ false → b ≡ true → Answers (Err (fault.Refused other there)) (unless (fault_if a code place ++ fault_if b other there) x)
-unfolding unless fault_if
-second-told a b code other place there x is has = rw is (rw has (record { holds = refl }))
-
-pub none-of-two : {X : Type 0} (a b : Bool) (code other : ℕ) (place there : Place) (x : X) → a ≡ false → b ≡ false → Answers (Ok x) (unless (fault_if a code place ++ fault_if b other there) x)
-unfolding unless fault_if
-none-of-two a b code other place there x is has = rw is (rw has (record { holds = refl }))
-
-pub ruleset form_steps = (first-told, second-told, none-of-two)
-
 -- Each item has its place.
-
-pub one-more : {X Y : Type 0} (xs : List X) (x : X) (ys : List Y) (y : Y) → length xs ≡ length ys → length (xs ++ x ∷ []) ≡ length (ys ++ y ∷ [])
-one-more xs x ys y e = length-append xs (x ∷ []) ∙ (ap (λ n. n + 1) e ∙ sym (length-append ys (y ∷ [])))
-
-link-even : (before : Outcome NamedItems) (item : Item) (next : Outcome Typed) → IfOk before is_even → IfOk (item_link before item next) is_even
-unfolding with_item
-link-even (Ok d) item (Ok t) h = one-more d.places (item_start item) d.items (record { names = names_or_own d.next (given_name item) t.expr; expr = t.expr }) h
-link-even (Ok d) item (Err f) h = tt
-link-even (Err f) item next h = tt
-
-links-even : (bind : Item → Outcome Typed) (items : List Item) (start : Outcome NamedItems) → IfOk start is_even → IfOk (fold (λ before item. item_link before item (bind item)) start items) is_even
-links-even bind [] start h = h
-links-even bind (item ∷ items) start h = links-even bind items (item_link start item (bind item)) (link-even start item (bind item) h)
-
-even-of : (o : Outcome NamedItems) (d : NamedItems) → o ≡ Ok d → IfOk o is_even → is_even d
-even-of o d is h = rw is at h
-
-from-even : (bind : Item → Outcome Typed) (n : ℕ) (items : List Item) (r : Outcome NamedItems) (done : NamedItems) → r ≡ Ok done → Answers r (items_from bind n items) → is_even done
-unfolding items_from no_items
-from-even bind n items r done is a =
-    let there : Answers (Ok done) (items_from bind n items) = subst (λ s. Answers s (items_from bind n items)) is a in
-    even-of (items_from bind n items) done (there.holds) (links-even bind items (Ok (no_items n)) refl)
 
 pub items-even : (operator : Place) (known : Known) (rows : Shape) (items keys : List Item) (r : Outcome NamedItems) (done : NamedItems) → r ≡ Ok done → Answers r (group_items_bound operator known rows items keys) → length done.places ≡ length done.items
 unfolding group_items_bound

@@ -1,6 +1,5 @@
 pub mod EachLaws
 pub mod ExpandLaws
-pub mod FormSteps
 pub mod GroupNames
 pub mod GroupSteps
 pub mod NameSteps

@@ -18,7 +18,7 @@ use Rattle.bind_expr.specs.declared.fault.BindFault.{BindFault}
 use Rattle.bind_operators.specs.Faults.{fault_if, unless}
 use Rattle.bind_operators.specs.Items.{clash, names_twice, twice}
 use Rattle.bind_operators.specs.Places.{name_place}
-use Rattle.bind_operators.proofs.NameLaws.{apart}
+use Rattle.bind_operators.proofs.NameLaws.{among, apart, first-none, true-and-false}
 use Rattle.bind_groups.specs.Names.{singles, with_written, written}
 use Rattle.bind_groups.specs.declared.written_names.WrittenNames.{WrittenNames}
 
@@ -56,19 +56,6 @@ pub ruleset single_steps = (clash-one)
 
 pub ruleset written_steps = (written-answers)
 
-first-none : (b : Bool) (code : ℕ) (place : Place) (more : List BindFault) → fault_if b code place ++ more ≡ [] → (b ≡ false) × (more ≡ [])
-unfolding fault_if
-first-none true code place more e = cc
-first-none false code place more e = (refl, e)
-
-true-and-false : (b : Bool) → b ≡ true → b ≡ false → ⊥
-true-and-false true e f = cc
-true-and-false false e f = cc
-
-pub among : (names : List (List ℕ)) (n : List ℕ) → Member n names → is_name_among names n ≡ true
-unfolding is_name_among
-among names n m = any-at (λ k. bytes_eq k n) names n m ((bytes_eq-Decides n n).1 refl)
-
 pub not-among : (names : List (List ℕ)) (n : List ℕ) → is_name_among names n ≡ false → Member n names → ⊥
 not-among names n e m = true-and-false (is_name_among names n) (among names n m) e
 
@@ -94,11 +81,6 @@ pub apart-of : {X : Type 0} (name : X → List ℕ) (xs : List X) → Pairwise a
 apart-of name [] h = tt
 apart-of name (x ∷ xs) h =
     (every-of-members (λ y. name x ≢ name y) xs (λ y m. of-member (apart (name x)) (map name xs) (name y) h.0 (member-map name xs y m)), apart-of name xs h.1)
-
-pub pairwise-of : {X : Type 0} (R : X → X → Type 0) (xs : List X) → AllPairs R xs → Pairwise R xs
-pairwise-of R [] h = tt
-pairwise-of R (x ∷ xs) h =
-    (every-from (R x) xs (λ k d lt. h 0 (suc k) d (omega arith) (omega arith)), pairwise-of R xs (λ i j d lt in_range. h (suc i) (suc j) d (omega arith) (omega arith)))
 
 -- Names that a query gives, of which none is told.
 pub names-once : (before : List (List ℕ)) (names : List Name) → names_twice before names ≡ [] → Pairwise apart (map text_of names) × ((n : List ℕ) → Member n (map text_of names) → Member n before → ⊥)

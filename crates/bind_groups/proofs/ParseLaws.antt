@@ -23,10 +23,10 @@ use Rattle.bind_expr.specs.declared.typed.Typed.{Typed}
 use Rattle.bind_operators.specs.Faults.{each_bound}
 use Rattle.bind_operators.specs.Items.{names_twice}
 use Rattle.bind_operators.specs.Wanted.{kind_or}
-use Rattle.bind_operators.proofs.NameLaws.{apart, different}
+use Rattle.bind_operators.proofs.NameLaws.{apart, different, pairwise-of}
 use Rattle.bind_groups.specs.Parse.{column_of_type, parse_plan, pat_bound, pattern_names}
 use Rattle.bind_groups.proofs.EachLaws.{each-answers}
-use Rattle.bind_groups.proofs.NameSteps.{apart-of, names-once, not-among, pairwise-of}
+use Rattle.bind_groups.proofs.NameSteps.{apart-of, names-once, not-among}
 
 -- A pattern's columns keep their names.
 

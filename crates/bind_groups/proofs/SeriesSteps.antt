@@ -26,14 +26,13 @@ use Rattle.bind_operators.specs.Answers.{answer, made, width_faults}
 use Rattle.bind_operators.specs.Faults.{unless}
 use Rattle.bind_operators.specs.Places.{name_place}
 use Rattle.bind_operators.specs.Wanted.{constant_bound}
-use Rattle.bind_operators.proofs.AnswerSteps.{none-told}
+use Rattle.bind_operators.proofs.AnswerSteps.{behind-fault, none-told}
 use Rattle.bind_groups.specs.declared.part.Axis.{Axis}
 use Rattle.bind_groups.specs.declared.part.NamedSeries.{NamedSeries}
 use Rattle.bind_groups.specs.declared.part.SeriesPart.{SeriesPart}
 use Rattle.bind_groups.specs.MakeSeries.{axis_bound, axis_over, bin_faults, bins_bound, make_series_bound, no_series, plan_over, series_answer, series_bound, series_link, series_part_bound, series_twice, with_series}
 use Rattle.bind_groups.specs.Summarize.{group_keys_bound}
-use Rattle.bind_groups.proofs.GroupSteps.{one-more}
-use Rattle.bind_groups.proofs.TwiceLaws.{of-front}
+use Rattle.bind_groups.proofs.ExpandLaws.{one-more}
 
 -- Items from left to right.
 
@@ -127,6 +126,6 @@ twice-told fs operator rows plan r f is a =
     let bins : List BindFault = bin_faults operator rows plan in
     let wide : List BindFault = width_faults operator columns in
     subst (λ l. Answers (Err f) (unless l (made (op.MakeSeries plan) columns false))) (sym (append_assoc fs bins wide))
-    (of-front fs (bins ++ wide) (made (op.MakeSeries plan) columns false) r f is a)
+    (behind-fault fs (bins ++ wide) (made (op.MakeSeries plan) columns false) r f is a)
 
 pub ruleset told_steps = (twice-none, twice-told, none-told)

@@ -14,7 +14,7 @@ use Rattle.bind_operators.specs.declared.items.NamedItems.{NamedItems}
 use Rattle.bind_operators.specs.Faults.{fault_if, unless}
 use Rattle.bind_operators.specs.Items.{clash, column_as, names_of_items, names_twice, twice, twice_items}
 use Rattle.bind_operators.specs.Places.{name_place}
-use Rattle.bind_operators.proofs.AnswerSteps.{none-told, told}
+use Rattle.bind_operators.proofs.AnswerSteps.{behind-fault, behind-none, told}
 
 -- One fault, told or not.
 
@@ -24,38 +24,12 @@ nothing-told b code place x is = rw is (record { holds = refl })
 
 pub ruleset fault_steps = (told, nothing-told)
 
--- Faults before others.
-
-front-told : {X : Type 0} (fs gs : List BindFault) (x : X) (f : BindFault) → unless {X = Unit {0}} fs tt ≡ Err f → unless (fs ++ gs) x ≡ Err f
-unfolding unless
-front-told [] gs x f e = cc
-front-told (g ∷ fs) gs x f e = cc
-
-pub past-front : {X : Type 0} (fs gs : List BindFault) (x : X) (r : Outcome (Unit {0})) (result : Outcome X) → r ≡ Ok tt → Answers r (unless fs tt) → Answers result (unless gs x) → Answers result (unless (fs ++ gs) x)
-past-front fs gs x r result is a h = subst (λ l. Answers result (unless (l ++ gs) x)) (sym (none-told fs r is a)) h
-
-pub of-front : {X : Type 0} (fs gs : List BindFault) (x : X) (r : Outcome (Unit {0})) (f : BindFault) → r ≡ Err f → Answers r (unless fs tt) → Answers (Err f) (unless (fs ++ gs) x)
-of-front fs gs x r (fault.Refused code place) is a =
-    let there : Answers (Err (fault.Refused code place)) (unless fs tt) = subst (λ s. Answers s (unless fs tt)) is a in
-    record { holds = front-told fs gs x (fault.Refused code place) (there.holds) }
-of-front fs gs x r fault.OutOfMemory is a = record { holds = tt }
-
-pub ruleset front_steps = (past-front, of-front)
-
 -- Names as items.
 
 pub names-alone : {X : Type 0} (name : X → List ℕ) (xs : List X) → names_of_items (map (λ x. column_as (name x) (name x)) xs) ≡ map (λ x. name x ∷ []) xs
 unfolding column_as
 names-alone name [] = refl
 names-alone name (x ∷ xs) = ap (λ (rest : List (List (List ℕ))). (name x ∷ []) ∷ rest) (names-alone name xs)
-
-pub names-told : (names : List Name) (before : List (List ℕ)) (places : List Place) (items : List BItem) (result : Outcome (Unit {0})) → before ≡ [] → places ≡ map name_place names → items ≡ map (λ n. column_as (text_of n) (text_of n)) names → Answers result (unless (twice before places (names_of_items items)) tt) → Answers result (unless (names_twice [] names) tt)
-unfolding names_twice
-names-told names before places items result b p i h =
-    let one : Answers result (unless (twice [] (map name_place names) (names_of_items (map (λ n. column_as (text_of n) (text_of n)) names))) tt) = rw (← b, ← p, ← i) h in
-    subst (λ ns. Answers result (unless (twice [] (map name_place names) ns) tt)) (names-alone text_of names) one
-
-pub ruleset names_steps = (names-told)
 
 -- Items behind others.
 
@@ -77,13 +51,13 @@ beside-none first then names r result l is a same h =
     let front : List BindFault = twice [] first.places (names_of_items first.items) in
     let behind : List BindFault = twice (items_names first.items) then.places (names_of_items then.items) in
     let told : Answers result (unless behind tt) = subst (λ ns. Answers result (unless (twice ns then.places (names_of_items then.items)) tt)) same h in
-    subst (λ fs. Answers result (unless fs tt)) (sym (beside-more [] first.places then.places first.items (names_of_items then.items) l)) (past-front front behind tt r result is a told)
+    subst (λ fs. Answers result (unless fs tt)) (sym (beside-more [] first.places then.places first.items (names_of_items then.items) l)) (behind-none front behind tt r result is a told)
 
 pub beside-told : (first then : NamedItems) (r : Outcome (Unit {0})) (f : BindFault) → length first.places ≡ length first.items → r ≡ Err f → Answers r (unless (twice_items first) tt) → Answers (Err f) (unless {X = Unit {0}} (twice [] (first.places ++ then.places) (names_of_items first.items ++ names_of_items then.items)) tt)
 unfolding twice_items
 beside-told first then r f l is a =
     let front : List BindFault = twice [] first.places (names_of_items first.items) in
     let behind : List BindFault = twice (items_names first.items) then.places (names_of_items then.items) in
-    subst (λ fs. Answers (Err f) (unless fs tt)) (sym (beside-more [] first.places then.places first.items (names_of_items then.items) l)) (of-front front behind tt r f is a)
+    subst (λ fs. Answers (Err f) (unless fs tt)) (sym (beside-more [] first.places then.places first.items (names_of_items then.items) l)) (behind-fault front behind tt r f is a)
 
 pub ruleset beside_steps = (beside-none, beside-told)

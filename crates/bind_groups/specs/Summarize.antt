@@ -1,20 +1,14 @@
 -- `summarize` in both forms, and `distinct`, which is `summarize` by its columns without items.
-use Rattle.std.specs.Prelude.{ℕ, Bool, true, false, not, ◌&&◌, ◌||◌, List, [], ◌∷◌, ◌++◌, Ok, Err, is_some, map, option_to_list}
+use Rattle.std.specs.Prelude.{ℕ, false, List, [], ◌∷◌, ◌++◌, Option, None, Some, Ok, Err, map, option_to_list}
 use Rattle.std.specs.List.{flat_map, list_any}
 use Rattle.kql_cells.specs.declared.schema.Column.{Column}
 use Rattle.kql_lexer.specs.declared.place.Place.{Place}
 use Rattle.kql_functions.specs.Kinds.{is_dynamic}
-use Rattle.kql_functions.specs.declared.aggregate.Aggregate.{Aggregate}
-use Rattle.kql_functions.specs.declared.aggregate.Aggregate.TheVariants as aggregate
-use Rattle.kql_bound.specs.declared.expr.BExpr.{BExpr, fold-BExpr, out-BExpr, para-BExpr}
-use Rattle.kql_bound.specs.declared.expr.BExpr.TheOpen.{BExpr-F}
-use Rattle.kql_bound.specs.declared.expr.ChainSign.{ChainSign}
 use Rattle.kql_bound.specs.declared.parts.BItem.{BItem}
 use Rattle.kql_bound.specs.declared.parts.GroupPlan.{GroupPlan}
 use Rattle.kql_bound.specs.declared.plan.Op.TheVariants as op
 use Rattle.kql_meaning.specs.declared.position.Position.TheVariants as position
-use Rattle.kql_meaning.specs.FittingExpressions.{column_of, is_count}
-use Rattle.kql_meaning.specs.Results.{has_one_result}
+use Rattle.kql_meaning.specs.FittingExpressions.{column_of}
 use Rattle.kql_meaning.specs.Summarize.{group_columns}
 use Rattle.kql_syntax.specs.declared.query.Distinct.{Distinct}
 use Rattle.kql_syntax.specs.declared.query.Distinct.TheVariants as distinct
@@ -22,8 +16,10 @@ use Rattle.kql_syntax.specs.declared.query.Groups.{Groups}
 use Rattle.kql_syntax.specs.declared.query.Groups.TheVariants as groups
 use Rattle.kql_syntax.specs.declared.query.Item.{Item}
 use Rattle.kql_syntax.specs.declared.query.Summarize.{Summarize}
+use Rattle.kql_syntax.specs.declared.tree.Expr.{Expr}
 use Rattle.kql_syntax.specs.declared.tree.Name.{Name}
-use Rattle.bind_expr.specs.Bound.{bound_expr}
+use Rattle.bind_expr.specs.Bound.{bound_expr, bound_single}
+use Rattle.bind_expr.specs.GroupForms.{has_bad_count, has_bare_column}
 use Rattle.bind_expr.specs.Outcome.{Outcome, ◌>>=◌}
 use Rattle.bind_expr.specs.declared.fault.BindFault.{BindFault}
 use Rattle.bind_expr.specs.declared.scope.Scope.{Scope}
@@ -37,7 +33,7 @@ use Rattle.bind_operators.specs.Answers.{answer}
 use Rattle.bind_operators.specs.Faults.{each_bound, fault_if, unless}
 use Rattle.bind_operators.specs.Items.{column_item, items_from, names_of_items, names_twice, twice}
 use Rattle.bind_operators.specs.Known.{column_wanted, scope_at}
-use Rattle.bind_operators.specs.Places.{expr_start, name_place}
+use Rattle.bind_operators.specs.Places.{name_place}
 use Rattle.bind_operators.specs.Wanted.{typed_bound}
 
 -- Keys.
@@ -66,72 +62,19 @@ grouped keys scope = record scope { keys = keys }
 unfoldable pub group_scope : Known → Shape → List Item → Scope
 group_scope known rows keys = grouped (key_columns (scope_at known rows position.Plain) keys) (scope_at known rows position.Group)
 
-abbrev pub bare_column_step : BExpr-F Bool → Bool
-bare_column_step (BExpr-F.Literal l) = false
-bare_column_step (BExpr-F.Column n) = true
-bare_column_step (BExpr-F.Step c) = true
-bare_column_step (BExpr-F.Call f args) = list_any (λ x. x) args
-bare_column_step (BExpr-F.Chain first links) = first || list_any (λ (l : ChainSign × Bool). l.1) links
-bare_column_step (BExpr-F.Path whole steps) = whole || list_any (λ x. x) steps
-bare_column_step (BExpr-F.Window f args) = list_any (λ x. x) args
-bare_column_step (BExpr-F.Aggregate f args) = false
+-- An item that is given a name has one column: a call with several result columns may not be its value.
+unfoldable pub item_value : Scope → Option Name → Expr → Outcome Typed
+item_value scope None e = bound_expr e scope
+item_value scope (Some n) e = bound_single e scope
 
--- Whether a column stands outside the arguments of an aggregate.
-unfoldable pub has_bare_column : BExpr → Bool
-has_bare_column = fold-BExpr Bool bare_column_step
-
-abbrev pub several_step : BExpr-F BExpr → Bool
-several_step (BExpr-F.Aggregate f args) = not (has_one_result f args)
-several_step _ = false
-
--- Whether an expression is a call with several result columns.
-unfoldable pub has_several_columns : BExpr → Bool
-has_several_columns e = several_step (out-BExpr e)
-
--- 403 at the operator where a column stands outside an aggregate, and at the function where several columns are given one name.
-unfoldable pub group_item_faults : Place → Item → Typed → List BindFault
-group_item_faults operator item t =
-    fault_if (has_bare_column t.expr) 403 operator
-    ++ fault_if (is_some item.name && has_several_columns t.expr) 403 (expr_start item.value)
-
+-- 403 at the operator where a column stands outside an aggregate.
 unfoldable pub group_item : Place → Scope → Item → Outcome Typed
 group_item operator scope item = do
-  t ← bound_expr item.value scope
-  unless (group_item_faults operator item t) t
+  t ← item_value scope item.name item.value
+  unless (fault_if (has_bare_column t.expr) 403 operator) t
 
 unfoldable pub group_items_bound : Place → Known → Shape → List Item → List Item → Outcome NamedItems
 group_items_bound operator known rows items keys = items_from (group_item operator (group_scope known rows keys)) 1 items
-
--- Counts of lists and sets.
-
-abbrev pub is_bad_count : List BExpr → Bool
-is_bad_count (x ∷ n ∷ []) = not (is_count n)
-is_bad_count _ = false
-
-abbrev pub counts_badly : Aggregate → List BExpr → Bool
-counts_badly aggregate.MakeList args = is_bad_count args
-counts_badly aggregate.MakeSet args = is_bad_count args
-counts_badly _ args = false
-
-abbrev pub Looked : Type 0
-Looked = BExpr × Bool
-
-abbrev pub any_looked : List Looked → Bool
-any_looked args = list_any (λ (a : Looked). a.1) args
-
-abbrev pub bad_count_step : BExpr-F Looked → Bool
-bad_count_step (BExpr-F.Literal l) = false
-bad_count_step (BExpr-F.Column n) = false
-bad_count_step (BExpr-F.Step c) = false
-bad_count_step (BExpr-F.Call f args) = any_looked args
-bad_count_step (BExpr-F.Chain first links) = first.1 || any_looked (map (λ (l : ChainSign × Looked). l.1) links)
-bad_count_step (BExpr-F.Path whole steps) = whole.1 || any_looked steps
-bad_count_step (BExpr-F.Window f args) = any_looked args
-bad_count_step (BExpr-F.Aggregate f args) = counts_badly f (map (λ (a : Looked). a.0) args)
-
--- Whether the number of elements that `make_list` or `make_set` is given is null or negative.
-unfoldable pub has_bad_count : BExpr → Bool
-has_bad_count = para-BExpr Bool bad_count_step
 
 -- The operator.
 

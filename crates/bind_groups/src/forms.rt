@@ -3,15 +3,15 @@ ghost use Rattle.std.specs.Prelude.{◌≡◌};
 ghost use Rattle.std.specs.List.{list_any};
 ghost use Rattle.kql_bound.specs.declared.expr.ChainSign.{ChainSign};
 ghost use Rattle.kql_bound.specs.declared.expr.BExpr.{BExpr};
-ghost use Rattle.bind_groups.specs.Summarize.{counts_badly, has_bad_count, has_bare_column, has_several_columns, is_bad_count};
+ghost use Rattle.bind_expr.specs.GroupForms.{counts_badly, has_bad_count, has_bare_column, is_bad_count};
 
 use kql_bound::{BExpr, Link};
-use kql_fits::{has_one_result, is_count};
+use kql_fits::is_count;
 use kql_functions::Aggregate;
 
 /// Whether a column stands outside the arguments of an aggregate.
 #[cycle(bare)]
-#[tactic(auto, using(crate::proofs::FormSteps::bare_steps))]
+#[tactic(auto, using(bind_expr::proofs::GroupForms::bare_steps))]
 pub(crate) fn has_bare_column(e: &BExpr) -> bool
     ensures bare { result ≡ has_bare_column e.now }
 {
@@ -53,23 +53,6 @@ fn any_bare_link(links: &[Link]) -> bool
     false
 }
 
-/// Whether an expression is a call with several result columns.
-#[tactic(auto, using(crate::proofs::FormSteps::several_steps))]
-pub(crate) fn has_several_columns(e: &BExpr) -> bool
-    ensures several { result ≡ has_several_columns e.now }
-{
-    match e {
-        BExpr::Literal(_) => false,
-        BExpr::Column(_) => false,
-        BExpr::Step(_) => false,
-        BExpr::Call(_, _) => false,
-        BExpr::Chain(_, _) => false,
-        BExpr::Path(_, _) => false,
-        BExpr::Window(_, _) => false,
-        BExpr::Aggregate(f, args) => !has_one_result(*f, args.as_slice()),
-    }
-}
-
 fn is_bad_count(args: &[BExpr]) -> bool
     ensures bad { result ≡ is_bad_count args.now }
 {
@@ -91,7 +74,7 @@ fn counts_badly(f: Aggregate, args: &[BExpr]) -> bool
 
 /// Whether the number of elements that `make_list` or `make_set` is given is null or negative.
 #[cycle(bad)]
-#[tactic(auto, using(crate::proofs::FormSteps::count_steps))]
+#[tactic(auto, using(bind_expr::proofs::GroupForms::count_steps))]
 pub(crate) fn has_bad_count(e: &BExpr) -> bool
     ensures bad { result ≡ has_bad_count e.now }
 {

@@ -1,27 +1,26 @@
-ghost use Rattle.std.specs.Prelude.{◌≡◌, ◌&&◌, [], IfOk, is_some, length, option_to_list};
+ghost use Rattle.std.specs.Prelude.{◌≡◌, [], IfOk, length, option_to_list};
 ghost use Rattle.std.specs.List.{list_any};
 ghost use Rattle.std.specs.Option.{option_copied};
 ghost use Rattle.bind_expr.specs.Bound.{bound_expr};
+ghost use Rattle.bind_expr.specs.GroupForms.{has_bad_count, has_bare_column};
 ghost use Rattle.bind_expr.specs.Outcome.{Answers};
 ghost use Rattle.kql_bound.specs.declared.parts.BItem.{BItem};
 ghost use Rattle.kql_meaning.specs.FittingExpressions.{column_of};
 ghost use Rattle.bind_operators.specs.Faults.{fault_if, unless};
 ghost use Rattle.bind_operators.specs.Items.{items_from};
-ghost use Rattle.bind_groups.specs.Summarize.{column_alone, group_answer, group_faults, group_item, group_item_faults, group_items_bound, group_plan, group_scope, groups_bound, has_bad_count, has_several_columns, key_columns, summarize_bound, summarized};
+ghost use Rattle.bind_groups.specs.Summarize.{column_alone, group_answer, group_faults, group_item, group_items_bound, group_plan, group_scope, groups_bound, item_value, key_columns, summarize_bound, summarized};
 
-use crate::forms::{has_bad_count, has_bare_column, has_several_columns};
+use crate::forms::{has_bad_count, has_bare_column};
 use crate::groups::{bind_group_keys, grouped};
 use crate::names::twice_beside;
-use bind_expr::{BindFault, Scope, Typed, bind_expr};
-use bind_operators::{
-    BoundOp, Known, NamedItems, Shape, expr_start, next_item, no_items, one, scope_at,
-};
+use bind_expr::{BindFault, Scope, Typed, bind_expr, bind_single};
+use bind_operators::{BoundOp, Known, NamedItems, Shape, next_item, no_items, one, scope_at};
 use kql_bound::{BExpr, BItem, GroupPlan};
 use kql_cells::{KText, Names};
 use kql_items::Items;
 use kql_lexer::Place;
 use kql_meaning::Position;
-use kql_syntax::{Groups, Item, Summarize};
+use kql_syntax::{Expr, Groups, Item, Name, Summarize};
 use std::alloc::{AllocError, Global};
 
 // Key columns.
@@ -95,30 +94,32 @@ fn group_scope(
 
 // Items.
 
-// Whether several columns are given one name.
-fn is_misnamed(item: &Item, e: &BExpr) -> bool
-    ensures misnamed { result ≡ (is_some item.now.name && has_several_columns e.now) }
+// An item's value. An item that is given a name has one column.
+#[tactic(auto, unfolding(crate::specs::Summarize::item_value))]
+fn item_value(
+    alloc: Global,
+    scope: &Scope,
+    name: &Option<Name>,
+    e: &Expr,
+) -> Result<Typed, BindFault>
+    ensures exact { Answers result (item_value scope.now name.now e.now) }
 {
-    item.name.is_some() && has_several_columns(e)
+    match name {
+        None => bind_expr(alloc, e, scope),
+        Some(_) => bind_single(alloc, e, scope),
+    }
 }
 
-// An item without faults of its form, or the first of them.
-#[tactic(auto, using(bind_expr::proofs::AnswerFacts::answer_steps, crate::proofs::GroupSteps::form_steps), unfolding(crate::specs::Summarize::group_item_faults))]
-fn formed_item(operator: Place, item: &Item, t: Typed) -> Result<Typed, BindFault>
-    ensures exact { Answers result (unless (group_item_faults operator item.now t) t) }
+// An item without columns outside of aggregates.
+#[tactic(auto, using(crate::proofs::TwiceLaws::fault_steps))]
+fn formed_item(operator: Place, t: Typed) -> Result<Typed, BindFault>
+    ensures exact { Answers result (unless (fault_if (has_bare_column t.expr) 403 operator) t) }
 {
     if has_bare_column(t.expr.get()) {
         drop(t);
         return Err(BindFault::Refused {
             code: 403,
             place: operator,
-        });
-    }
-    if is_misnamed(item, t.expr.get()) {
-        drop(t);
-        return Err(BindFault::Refused {
-            code: 403,
-            place: expr_start(&item.value),
         });
     }
     Ok(t)
@@ -133,8 +134,8 @@ fn bind_group_item(
 ) -> Result<Typed, BindFault>
     ensures exact { Answers result (group_item operator scope.now item.now) }
 {
-    match bind_expr(alloc, &item.value, scope) {
-        Ok(t) => formed_item(operator, item, t),
+    match item_value(alloc, scope, &item.name, &item.value) {
+        Ok(t) => formed_item(operator, t),
         Err(fault) => Err(fault),
     }
 }
@@ -203,7 +204,7 @@ fn count_fault(operator: Place, items: &[BItem]) -> Result<(), BindFault>
 }
 
 // The first fault of what is grouped.
-#[tactic(auto, using(crate::proofs::TwiceLaws::front_steps), unfolding(crate::specs::Summarize::group_faults))]
+#[tactic(auto, using(bind_operators::proofs::AnswerSteps::behind_steps), unfolding(crate::specs::Summarize::group_faults))]
 fn group_faults(
     alloc: Global,
     operator: Place,

@@ -189,12 +189,16 @@ names-even d place names e n h = one-more d.places place d.items (record { names
 pub of-ok : (o : Outcome NamedItems) (d : NamedItems) → o ≡ Ok d → IfOk o is_even → is_even d
 of-ok o d is h = rw is at h
 
+pub from-even : (bind : Item → Outcome Typed) (n : ℕ) (items : List Item) (r : Outcome NamedItems) (done : NamedItems) → r ≡ Ok done → Answers r (items_from bind n items) → length done.places ≡ length done.items
+unfolding items_from no_items with_item
+from-even bind n items r done is a =
+    let there : Answers (Ok done) (items_from bind n items) = subst (λ s. Answers s (items_from bind n items)) is a in
+    of-ok (items_from bind n items) done (there.holds)
+    (steps-even with_item (λ d item t h. names-even d (item_start item) (names_or_own d.next (given_name item) t.expr) t.expr (number_behind d.next (given_name item) t.expr) h) bind items (Ok (no_items n)) refl)
+
 pub items-even : (scope : Scope) (items : List Item) (r : Outcome NamedItems) (done : NamedItems) → r ≡ Ok done → Answers r (items_bound scope items) → length done.places ≡ length done.items
-unfolding items_bound items_from no_items with_item
-items-even scope items r done is a =
-    let there : Answers (Ok done) (items_bound scope items) = subst (λ s. Answers s (items_bound scope items)) is a in
-    of-ok (items_bound scope items) done (there.holds)
-    (steps-even with_item (λ d item t h. names-even d (item_start item) (names_or_own d.next (given_name item) t.expr) t.expr (number_behind d.next (given_name item) t.expr) h) (item_in scope) items (Ok (no_items 1)) refl)
+unfolding items_bound
+items-even scope items r done is a = from-even (item_in scope) 1 items r done is a
 
 -- Columns that are chosen keep their names.
 chosen-named : (cs columns : List Column) (c : Column) → Member c (items_columns (map column_item cs) columns) → Member c.name (map (λ (d : Column). d.name) cs)

@@ -30,11 +30,11 @@ use Rattle.bind_operators.specs.declared.shape.Shape.{Shape}
 use Rattle.bind_expr.proofs.AnswerFacts.{answers-along}
 use Rattle.bind_operators.specs.Places.{name_place}
 use Rattle.bind_operators.proofs.AnswerSteps.{none-told}
-use Rattle.bind_operators.proofs.NameLaws.{apart, different}
+use Rattle.bind_operators.proofs.NameLaws.{apart, different, pairwise-of}
 use Rattle.bind_groups.specs.Names.{with_written, written}
 use Rattle.bind_groups.specs.declared.written_names.WrittenNames.{WrittenNames}
 use Rattle.bind_groups.proofs.EachLaws.{each-answers}
-use Rattle.bind_groups.proofs.NameSteps.{apart-of, names-once, pairwise-of, written-more}
+use Rattle.bind_groups.proofs.NameSteps.{apart-of, names-once, written-more}
 use Rattle.bind_query.specs.Scan.{Assignment, assignment_faults, decl_bound, decl_of, declared_default, declared_names, new_names, scan_faults, scan_plan, step_faults, step_name_faults}
 
 -- The first of faults, one part after another.

@@ -37,7 +37,7 @@ use Rattle.bind_query.specs.declared.bound.BoundStatements.{BoundStatements}
 use Rattle.bind_query.specs.Bound.{known_at_first, lets_bound, next_let, no_statements}
 use Rattle.bind_query.specs.Lets.{body_bound, constant_let, constant_named, let_bound, let_faults, name_alone, name_let, named_constant, named_table, pipe_let, table_let, with_constant, with_table}
 use Rattle.bind_query.specs.Operators.{pipe_bound}
-use Rattle.bind_query_laws.specs.Patterns.{body_patterns, let_patterns, pipe_patterns}
+use Rattle.kql_parser_laws.specs.Patterns.{body_patterns, let_patterns, pipe_patterns}
 use Rattle.bind_query_laws.specs.Sound.{AreColumns, IsSoundKnown, IsSoundPlan, columns_of_let, read_known}
 use Rattle.bind_query_laws.proofs.Frame.{after-ok, bare-scope-sound, constant-sound, no-columns, ok-same, unless-ok, wanted-sound}
 use Rattle.bind_query_laws.proofs.SourceLaws.{named_sound}

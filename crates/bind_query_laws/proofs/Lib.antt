@@ -8,9 +8,15 @@ pub mod LetLaws
 pub mod ParseLaws
 pub mod PartitionLaws
 pub mod PipeLaws
+pub mod PlaceGroups
+pub mod PlaceOperators
+pub mod PlaceParts
+pub mod PlaceStarts
+pub mod PlaceTables
 pub mod ProgramLaws
 pub mod ProjectLaws
 pub mod QueryLaws
+pub mod QueryPlaceLaws
 pub mod ReadLaws
 pub mod ScanLaws
 pub mod ScanScopes

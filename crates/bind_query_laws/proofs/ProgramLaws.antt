@@ -18,7 +18,7 @@ use Rattle.bind_query.specs.Bound.{bound, known_at_first, lets_bound, program_of
 use Rattle.bind_query.specs.Operators.{pipe_bound}
 use Rattle.bind_query.specs.TablesRead.{TableNames, all_of, plan_tables, tables_read}
 use Rattle.bind_query_laws.specs.Laws.{BoundFits}
-use Rattle.bind_query_laws.specs.Patterns.{has_patterns, let_patterns, pipe_patterns}
+use Rattle.kql_parser_laws.specs.Patterns.{has_patterns, let_patterns, pipe_patterns}
 use Rattle.bind_query_laws.specs.Sound.{IsSoundPlan, columns_of_let, read_known}
 use Rattle.bind_query_laws.proofs.Frame.{after-ok, ok-same}
 use Rattle.bind_query_laws.proofs.LetLaws.{IsSoundStatements, lets_sound}

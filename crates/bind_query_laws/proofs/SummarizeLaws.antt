@@ -1,38 +1,35 @@
 -- A bound `summarize` is sound.
 use Rattle.std.proofs.Common.{◌≡◌, ℕ, Bool, true, false, List, [], ◌++◌, length, refl, ◌∙◌, subst}
-use Rattle.std.specs.Prelude.{◌&&◌, ◌||◌, ◌==◌, Ok, Option, None, Some, is_some, option_map}
+use Rattle.std.specs.Prelude.{◌||◌, Ok, Option, None, Some, is_some, option_map}
 use Rattle.std.specs.List.{list_all, list_any}
 use Rattle.std.proofs.lemmas.Bool.{and_from, eq-eqb}
 use Rattle.kql_cells.specs.declared.schema.Column.{Column}
-use Rattle.kql_cells.specs.declared.value.Kind.{Kind}
 use Rattle.kql_lexer.specs.declared.place.Place.{Place}
-use Rattle.kql_bound.specs.declared.expr.BExpr.{BExpr, out-BExpr}
-use Rattle.kql_bound.specs.declared.expr.BExpr.TheOpen.{BExpr-F}
+use Rattle.kql_bound.specs.declared.expr.BExpr.{BExpr}
 use Rattle.kql_bound.specs.declared.parts.BItem.{BItem}
 use Rattle.kql_bound.specs.declared.parts.GroupPlan.{GroupPlan}
 use Rattle.kql_bound.specs.declared.plan.Op.TheVariants as op
 use Rattle.kql_meaning.specs.declared.position.Position.TheVariants as position
-use Rattle.kql_meaning.specs.FittingExpressions.{call_or_expr_fits, scope_of}
+use Rattle.kql_meaning.specs.FittingExpressions.{call_or_expr_fits, expr_fits, scope_of}
 use Rattle.kql_meaning.specs.FittingOperators.{group_item_fits, has_its_names, key_item_fits, summarize_fits}
-use Rattle.kql_meaning.specs.Results.{has_one_result, result_kinds, result_kinds_step, typed}
+use Rattle.kql_meaning.specs.Results.{result_kinds}
 use Rattle.kql_meaning.specs.Summarize.{group_columns}
 use Rattle.kql_meaning.proofs.OperatorFitLaws.{op-Summarize}
 use Rattle.kql_syntax.specs.declared.query.Groups.{Groups}
 use Rattle.kql_syntax.specs.declared.query.Groups.TheVariants as groups
 use Rattle.kql_syntax.specs.declared.query.Item.{Item}
 use Rattle.kql_syntax.specs.declared.query.Summarize.{Summarize}
+use Rattle.kql_syntax.specs.declared.tree.Expr.{Expr}
 use Rattle.kql_syntax.specs.declared.tree.Name.{Name}
 use Rattle.item_names.specs.ItemNames.{item_names}
 use Rattle.item_names.proofs.NameSteps.{each_column_has_its_name}
-use Rattle.bind_expr.specs.Bound.{bound_expr}
+use Rattle.bind_expr.specs.GroupForms.{has_bad_count, has_bare_column}
 use Rattle.bind_expr.specs.Names.{text_of}
 use Rattle.bind_expr.specs.Outcome.{◌>>=◌}
 use Rattle.bind_expr.specs.declared.scope.Scope.{Scope}
 use Rattle.bind_expr.specs.declared.typed.Typed.{Typed}
-use Rattle.bind_expr_laws.specs.Laws.{IsSound}
-use Rattle.bind_expr_laws.specs.Refused.{has_bad_count as counts_wrong, has_bare_column as is_bare}
-use Rattle.bind_expr_laws.specs.Scopes.{IsSoundScope}
-use Rattle.bind_expr_laws.proofs.BoundLaws.{bound-sound}
+use Rattle.bind_expr_laws.specs.Scopes.{IsSoundScope, read_scope}
+use Rattle.bind_expr_laws.proofs.BoundLaws.{bound-sound, single-sound}
 use Rattle.bind_operators.specs.declared.bound.BoundOp.{BoundOp}
 use Rattle.bind_operators.specs.declared.items.NamedItems.{NamedItems}
 use Rattle.bind_operators.specs.declared.known.Known.{Known}
@@ -40,22 +37,11 @@ use Rattle.bind_operators.specs.declared.shape.Shape.{Shape}
 use Rattle.bind_operators.specs.Faults.{fault_if, unless}
 use Rattle.bind_operators.specs.Items.{given_name, names_of_items, names_or_own, twice}
 use Rattle.bind_operators.specs.Known.{scope_at}
-use Rattle.bind_operators.specs.Places.{expr_start}
-use Rattle.bind_groups.specs.Summarize.{group_faults, group_item, group_item_faults, group_items_bound, group_keys_bound, group_plan, group_scope, groups_bound, has_bad_count, has_bare_column, has_several_columns, several_step, summarize_bound, summarized}
+use Rattle.bind_groups.specs.Summarize.{group_faults, group_item, group_items_bound, group_keys_bound, group_plan, group_scope, groups_bound, item_value, summarize_bound, summarized}
 use Rattle.bind_groups.proofs.GroupNames.{grouped-once}
 use Rattle.bind_query_laws.specs.Sound.{AreColumns, IsSoundKnown, IsSoundOp, read_known}
-use Rattle.bind_query_laws.proofs.Frame.{after-ok, answer-sound, both-none, items-pass, kinds-one, no-fault, not-false, single-name, unless-ok}
+use Rattle.bind_query_laws.proofs.Frame.{after-ok, answer-sound, both-none, items-pass, no-fault, one-result, single-name, unless-ok}
 use Rattle.bind_query_laws.proofs.GroupFrame.{all-but, even-from, keys-even, keys-sound, or-else}
-
--- What binding refuses is what the law of expressions asks for.
-
-same-bare : (e : BExpr) → is_bare e ≡ has_bare_column e
-unfolding is_bare has_bare_column
-same-bare e = refl
-
-same-count : (e : BExpr) → counts_wrong e ≡ has_bad_count e
-unfolding counts_wrong has_bad_count
-same-count e = refl
 
 -- Items.
 
@@ -63,45 +49,41 @@ group-scope-sound : (known : Known) (rows : Shape) (keys : List Item) → IsSoun
 unfolding group_scope scope_at
 group-scope-sound known rows keys sound names = record { names = names; consts = sound.consts; records = tt; moment = sound.moment }
 
-several-layer : (y : BExpr-F BExpr) (one : Kind) (columns : List Column) → several_step y ≡ false → length (result_kinds_step y one columns) == 1 ≡ true
-several-layer (BExpr-F.Aggregate f args) one columns e = kinds-one f args one columns (not-false (has_one_result f args) e)
-several-layer (BExpr-F.Literal l) one columns e = refl
-several-layer (BExpr-F.Column n) one columns e = refl
-several-layer (BExpr-F.Step c) one columns e = refl
-several-layer (BExpr-F.Call f args) one columns e = refl
-several-layer (BExpr-F.Chain first links) one columns e = refl
-several-layer (BExpr-F.Path whole steps) one columns e = refl
-several-layer (BExpr-F.Window f args) one columns e = refl
+-- What an item's value is, where it is bound.
+record IsValue (scope : Scope) (name : Option Name) (t : Typed) : Type 0 where
+  columns : has_bare_column t.expr ≡ false → has_bad_count t.expr ≡ false → call_or_expr_fits t.expr (read_scope scope) position.Group ≡ true
+  one : is_some name ≡ true → has_bare_column t.expr ≡ false → has_bad_count t.expr ≡ false → expr_fits t.expr (read_scope scope) position.Group ≡ true
 
-single-result : (e : BExpr) (columns : List Column) → has_several_columns e ≡ false → length (result_kinds e columns) == 1 ≡ true
-unfolding has_several_columns result_kinds
-single-result e columns h = several-layer (out-BExpr e) (typed e columns) columns h
+value-sound : (scope : Scope) (name : Option Name) (e : Expr) (t : Typed) → IsSoundScope scope → scope.position ≡ position.Group → item_value scope name e ≡ Ok t → IsValue scope name t
+unfolding item_value
+value-sound scope None e t sound at is = record { columns = (bound-sound e scope t sound is).group at; one = λ some. absurd cc }
+value-sound scope (Some n) e t sound at is =
+    let h = single-sound e scope t sound is in
+    record { columns = h.sound.group at; one = λ some. h.group at }
 
-group-names : (o : Option Name) (k : ℕ) (e : BExpr) (columns : List Column) → is_some o && has_several_columns e ≡ false → has_its_names (record { names = names_or_own k (option_map text_of o) e; expr = e }) columns ≡ true
+group-names : (o : Option Name) (k : ℕ) (e : BExpr) (columns : List Column) → (is_some o ≡ true → expr_fits e (scope_of columns) position.Group ≡ true) → has_its_names (record { names = names_or_own k (option_map text_of o) e; expr = e }) columns ≡ true
 unfolding has_its_names names_or_own
 group-names None k e columns h = eq-eqb (length (item_names e k)) (length (result_kinds e columns)) (each_column_has_its_name e k columns)
-group-names (Some n) k e columns h = single-name (text_of n) e columns (single-result e columns h)
+group-names (Some n) k e columns h = single-name (text_of n) e columns (one-result e columns (scope_of columns) position.Group (h refl))
 
 -- An item fits, but where it counts badly.
 passes : List Column → BItem → Bool
 passes columns b = has_bad_count b.expr || group_item_fits columns b
 
 item-passes : (operator : Place) (known : Known) (rows : Shape) (keys : List Item) → IsSoundKnown known → AreColumns rows.columns → (item : Item) (t : Typed) (k : ℕ) → group_item operator (group_scope known rows keys) item ≡ Ok t → passes rows.columns (record { names = names_or_own k (given_name item) t.expr; expr = t.expr }) ≡ true
-unfolding passes group_item group_item_faults group_item_fits group_scope scope_at given_name
+unfolding passes group_item group_item_fits group_scope scope_at given_name
 item-passes operator known rows keys sound names item t k is =
     let scope : Scope = group_scope known rows keys in
-    let first = after-ok (bound_expr item.value scope) (λ (u : Typed). unless (group_item_faults operator item u) u) t is in
-    let parts = unless-ok (group_item_faults operator item first.0) first.0 t first.2 in
-    let h : IsSound scope t = subst (IsSound scope) parts.1 (bound-sound item.value scope first.0 (group-scope-sound known rows keys sound names) first.1) in
-    let none : group_item_faults operator item t ≡ [] = subst (λ (u : Typed). group_item_faults operator item u ≡ []) parts.1 parts.0 in
-    let two = both-none (fault_if (has_bare_column t.expr) 403 operator) (fault_if (is_some item.name && has_several_columns t.expr) 403 (expr_start item.value)) none in
-    let bare = no-fault (has_bare_column t.expr) 403 operator two.0 in
-    let one = no-fault (is_some item.name && has_several_columns t.expr) 403 (expr_start item.value) two.1 in
+    let first = after-ok (item_value scope item.name item.value) (λ (u : Typed). unless (fault_if (has_bare_column u.expr) 403 operator) u) t is in
+    let parts = unless-ok (fault_if (has_bare_column first.0.expr) 403 operator) first.0 t first.2 in
+    let h : IsValue scope item.name t = subst (IsValue scope item.name) parts.1 (value-sound scope item.name item.value first.0 (group-scope-sound known rows keys sound names) refl first.1) in
+    let none : fault_if (has_bare_column t.expr) 403 operator ≡ [] = subst (λ (u : Typed). fault_if (has_bare_column u.expr) 403 operator ≡ []) parts.1 parts.0 in
+    let bare = no-fault (has_bare_column t.expr) 403 operator none in
     let b : BItem = record { names = names_or_own k (given_name item) t.expr; expr = t.expr } in
     or-else (has_bad_count t.expr) (group_item_fits rows.columns b)
     (λ fine. and_from (call_or_expr_fits t.expr (scope_of rows.columns) position.Group) (has_its_names b rows.columns)
-    (h.group refl (same-bare t.expr ∙ bare) (same-count t.expr ∙ fine))
-    (group-names item.name k t.expr rows.columns one))
+    (h.columns bare fine)
+    (group-names item.name k t.expr rows.columns (λ some. h.one some bare fine)))
 
 group-items-sound : (operator : Place) (known : Known) (rows : Shape) (items keys : List Item) (done : NamedItems) → IsSoundKnown known → AreColumns rows.columns → group_items_bound operator known rows items keys ≡ Ok done → list_any (λ (b : BItem). has_bad_count b.expr) done.items ≡ false → list_all (group_item_fits rows.columns) done.items ≡ true
 unfolding group_items_bound passes

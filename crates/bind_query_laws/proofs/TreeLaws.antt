@@ -1,5 +1,5 @@
 -- Every operator and every pipe of a query is bound to what is sound: by induction over the syntax tree.
-use Rattle.std.proofs.Common.{◌≡◌, List, [], ◌∷◌, sym, ◌∙◌, subst, map}
+use Rattle.std.proofs.Common.{◌≡◌, List, [], ◌∷◌, refl, sym, ◌∙◌, subst, map}
 use Rattle.std.specs.Prelude.{Bool, true, false, Option}
 use Rattle.std.specs.List.{AllByRecursion}
 use Rattle.std.proofs.lemmas.Bool.{and_parts}
@@ -43,7 +43,7 @@ use Rattle.bind_query.specs.Partition.{partition_bound}
 use Rattle.bind_query.specs.Pipes.{BindsArg, BindsOp, BindsPlan, UnionParts}
 use Rattle.bind_query.specs.Scan.{scan_bound}
 use Rattle.bind_query.specs.Union.{union_bound, union_source_bound}
-use Rattle.bind_query_laws.specs.Patterns.{all_have, arg_patterns, arg_patterns_step, has_pattern, join_patterns, join_patterns_step, op_patterns, op_patterns_step, partition_patterns, partition_patterns_step, pipe_patterns, pipe_patterns_step, source_patterns, source_patterns_step, table_op_patterns, table_op_patterns_step, union_patterns, union_patterns_step}
+use Rattle.kql_parser_laws.specs.Patterns.{all_have, arg_patterns, arg_patterns_step, has_items, has_pattern, join_patterns, join_patterns_step, op_patterns, op_patterns_step, partition_patterns, partition_patterns_step, pipe_patterns, pipe_patterns_step, source_patterns, source_patterns_step, table_op_patterns, table_op_patterns_step, union_patterns, union_patterns_step}
 use Rattle.bind_query_laws.proofs.Frame.{not-true}
 use Rattle.bind_query_laws.proofs.ExtendLaws.{extend_sound, serialize_sound}
 use Rattle.bind_query_laws.proofs.PipeLaws.{SoundOp, SoundPlan, piped_sound}
@@ -88,12 +88,17 @@ row-op others (row.Order operator keys) known inside rows b sound names is = sor
 row-op others (row.Top operator t) known inside rows b sound names is = top_sound operator t.0 t.1 known rows b sound names is inside
 row-op others (row.Distinct operator d) known inside rows b sound names is = others.distinct operator d known inside rows b sound names is
 
+not-empty : (pattern : List Pat) → has_items pattern ≡ true → is_empty pattern ≡ false
+unfolding is_empty
+not-empty [] some = absurd cc
+not-empty (p ∷ ps) some = refl
+
 group-op : SoundOthers → (o : GroupOp) → has_pattern o ≡ true → SoundOp (λ known inside rows. group_op_bound o known rows)
 unfolding group_op_bound
 group-op others (group.Summarize operator s) some known inside rows b sound names is = others.summarize operator s known inside rows b sound names is
 group-op others (group.MakeSeries operator s) some known inside rows b sound names is = others.make_series operator s known inside rows b sound names is
 group-op others (group.MvExpand operator form items) some known inside rows b sound names is = others.mv_expand operator form items known inside rows b sound names is
-group-op others (group.Parse operator form e pattern) some known inside rows b sound names is = others.parse operator form e pattern (not-true (is_empty pattern) some) known inside rows b sound names is
+group-op others (group.Parse operator form e pattern) some known inside rows b sound names is = others.parse operator form e pattern (not-empty pattern some) known inside rows b sound names is
 
 -- What is said of each type of the tree.
 

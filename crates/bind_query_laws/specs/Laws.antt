@@ -6,7 +6,7 @@ use Rattle.kql_bound.specs.declared.plan.Program.{Program}
 use Rattle.kql_meaning.specs.Fits.{fits}
 use Rattle.kql_syntax.specs.declared.query.Query.{Query}
 use Rattle.bind_query.specs.Bound.{bound}
-use Rattle.bind_query_laws.specs.Patterns.{has_patterns}
+use Rattle.kql_parser_laws.specs.Patterns.{has_patterns}
 use Rattle.bind_query_laws.specs.Sound.{AreColumns}
 
 -- It fits the schemas that it was bound to, where each has columns of different names, the moment is in range, and each `parse` of the query

@@ -1,3 +1,3 @@
 pub mod Laws
-pub mod Patterns
+pub mod QueryPlaces
 pub mod Sound

@@ -39,6 +39,8 @@ pub(crate) enum At {
     Timeless,
     /// A table `W` of 256 columns, and the small ones.
     Wide,
+    /// 64 tables, `t0` to `t63`, of the column `x`.
+    Many,
     /// No table.
     Bare,
 }
@@ -95,10 +97,23 @@ fn push_small(alloc: Global, schemas: &mut Schemas) -> Result<(), AllocError> {
     Ok(())
 }
 
+fn push_many(alloc: Global, schemas: &mut Schemas) -> Result<(), AllocError> {
+    for i in 0u32..64 {
+        let name = format!(in alloc; "t{i}")?;
+        let schema = small(alloc, &[("x", Kind::Long)])?;
+        push_table(alloc, schemas, name.as_str(), schema)?;
+    }
+    Ok(())
+}
+
 /// The tables.
 pub(crate) fn schemas(alloc: Global, at: At) -> Result<Schemas, AllocError> {
     let mut schemas = Schemas::new(alloc);
     if matches!(at, At::Bare) {
+        return Ok(schemas);
+    }
+    if matches!(at, At::Many) {
+        push_many(alloc, &mut schemas)?;
         return Ok(schemas);
     }
     push_small(alloc, &mut schemas)?;
@@ -124,6 +139,7 @@ pub(crate) fn at_named(name: &str) -> Option<At> {
         "Plain" => Some(At::Plain),
         "Timeless" => Some(At::Timeless),
         "Wide" => Some(At::Wide),
+        "Many" => Some(At::Many),
         "Bare" => Some(At::Bare),
         _ => None,
     }

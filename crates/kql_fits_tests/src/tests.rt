@@ -1,4 +1,4 @@
-//! Small programs, and whether each fits.
+//! Small programs, and whether each fits. What a query is bound to fits by a law, so that few are here.
 use kql_bound::{BExpr, BItem, BItems, ChainSign, Link, Lit, Op, Plan, Program, Source};
 use kql_cells::{Column, KText, Kind, NamedSchema, Schema, Schemas, Value};
 use kql_fits::fits;
@@ -7,16 +7,9 @@ use kql_items::{Boxed, Items};
 use std::alloc::{AllocError, Global};
 use std::test::Fail;
 
-mod builders;
-mod expansions;
-mod families;
 mod operators;
-mod orders;
 mod plans;
-mod scans;
 mod schemas;
-mod series;
-mod windows;
 
 fn text(alloc: Global, t: &str) -> Result<KText, AllocError> {
     KText::from_str(alloc, t)

@@ -1,185 +1,128 @@
-//! Small plans, and the text of each.
-//!
-//! What builds a plan takes the results of what builds its parts, so that a sample is one expression.
-use kql_bound::{
-    BExpr, BItem, BItems, BKey, ChainSign, Exprs, Link, Lit, Op, Plan, Program, Source,
-    clone_program,
-};
-use kql_cells::{KText, Kind, Schemas, Value};
-use kql_functions::{ComparisonFunc, Func};
+//! The texts of what no query is bound to, and of copies. The texts of what queries are bound to are rows of `bind_query_rows`.
+use kql_bound::{BExpr, Lit, Op, Ops, Plan, Program, Source, clone_program};
+use kql_cells::{Column, KText, Kind, NamedSchema, Schema, Schemas, Value};
 use kql_items::{Boxed, Items};
 use kql_plan_text::plan_text;
 use std::alloc::{AllocError, Global};
+use std::test::Fail;
 
-mod exprs;
-mod group_ops;
-mod literals;
-mod programs;
-mod row_ops;
-mod scans;
-mod table_ops;
-
-type Made<T> = Result<T, AllocError>;
-
-fn text(alloc: Global, t: &str) -> Made<KText> {
+fn text(alloc: Global, t: &str) -> Result<KText, AllocError> {
     KText::from_str(alloc, t)
 }
 
-fn one<T: Drop>(alloc: Global, x: Made<T>) -> Made<Items<T>> {
-    let x = x?;
+fn one<T: Drop>(alloc: Global, x: T) -> Result<Items<T>, AllocError> {
     let mut list = Items::new(alloc);
     list.push(x)?;
     Ok(list)
-}
-
-// A list with one thing more.
-fn with<T: Drop>(list: Made<Items<T>>, x: Made<T>) -> Made<Items<T>> {
-    let mut list = list?;
-    list.push(x?)?;
-    Ok(list)
-}
-
-fn two<T: Drop>(alloc: Global, x: Made<T>, y: Made<T>) -> Made<Items<T>> {
-    with(one(alloc, x), y)
-}
-
-fn three<T: Drop>(alloc: Global, x: Made<T>, y: Made<T>, z: Made<T>) -> Made<Items<T>> {
-    with(two(alloc, x, y), z)
-}
-
-fn column(alloc: Global, name: &str) -> Made<BExpr> {
-    Ok(BExpr::Column(text(alloc, name)?))
-}
-
-fn columns(alloc: Global, first: &str, second: &str) -> Made<Exprs> {
-    two(alloc, column(alloc, first), column(alloc, second))
 }
 
 fn lit(kind: Kind, value: Value) -> Lit {
     Lit { kind, value }
 }
 
-fn long(n: i64) -> Lit {
-    lit(Kind::Long, Value::Long(n))
+// Literals that are bound from no text.
+fn unwritten(i: usize) -> Lit {
+    match i {
+        0 => lit(Kind::Text, Value::Null),
+        1 => lit(Kind::Moment, Value::Moment(-1)),
+        _ => lit(Kind::Moment, Value::Null),
+    }
 }
 
-fn number(n: i64) -> Made<BExpr> {
-    Ok(BExpr::Literal(long(n)))
+// `d[-1]`, where the number is no chain.
+fn last_part(alloc: Global) -> Result<BExpr, AllocError> {
+    let whole = Boxed::new(alloc, BExpr::Column(text(alloc, "d")?))?;
+    let place = BExpr::Literal(lit(Kind::Long, Value::Long(-1)));
+    Ok(BExpr::Path(whole, one(alloc, place)?))
 }
 
-fn truth(b: bool) -> BExpr {
-    BExpr::Literal(lit(Kind::Bool, Value::Bool(b)))
-}
-
-fn string(alloc: Global, t: &str) -> Made<BExpr> {
-    Ok(BExpr::Literal(lit(Kind::Text, Value::Text(text(alloc, t)?))))
-}
-
-fn call(f: Func, args: Made<Exprs>) -> Made<BExpr> {
-    Ok(BExpr::Call(f, args?))
-}
-
-fn compared(alloc: Global, f: ComparisonFunc, name: &str, b: Made<BExpr>) -> Made<BExpr> {
-    call(Func::Comparison(f), two(alloc, column(alloc, name), b))
-}
-
-fn link(sign: ChainSign, e: Made<BExpr>) -> Made<Link> {
-    Ok((sign, e?))
-}
-
-fn boxed(alloc: Global, e: Made<BExpr>) -> Made<Boxed<BExpr>> {
-    Boxed::new(alloc, e?)
-}
-
-fn chain(alloc: Global, first: Made<BExpr>, links: Made<Items<Link>>) -> Made<BExpr> {
-    let first = boxed(alloc, first)?;
-    Ok(BExpr::Chain(first, links?))
-}
-
-// name + e, and the like
-fn chained(alloc: Global, name: &str, sign: ChainSign, e: Made<BExpr>) -> Made<BExpr> {
-    chain(alloc, column(alloc, name), one(alloc, link(sign, e)))
-}
-
-// name + 1
-fn sum(alloc: Global, name: &str) -> Made<BExpr> {
-    chained(alloc, name, ChainSign::Add, number(1))
-}
-
-fn item(alloc: Global, name: &str, expr: Made<BExpr>) -> Made<BItem> {
-    let expr = expr?;
-    let names = one(alloc, text(alloc, name))?;
-    Ok(BItem { names, expr })
-}
-
-fn items(alloc: Global, name: &str, expr: Made<BExpr>) -> Made<BItems> {
-    one(alloc, item(alloc, name, expr))
-}
-
-// name=name
-fn own_name(alloc: Global, name: &str) -> Made<BItems> {
-    items(alloc, name, column(alloc, name))
-}
-
-fn key(alloc: Global, name: &str, asc: bool, nulls_first: bool) -> Made<BKey> {
-    let expr = column(alloc, name)?;
-    Ok(BKey {
-        expr,
-        asc,
-        nulls_first,
-    })
-}
-
-fn filter(e: Made<BExpr>) -> Made<Op> {
-    Ok(Op::Where(e?))
-}
-
-fn extend(items: Made<BItems>) -> Made<Op> {
-    Ok(Op::Extend(items?))
-}
-
-// `top n by` one key
-fn top(alloc: Global, n: u64, key: Made<BKey>) -> Made<Op> {
-    Ok(Op::Top(n, one(alloc, key)?))
-}
-
-fn plan(alloc: Global, table: &str, ops: Made<Items<Op>>) -> Made<Plan> {
-    let ops = ops?;
-    let source = Source::Table(text(alloc, table)?);
+fn table(alloc: Global, name: &str, ops: Ops) -> Result<Plan, AllocError> {
+    let source = Source::Table(text(alloc, name)?);
     Ok(Plan { source, ops })
 }
 
-fn bare_plan(alloc: Global, table: &str) -> Made<Plan> {
-    plan(alloc, table, Ok(Items::new(alloc)))
+// A union in a subquery.
+fn inner_union(alloc: Global) -> Result<Op, AllocError> {
+    let other = table(alloc, "B", Items::new(alloc))?;
+    let union = Op::Union(false, one(alloc, other)?);
+    Ok(Op::Partition(text(alloc, "k")?, one(alloc, union)?))
 }
 
-// A plan with one operator.
-fn plan_of(alloc: Global, table: &str, op: Made<Op>) -> Made<Plan> {
-    plan(alloc, table, one(alloc, op))
+// A range whose end is null.
+fn endless(alloc: Global) -> Result<Plan, AllocError> {
+    let column = text(alloc, "x")?;
+    let source = Source::Range {
+        column,
+        from: lit(Kind::Moment, Value::Moment(0)),
+        to: lit(Kind::Moment, Value::Null),
+        step: lit(Kind::Span, Value::Span(1)),
+    };
+    Ok(Plan {
+        source,
+        ops: Items::new(alloc),
+    })
 }
 
-fn program(alloc: Global, main: Made<Plan>) -> Made<Program> {
-    let main = main?;
-    let tables = Schemas::new(alloc);
+fn sample_op(alloc: Global, i: usize) -> Result<Op, AllocError> {
+    match i {
+        0 => Ok(Op::Take(18446744073709551615)),
+        1 => inner_union(alloc),
+        2 => Ok(Op::Where(last_part(alloc)?)),
+        _ => Ok(Op::Where(BExpr::Literal(unwritten(i - 3)))),
+    }
+}
+
+const OPS: [&str; 6] = [
+    "T\n| take 18446744073709551615\n",
+    "T\n| partition by k (\n  | union outer (\n    B\n  )\n)\n",
+    "T\n| where at(d,-1)\n",
+    "T\n| where string(null)\n",
+    "T\n| where datetime(null)\n",
+    "T\n| where datetime(null)\n",
+];
+
+fn one_table(alloc: Global) -> Result<Schemas, AllocError> {
+    let mut schema = Schema::new(alloc);
+    schema.push(Column {
+        name: text(alloc, "k")?,
+        kind: Kind::Long,
+    })?;
+    let name = text(alloc, "T")?;
+    let mut tables = Schemas::new(alloc);
+    tables.push(NamedSchema { name, schema })?;
+    Ok(tables)
+}
+
+// The text of a program's copy, which has as many tables.
+fn copied_text(alloc: Global, main: Plan) -> Result<KText, AllocError> {
+    let tables = one_table(alloc)?;
     let lets = Items::new(alloc);
-    Ok(Program { tables, lets, main })
-}
-
-// The text of a program's copy.
-fn copied_text(alloc: Global, p: &Program) -> Made<KText> {
-    let copy = clone_program(alloc, p)?;
+    let program = Program { tables, lets, main };
+    let copy = clone_program(alloc, &program)?;
+    if copy.tables.schemas().len() != 1 {
+        return text(alloc, "no table");
+    }
     plan_text(alloc, &copy)
 }
 
-// The text of `T` with one operator, as its copy has it.
-fn shown(alloc: Global, op: Made<Op>) -> Made<KText> {
-    let program = program(alloc, plan_of(alloc, "T", op))?;
-    copied_text(alloc, &program)
+#[test]
+fn operators(rt: HostRuntime) -> Result<(), Fail> {
+    let alloc = rt.alloc();
+    for i in 0..OPS.len() {
+        let op = sample_op(alloc, i)?;
+        let plan = table(alloc, "T", one(alloc, op)?)?;
+        let got = copied_text(alloc, plan)?;
+        assert_eq!(rt; got.as_str(), OPS[i]);
+    }
+    Ok(())
 }
 
-// The text of an expression, as it stands behind `where`.
-fn shown_expr(alloc: Global, e: Made<BExpr>) -> Made<KText> {
-    let whole = shown(alloc, filter(e))?;
-    let behind = whole.as_str().strip_prefix("T\n| where ").unwrap_or("?");
-    KText::from_str(alloc, behind.strip_suffix("\n").unwrap_or("?"))
+#[test]
+fn ranges(rt: HostRuntime) -> Result<(), Fail> {
+    let alloc = rt.alloc();
+    let got = copied_text(alloc, endless(alloc)?)?;
+    let want =
+        "range x from datetime(0001-01-01T00:00:00.0000000Z) to datetime(null) step timespan(00:00:00.0000001)\n";
+    assert_eq!(rt; got.as_str(), want);
+    Ok(())
 }

@@ -1,4 +1,5 @@
 pub mod AnswerFacts
+pub mod BoundFacts
 pub mod CommandFacts
 pub mod FileFacts
 pub mod MemoryFacts

@@ -1,6 +1,6 @@
 -- Nothing behind the words refuses a word.
 use Rattle.std.proofs.Common.{◌≡◌, ◌∙◌, ℕ, Bool, true, false, List, ap, sym}
-use Rattle.std.specs.Prelude.{ℤ, ◌&&◌, Option, Result, Ok, Err, IsErrAnd, if◌then◌else◌}
+use Rattle.std.specs.Prelude.{ℤ, Option, Result, Ok, Err, IsErrAnd, if◌then◌else◌}
 use Rattle.bind_expr.specs.Outcome.{Outcome}
 use Rattle.bind_expr.specs.declared.fault.BindFault.TheVariants as bind
 use Rattle.bind_query.specs.Bound.{bound}
@@ -10,7 +10,6 @@ use Rattle.kql_cells.specs.Catalogues.{Named, schemas_of}
 use Rattle.kql_lexer.specs.Lexing as lexing
 use Rattle.kql_lexer.specs.Lexing.{lexed}
 use Rattle.kql_lexer.specs.declared.token.Token.{Token}
-use Rattle.kql_meaning.specs.Fits.{fits}
 use Rattle.kql_meaning.specs.Plans.{means}
 use Rattle.kql_plain.specs.Built.{is_built}
 use Rattle.kql_syntax.specs.declared.parse.SyntaxFault.{SyntaxFault}
@@ -94,7 +93,7 @@ bound-words (Err bind.OutOfMemory) word code e = cc e
 
 built-words : (program : Program) (tables : List Named) → NoWord (unless_unbuilt program tables)
 unfolding NoWord unless_unbuilt
-built-words program tables = by-test (fits program (schemas_of tables) && is_built program)
+built-words program tables = by-test (is_built program)
   where
     by-test : (b : Bool) (word code : ℕ) → (if b then Ok (means program tables) else Err (refusal.Query 204 start_place)) ≡ Err (refusal.Usage word code) → ⊥
     by-test true word code e = cc e

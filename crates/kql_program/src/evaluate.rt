@@ -1,14 +1,20 @@
 //! The rows of a query over tables.
-ghost use Rattle.std.specs.Prelude.{◌≡◌, IfSome};
+ghost use Rattle.std.specs.Prelude.{◌≡◌, All, IfOk, IfSome, IsTrue, true};
+ghost use Rattle.kql_cells.specs.Catalogues.{schemas_of};
 ghost use Rattle.kql_cells.specs.Values.{IsMoment};
+ghost use Rattle.kql_cells.specs.declared.schemas.NamedSchema.{NamedSchema};
+ghost use Rattle.kql_meaning.specs.Fits.{fits};
+ghost use Rattle.kql_parser_laws.specs.Patterns.{has_patterns};
+ghost use Rattle.bind_query_laws.specs.Sound.{AreColumns};
 ghost use Rattle.kql_program.specs.Answer.{program_of, rows_over, start_place, unless_unbuilt};
 ghost use Rattle.kql_program.specs.Refusals.{Gives};
 ghost use Rattle.kql_program.specs.declared.refusal.Refusal.TheVariants as refusal;
 
 use crate::refusal::{Refusal, Stop};
 use bind_query::bind;
+use bind_query_laws::law_of_binding_queries;
 use kql_bound::Program;
-use kql_fits::fits;
+use kql_cells::NamedSchema;
 use kql_items::Boxed;
 use kql_lexer::Place;
 use kql_plain::{PlainFault, plain};
@@ -25,14 +31,24 @@ pub(crate) fn rows_over(
     catalogue: &Catalogue,
 ) -> Result<Table, Stop>
     requires moment { IfSome moment IsMoment }
+    requires patterns { has_patterns query.now ≡ true }
     ensures rows { Gives (rows_over query.now moment catalogue.now) result }
 {
     let program = program_of(alloc, query, moment, catalogue)?;
     unless_unbuilt(alloc, program.get(), catalogue)
 }
 
-// The program that the query is bound to.
-#[tactic(auto, unfolding(crate::specs::Answer::program_of))]
+// No two columns of a schema have one name, as each schema tells of its own.
+fn columns_differ(schemas: &[NamedSchema])
+    ensures differ { All (λ (s : NamedSchema). AreColumns s.schema) schemas.now }
+{
+    for named in schemas {
+        let _ = named.schema.columns();
+    }
+}
+
+// The program that the query is bound to, which fits the tables.
+#[tactic(auto, using(crate::proofs::BoundFacts::bound_facts), unfolding(crate::specs::Answer::program_of))]
 fn program_of(
     alloc: Global,
     query: &Query,
@@ -40,22 +56,23 @@ fn program_of(
     catalogue: &Catalogue,
 ) -> Result<Boxed<Program>, Stop>
     requires moment { IfSome moment IsMoment }
+    requires patterns { has_patterns query.now ≡ true }
     ensures program { Gives (program_of query.now moment catalogue.now) result }
+    ensures fits { IfOk result (λ p. IsTrue (fits p (schemas_of catalogue.now))) }
 {
     let schemas = catalogue.schemas(alloc)?;
+    columns_differ(schemas.schemas());
+    law_of_binding_queries();
     let program = bind(alloc, query, schemas, moment)?;
     Ok(program)
 }
 
-// The rows of a program, or 204 where it is not built or does not fit the tables.
+// The rows of a program that fits the tables, or 204 where it is not built.
 #[tactic(auto, unfolding(crate::specs::Answer::unless_unbuilt))]
 fn unless_unbuilt(alloc: Global, program: &Program, catalogue: &Catalogue) -> Result<Table, Stop>
+    requires fits { IsTrue (fits program.now (schemas_of catalogue.now)) }
     ensures rows { Gives (unless_unbuilt program.now catalogue.now) result }
 {
-    let schemas = catalogue.schemas(alloc)?;
-    if !fits(alloc, program, &schemas)? {
-        return Err(Stop::Refused(not_built()));
-    }
     match plain(alloc, program, catalogue) {
         Ok(rows) => Ok(rows),
         Err(PlainFault::NotBuilt) => Err(Stop::Refused(not_built())),

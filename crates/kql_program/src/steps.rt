@@ -1,7 +1,8 @@
 //! The steps of the answer: words, query file, syntax, table files, and then rows and their text. The first fault stops them.
-ghost use Rattle.std.specs.Prelude.{◌≡◌, ◌≤◌, Err, IfSome};
+ghost use Rattle.std.specs.Prelude.{◌≡◌, ◌≤◌, Err, IfSome, true};
 ghost use Rattle.kql_cells.specs.Values.{IsMoment};
 ghost use Rattle.kql_outside.specs.Causes.{Rose};
+ghost use Rattle.kql_parser_laws.specs.Patterns.{has_patterns};
 ghost use Rattle.kql_program.specs.Answer.{Answers, AreRows};
 ghost use Rattle.kql_program.specs.Command.{AreTables, texts};
 ghost use Rattle.kql_program.specs.Outcomes.{MeetsFaults, RefusesNoWord};
@@ -18,6 +19,7 @@ use kql_cells::Bytes;
 use kql_lexer::Tokens;
 use kql_outside::Shelf;
 use kql_parser::parse;
+use kql_parser_laws::law_of_patterns;
 use kql_syntax::Query;
 use kql_values::Table;
 use std::alloc::Global;
@@ -69,6 +71,7 @@ fn parsed_rows<F: Shelf>(
     ensures words { RefusesNoWord result }
 {
     let query = parse(alloc, tokens)?;
+    law_of_patterns();
     let rows = asked_rows(alloc, shelf, &query, moment, words);
     drop(query);
     rows
@@ -83,6 +86,7 @@ fn asked_rows<F: Shelf>(
     words: &[String],
 ) -> Result<Table, Stop>
     requires moment { IfSome moment IsMoment }
+    requires patterns { has_patterns query.now ≡ true }
     requires tables { AreTables (texts words.now) }
     ensures files { F.files shelf.new ≡ F.files shelf.old }
     ensures later { F.faults shelf.old ≤ F.faults shelf.new }

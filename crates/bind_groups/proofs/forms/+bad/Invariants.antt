@@ -2,7 +2,7 @@ use Rattle.std.proofs.Common.{◌≡◌, false, take}
 use Rattle.std.specs.List.{list_any}
 use Rattle.kql_bound.specs.declared.expr.BExpr.{BExpr}
 use Rattle.kql_bound.specs.declared.expr.ChainSign.{ChainSign}
-use Rattle.bind_groups.specs.Summarize.{has_bad_count}
+use Rattle.bind_expr.specs.GroupForms.{has_bad_count}
 use Rattle.bind_groups.proofs.forms.+bad.Given as goal
 
 abbrev pub invariant-any_bad_count-loop-e : goal.invariant-any_bad_count-loop-e

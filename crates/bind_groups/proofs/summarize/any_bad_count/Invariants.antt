@@ -1,7 +1,7 @@
 use Rattle.std.proofs.Common.{◌≡◌, length}
 use Rattle.std.specs.List.{list_any}
 use Rattle.kql_bound.specs.declared.parts.BItem.{BItem}
-use Rattle.bind_groups.specs.Summarize.{has_bad_count}
+use Rattle.bind_expr.specs.GroupForms.{has_bad_count}
 use Rattle.bind_groups.proofs.summarize.any_bad_count.Given as goal
 
 abbrev pub invariant-each : goal.invariant-each

@@ -1,0 +1,12 @@
+pub mod BestLaws
+pub mod CallFacts
+pub mod CellFacts
+pub mod FoldLaws
+pub mod FormFacts
+pub mod JoinLaws
+pub mod JoinStates
+pub mod KeyFacts
+pub mod ListLaws
+pub mod RowLaws
+pub mod StateLaws
+pub mod TotalFacts

@@ -1,0 +1,6 @@
+use Rattle.std.proofs.Common.{◌∙◌}
+use Rattle.agg_folds.proofs.RowLaws.{place-of-fold}
+use Rattle.agg_folds.proofs.fold.Fold.chosen.Goals as goal
+
+pub returns : goal.returns
+returns c = record { row = λ call rows e. c.place.ensures ∙ place-of-fold call rows c.args.self.now e }

@@ -1,0 +1,6 @@
+pub mod Calls
+pub mod Folds
+pub mod Kept
+pub mod Keys
+pub mod Laws
+pub mod States

@@ -1,0 +1,7 @@
+pub mod KeySteps
+pub mod ListSteps
+pub mod PairSteps
+pub mod MatchSteps
+pub mod RowSteps
+pub mod ShownSteps
+pub mod JoinSteps

@@ -1,0 +1,14 @@
+//! `join` of nine kinds, and `lookup`.
+//!
+//! One side leads: its rows, one after another, find their matches in an index of the other side's keys. What is computed are
+//! places; the cells move once, into the answer.
+#![tactic(auto)]
+
+mod join;
+mod keys;
+mod pairs;
+mod shown;
+mod sides;
+
+pub use join::{Joined, join_places, join_tables};
+pub use pairs::has_lead;

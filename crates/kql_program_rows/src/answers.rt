@@ -1,0 +1,66 @@
+//! What the program answers.
+use crate::seat::{NamedText, Seat};
+use kql_outside::{CleanShelf, CleanSink, OpenGate};
+use kql_program::{Ended, kql};
+use std::alloc::{AllocError, Global};
+use std::str;
+use std::thread::Threads;
+
+/// Room for a text that is written.
+const ROOM: usize = 1_048_576;
+
+fn file(alloc: Global, path: &str, text: &str) -> Result<(String, Vec<u8>), AllocError> {
+    let path = String::from_str(alloc, path)?;
+    let bytes = Vec::from_slice(alloc, text.as_bytes())?;
+    Ok((path, bytes))
+}
+
+// The words of the command.
+fn words_of(alloc: Global, seat: &Seat) -> Result<Vec<String>, AllocError> {
+    let mut words = Vec::new(alloc);
+    words.push(String::from_str(alloc, "run")?)?;
+    for word in &seat.words {
+        words.push(String::from_str(alloc, word.as_str())?)?;
+    }
+    words.push(String::from_str(alloc, "query")?)?;
+    for table in &seat.tables {
+        words.push(format!(in alloc; "{}={}", table.name.as_str(), table.name.as_str())?)?;
+    }
+    Ok(words)
+}
+
+// The files: that of the query, and those of the tables.
+fn shelf_of(alloc: Global, query: &str, tables: &[NamedText]) -> Result<CleanShelf, AllocError> {
+    let mut files = Vec::new(alloc);
+    let query = query.replace(alloc, "⏎", "\n")?;
+    files.push(file(alloc, "query", query.as_str())?)?;
+    for table in tables {
+        files.push(file(alloc, table.name.as_str(), table.text.as_str())?)?;
+    }
+    Ok(CleanShelf::new(files))
+}
+
+// A text that was written, without its last end of a line.
+fn shown(alloc: Global, before: &str, bytes: &[u8]) -> Result<String, AllocError> {
+    let text = str::from_utf8(bytes).unwrap_or("no text");
+    let text = text.strip_suffix('\n').unwrap_or(text);
+    let text = text.replace(alloc, "\n", "⏎")?;
+    format!(in alloc; "{before}{}", text.as_str())
+}
+
+/// What the program answers a query over the tables of the seat: the text, or the line of a refusal.
+pub(crate) fn answer(
+    rt: &(impl Threads + Sync),
+    alloc: Global,
+    seat: &Seat,
+    query: &str,
+) -> Result<String, AllocError> {
+    let words = words_of(alloc, seat)?;
+    let mut shelf = shelf_of(alloc, query, &seat.tables)?;
+    let mut out = CleanSink::new(alloc, 4096, ROOM)?;
+    let mut err = CleanSink::new(alloc, 4096, ROOM)?;
+    match kql(rt, alloc, &words, &mut shelf, &mut out, &mut err, &OpenGate) {
+        Ended::Table => shown(alloc, "", out.bytes()),
+        _ => shown(alloc, "! ", err.bytes()),
+    }
+}

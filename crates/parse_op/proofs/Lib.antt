@@ -1,0 +1,9 @@
+pub mod BoundSteps
+pub mod CutSteps
+pub mod FillSteps
+pub mod KeptSteps
+pub mod LimitSteps
+pub mod ParseSteps
+pub mod PieceSteps
+pub mod SearchSteps
+pub mod SlotSteps

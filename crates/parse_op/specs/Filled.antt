@@ -1,0 +1,39 @@
+-- The columns of a pattern, filled row by row.
+use Rattle.std.specs.Prelude.{ℕ, ◌≡◌, true, List, [], ◌∷◌, filter, length, map, not, take}
+use Rattle.kql_cells.specs.Ordered.{text_in}
+use Rattle.kql_cells.specs.Table.{Grid}
+use Rattle.kql_cells.specs.declared.schema.Column.{Column}
+use Rattle.kql_cells.specs.declared.value.Value.{Value}
+use Rattle.kql_bound.specs.declared.expr.BExpr.{BExpr}
+use Rattle.kql_bound.specs.declared.parts.ParsePlan.{ParsePlan}
+use Rattle.kql_meaning.specs.Cuts.{is_end}
+use Rattle.kql_meaning.specs.Expressions.{val}
+use Rattle.kql_meaning.specs.Parse.{parsed_values, pattern_columns}
+use Rattle.kql_meaning.specs.Tables.{has_column, places, places_below}
+use Rattle.kql_values.specs.Growing.{Growing}
+use Rattle.kql_values.specs.Moves.{column_of}
+
+-- Ends that do not fall, each a place of the text.
+unfoldable pub AreEnds : List ℕ → ℕ → List ℕ → Type 0
+AreEnds t start [] = Unit {0}
+AreEnds t start (end ∷ ends) = (is_end t start end ≡ true) × AreEnds t end ends
+
+-- The same rows, and another open row.
+unfoldable pub has_row : Growing → List Value → Growing
+has_row g row = record { grid = g.grid; row = row }
+
+-- The table of the pieces of what values show, a row for each.
+unfoldable pub parsed_grid : ParsePlan → List Value → Grid
+parsed_grid p values = record { columns = pattern_columns p.pattern; lines = map (λ v. parsed_values p (text_in v)) values }
+
+-- The same of the first values, and no open row.
+unfoldable pub grown : ParsePlan → List Value → ℕ → Growing
+grown p values i = record { grid = parsed_grid p (take i values); row = [] }
+
+-- The places of the columns that have the name of none of these.
+unfoldable pub places_without : List Column → List Column → List ℕ
+places_without made columns = filter (λ j. not (has_column (column_of columns j).name made)) (places_below (length columns))
+
+-- The values of an expression at all rows.
+unfoldable pub values_down : BExpr → Grid → List Value
+values_down e t = map (λ i. val e t i []) (places t)

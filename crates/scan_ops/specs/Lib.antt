@@ -1,0 +1,4 @@
+pub mod Extended
+pub mod Steps
+pub mod States
+pub mod Runs

@@ -1,0 +1,9 @@
+pub mod Transposed
+pub mod InColumnFacts
+pub mod UnionFacts
+pub mod ValueFacts
+pub mod CountFacts
+pub mod PartFacts
+pub mod DownFacts
+pub mod ExpandFits
+pub mod ExpandFacts

@@ -1,0 +1,2 @@
+pub mod InColumns
+pub mod Parts

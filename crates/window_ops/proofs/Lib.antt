@@ -1,0 +1,13 @@
+pub mod RunSteps
+pub mod RangeFacts
+pub mod FitSteps
+pub mod AppliedSteps
+pub mod DownSteps
+pub mod WindowSteps
+pub mod ItemColumnFacts
+pub mod PlaceSteps
+pub mod KeptColumnFacts
+pub mod ProjectFacts
+pub mod ExtendFacts
+pub mod ItemSteps
+pub mod KeptSteps

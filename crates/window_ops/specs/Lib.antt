@@ -1,0 +1,4 @@
+pub mod Columns
+pub mod Fitting
+pub mod Kept
+pub mod Running

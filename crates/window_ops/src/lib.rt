@@ -1,0 +1,16 @@
+//! `where`, `extend` and `project` with the window functions, in one pass over the rows for each `row_cumsum` and `row_number`.
+//!
+//! An expression in which neither of these two stands is evaluated by `kql_scalar`. Of any other one each part is computed as a column
+//! first, and what stands over the parts then reads these columns row by row, so that no row looks at all rows before it.
+#![tactic(auto)]
+
+mod applied;
+mod cells;
+mod columns;
+mod items;
+mod kept;
+mod operators;
+mod parts;
+mod running;
+
+pub use operators::{extend_rows, project_rows, where_rows, window_rows};
