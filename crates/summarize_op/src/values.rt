@@ -122,7 +122,8 @@ fn values_along(
 {
     let mut left = first;
     'links: for link in links {
-        let next = linked_by(alloc, link, left, kind, t, numbers, count)?;
+        let right = link_right(link, t);
+        let next = linked(alloc, link.0.func(), right, left, kind, t, numbers, count)?;
         left = next;
     }
     Ok(left)
@@ -156,28 +157,6 @@ fn values_down(
     Ok(left)
 }
 
-/// The values of one link: what stands on the left, and the part behind the sign.
-#[cycle(values)]
-fn linked_by(
-    alloc: Global,
-    link: &Link,
-    left: Vector,
-    kind: Kind,
-    t: &Table,
-    numbers: &[usize],
-    count: usize,
-) -> Result<Vector, AllocError>
-    requires grouped { IsGrouped t.now.columns link.now.1 }
-    requires numbers { AreNumbers t.now numbers.now count }
-    requires long { length left ≡ count }
-    requires form { AreWellFormed left }
-    ensures values { IfOk result (λ v. v ≡ applied_to_both (sign_func link.now.0) left (over link.now.1 t.now numbers.now count) count) }
-    ensures long { IfOk result (λ v. length v ≡ count) }
-    ensures form { IfOk result AreWellFormed }
-{
-    linked(alloc, link.0.func(), &link.1, left, kind, t, numbers, count)
-}
-
 /// The values of one sign or step: what stands on the left, and the part on the right.
 #[cycle(values)]
 #[tactic(auto, using(crate::proofs::ValueSteps::link_steps))]
@@ -206,4 +185,13 @@ fn linked(
             Err(e)
         }
     }
+}
+
+// The part behind the sign of a link, which hands the fact on to the call on the part.
+fn link_right<'a>(link: &'a Link, _t: &Table) -> &'a BExpr
+    requires { IsGrouped _t.now.columns link.now.1 }
+    ensures value { result.now ≡ link.now.1 }
+    ensures grouped { IsGrouped _t.now.columns result.now }
+{
+    &link.1
 }

@@ -1,6 +1,6 @@
-use Rattle.std.proofs.Common.{◌∙◌, refl, rules, subst, sym}
-use Rattle.kql_bound.specs.Signs.{sign_func}
-use Rattle.summarize_op.specs.Grouped.{AreFormed}
+use Rattle.std.proofs.Common.{◌∙◌, ap, refl, rules, subst, sym}
+use Rattle.kql_bound.specs.declared.expr.BExpr.{BExpr}
+use Rattle.summarize_op.specs.Grouped.{AreFormed, applied_to_both, over}
 use Rattle.summarize_op.proofs.PartSteps.{grouped_link}
 use Rattle.summarize_op.proofs.ValueSteps.{all-start, all-step, along-start, along-step, columns-formed, down-start, down-step, no-columns-formed}
 use Rattle.summarize_op.proofs.values.+values.Goals as goal
@@ -24,16 +24,17 @@ values_along-links-init t c = record {
   form = c.requires.form;
 }
 
-pub values_along-linked_by-requires : goal.values_along-linked_by-requires
-values_along-linked_by-requires t c =
-    (search rules, (grouped_link c.args.t.now.columns c.args.links.now c.links.link-index c.link-item.result c.link-item.is (search rules) c.requires.grouped, (c.requires.numbers, (c.links.invariant.long, c.links.invariant.form))))
+pub values_along-link_right-right-requires : goal.values_along-link_right-right-requires
+values_along-link_right-right-requires t c = grouped_link c.args.t.now.columns c.args.links.now c.links.link-index c.link-item.result c.link-item.is (search rules) c.requires.grouped
 
 pub values_along-links-preserved : goal.values_along-links-preserved
-values_along-links-preserved t c = record {
-  made = along-step c.args.links.now c.args.t.now c.args.numbers.now c.args.count c.links.link-index c.link-item.result (sign_func c.link-item.result.0) c.args.first c.links.left c.in_ok-next.next (search rules) c.link-item.is refl c.links.invariant.made c.in_ok-next.ensures.values;
-  long = c.in_ok-next.ensures.long;
-  form = c.in_ok-next.ensures.form;
-}
+values_along-links-preserved t c =
+    let right = ap (λ (e : BExpr). applied_to_both c.func.result c.links.left (over e c.args.t.now c.args.numbers.now c.args.count) c.args.count) c.link_right-right.ensures.value in
+    record {
+      made = along-step c.args.links.now c.args.t.now c.args.numbers.now c.args.count c.links.link-index c.link-item.result c.func.result c.args.first c.links.left c.in_ok-next.next (search rules) c.link-item.is c.func.ensures.func c.links.invariant.made (c.in_ok-next.ensures.values ∙ right);
+      long = c.in_ok-next.ensures.long;
+      form = c.in_ok-next.ensures.form;
+    }
 
 pub values_down-steps-init : goal.values_down-steps-init
 values_down-steps-init t c = record {
