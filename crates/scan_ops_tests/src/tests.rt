@@ -2,8 +2,11 @@ use crate::scans::{Step, scan_of};
 use crate::table::{Emitted, Event, Made, shows, table_of};
 use kql_bound::Output::{All, Last, Nothing};
 use kql_bound::ScanPlan;
+use kql_columns::names_of;
+use kql_fits::are_distinct;
+use kql_items::Items;
 use kql_values::Table;
-use scan_ops::{are_steps_scalar, emitted_rows};
+use scan_ops::{are_steps_scalar, emitted_rows, scan_rows};
 use std::alloc::Global;
 use std::test::Fail;
 
@@ -231,9 +234,27 @@ fn first_wrong(alloc: Global, cases: &[Case]) -> Made<Option<usize>> {
     Ok(None)
 }
 
+// Whether a scan without steps answers the columns of its input and no rows.
+#[tactic(auto, using(crate::proofs::NothingFacts::nothing_facts))]
+fn scans_nothing(alloc: Global, t: Made<Table>) -> Made<bool> {
+    let t = t?;
+    let names = names_of(alloc, t.schema().columns())?;
+    if t.schema().len() == 0 || !are_distinct(names.as_slice()) {
+        return Ok(false);
+    }
+    let scan = ScanPlan {
+        match_id: None,
+        declared: Items::new(alloc),
+        steps: Items::new(alloc),
+    };
+    let scanned = scan_rows(alloc, &t, &scan)?;
+    Ok(scanned.len() == 0 && scanned.schema().len() == t.schema().len())
+}
+
 #[test]
 fn scans(rt: HostRuntime) -> Result<(), Fail> {
     let alloc = rt.alloc();
     assert!(rt; first_wrong(alloc, CASES)? == None);
+    assert!(rt; scans_nothing(alloc, table_of(alloc, ONE))?);
     Ok(())
 }

@@ -1,0 +1,14 @@
+mod AppliedSteps
+mod ArgumentSteps
+mod CallSteps
+mod ColumnFacts
+mod ItemSteps
+mod KeyedGroups
+mod KeySteps
+mod OneGroup
+mod PartSteps
+mod PassSteps
+mod PickSteps
+mod ResultSteps
+mod TableSteps
+mod ValueSteps

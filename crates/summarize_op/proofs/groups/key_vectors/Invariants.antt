@@ -1,0 +1,7 @@
+use Rattle.std.proofs.Common.{◌≡◌, take}
+use Rattle.summarize_op.specs.Groups.{key_columns}
+use Rattle.summarize_op.proofs.groups.key_vectors.Given as goal
+
+-- the values of the keys so far
+abbrev pub invariant-keys : goal.invariant-keys
+invariant-keys l = l.vectors.items ≡ key_columns (take l.key-index l.keys) l.t

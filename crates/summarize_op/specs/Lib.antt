@@ -1,0 +1,6 @@
+pub mod Calls
+pub mod Columns
+pub mod Grouped
+pub mod Groups
+pub mod Passes
+pub mod Picks

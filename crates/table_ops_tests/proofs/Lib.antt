@@ -1,2 +1,0 @@
-pub mod NameSteps
-pub mod ItemSteps
