@@ -89,14 +89,9 @@ fits-Project items w t f = (project-fits items w t f).0
 pub names-Project : (items : List BItem) (w : World) (t : Grid) → OpFits (V.Project items) w t → HasDistinctNames column_name (items_columns items t.columns)
 names-Project items w t f = (project-fits items w t f).1
 
-summarize-fits : (g : GroupPlan) (w : World) (t : Grid) → OpFits (V.Summarize g) w t → (summarize_fits g t.columns ≡ true) × HasDistinctNames column_name (group_columns g t.columns)
-summarize-fits g w t = answered (V.Summarize g) w t (summarize_fits g t.columns) (group_columns g t.columns) (λ k inside. op-Summarize g k inside t.columns)
-
-pub fits-Summarize : (g : GroupPlan) (w : World) (t : Grid) → OpFits (V.Summarize g) w t → summarize_fits g t.columns ≡ true
-fits-Summarize g w t f = (summarize-fits g w t f).0
-
-pub names-Summarize : (g : GroupPlan) (w : World) (t : Grid) → OpFits (V.Summarize g) w t → HasDistinctNames column_name (group_columns g t.columns)
-names-Summarize g w t f = (summarize-fits g w t f).1
+pub answers-Summarize : (g : GroupPlan) (w : World) (t : Grid) → OpFits (V.Summarize g) w t → is_some (answer_if (summarize_fits g t.columns) (group_columns g t.columns)) ≡ true
+unfolding OpFits
+answers-Summarize g w t f = sym (ap is_some (op-Summarize g f.0 f.1 t.columns)) ∙ f.4
 
 series-fits : (p : SeriesPlan) (w : World) (t : Grid) → OpFits (V.MakeSeries p) w t → (series_fits p t.columns ≡ true) × HasDistinctNames column_name (series_columns p t.columns)
 series-fits p w t = answered (V.MakeSeries p) w t (series_fits p t.columns) (series_columns p t.columns) (λ k inside. op-MakeSeries p k inside t.columns)
@@ -231,4 +226,4 @@ pub names-Union : (inner : Bool) (others : List Plan) (w : World) (t : Grid) →
 unfolding OthersFit
 names-Union inner others w t f = (union-fits inner others w t f).2
 
-pub ruleset fit_steps = (fits-Where, fits-Sort, fits-Top, fits-Extend, names-Extend, fits-Project, names-Project, fits-Summarize, names-Summarize, fits-MakeSeries, names-MakeSeries, fits-MvExpand, names-MvExpand, fits-Parse, names-Parse, answers-Scan, plan-Join, fits-Join, names-Join, plans-Union, fits-Union, names-Union)
+pub ruleset fit_steps = (fits-Where, fits-Sort, fits-Top, fits-Extend, names-Extend, fits-Project, names-Project, answers-Summarize, fits-MakeSeries, names-MakeSeries, fits-MvExpand, names-MvExpand, fits-Parse, names-Parse, answers-Scan, plan-Join, fits-Join, names-Join, plans-Union, fits-Union, names-Union)
