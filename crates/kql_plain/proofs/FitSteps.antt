@@ -142,8 +142,7 @@ unfolding RightFits PlanFits joined_columns
 right-fits j right w t k s None e f = absurd cc
 right-fits j right w t k s (Some cs) e f =
     let keeps = each_plan_keeps k w s.0 right cs e in
-    let there = answer-there (join_fits j t.columns cs) (join_columns j.kind j t.columns cs) f in
-    (
+    let there = answer-there (join_fits j t.columns cs) (join_columns j.kind j t.columns cs) f in (
       (k, s, ap is_some e),
       ap (λ (ds : List Column). join_fits j t.columns ds) keeps.0 ∙ there.0,
       subst (λ (ds : List Column). HasDistinctNames column_name (join_columns j.kind j t.columns ds)) (sym keeps.0) there.1,
@@ -201,8 +200,7 @@ unfolding OthersFit PlansFit united_columns plans_columns
 others-fit inner others w t k s None e f = absurd cc
 others-fit inner others w t k s (Some all) e f =
     let same = plans-columns k w others all s e in
-    let there = answer-there (union_fits (union_columns inner t.columns all) (t.columns ∷ all)) (union_columns inner t.columns all) f in
-    (
+    let there = answer-there (union_fits (union_columns inner t.columns all) (t.columns ∷ all)) (union_columns inner t.columns all) f in (
       (k, s, ap is_some e),
       ap (λ (ds : List (List Column)). union_fits (union_columns inner t.columns ds) (t.columns ∷ ds)) same ∙ there.0,
       subst (λ (ds : List (List Column)). HasDistinctNames column_name (union_columns inner t.columns ds)) (sym same) there.1,

@@ -154,8 +154,7 @@ parted o os w t k inside s h None e f =
     let gone : is_some {T = List Column} None ≡ true = sym (ap is_some (stays-none (after k inside) (after-none k inside) os)) ∙ f in
     absurd cc
 parted o os w t k inside s h (Some cs) e f =
-    let keeps = each_op_keeps k w s.0 o inside t cs h e in
-    (
+    let keeps = each_op_keeps k w s.0 o inside t cs h e in (
       (k, inside, s, h, ap is_some e),
       (k, inside, s, keeps.1, ap (λ (ds : List Column). is_some (ops_columns os k inside ds)) keeps.0 ∙ (ap is_some (ops-fold os k inside cs) ∙ f)),
     )

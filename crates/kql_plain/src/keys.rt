@@ -10,11 +10,7 @@ use std::alloc::{AllocError, Global};
 
 /// The places of the rows of each key of a column, in one pass: keys in order of first occurrence, places rising. Null is a key.
 #[tactic(auto, using(crate::proofs::KeySteps::key_steps))]
-pub(crate) fn rows_by_key(
-    alloc: Global,
-    t: &Table,
-    key: &str,
-) -> Result<PlaceLists, AllocError>
+pub(crate) fn rows_by_key(alloc: Global, t: &Table, key: &str) -> Result<PlaceLists, AllocError>
     requires column { IsTrue (is_some (place_of column_name key.now t.now.columns)) }
     ensures rows { IfOk result (λ lists. lists ≡ rows_by_key key.now t.now) }
 {

@@ -39,8 +39,7 @@ pub ops_table-op_table-requires : goal.ops_table-op_table-requires
 ops_table-op_table-requires t c =
     let left = operators.rest-at c.args.ops.now c.loop-op.op-index c.op-item.result (omega (arith, c.loop-op-test.true)) c.op-item.is in
     let rest = drop (c.loop-op.op-index + 1) c.args.ops.now in
-    let w = world_of c.args.catalogue.now c.args.lets.now in
-    (
+    let w = world_of c.args.catalogue.now c.args.lets.now in (
       search (rules, the_lemmas),
       (
         operators.first-built c.op-item.result rest (subst (λ os. list_all op_is_built os ≡ true) left c.loop-op.invariant.built),
@@ -68,13 +67,12 @@ ops_table-returns t c =
 
 pub plan_table-ops_table-requires : goal.plan_table-ops_table-requires
 plan_table-ops_table-requires t c =
-    let w = world_of c.args.catalogue.now c.args.lets.now in
-    (
+    let w = world_of c.args.catalogue.now c.args.lets.now in (
       search (rules, the_lemmas),
       (
         subst (λ os. list_all op_is_built os ≡ true) (sym c.as_slice.ensures.items) (plans.ops-built c.args.plan.now c.requires.built),
         subst (λ os. OpsFit os w (input_table c.in-Ok.source)) (sym c.as_slice.ensures.items)
-        (subst (λ u. OpsFit c.args.plan.now.ops w u) (sym c.in-Ok.ensures.table) (plans.ops-fit c.args.plan.now w c.requires.fits)),
+            (subst (λ u. OpsFit c.args.plan.now.ops w u) (sym c.in-Ok.ensures.table) (plans.ops-fit c.args.plan.now w c.requires.fits)),
       ),
     )
 
@@ -84,8 +82,7 @@ pub plans_tables-plan_table-requires : goal.plans_tables-plan_table-requires
 plans_tables-plan_table-requires t c =
     let left = operators.rest-at c.args.plans.now c.loop-plan.plan-index c.plan-item.result (omega (arith, c.loop-plan-test.true)) c.plan-item.is in
     let rest = drop (c.loop-plan.plan-index + 1) c.args.plans.now in
-    let w = world_of c.args.catalogue.now c.args.lets.now in
-    (
+    let w = world_of c.args.catalogue.now c.args.lets.now in (
       search (rules, the_lemmas),
       (
         plans.first-plan c.plan-item.result rest (subst (λ ps. list_all plan_is_built ps ≡ true) left c.loop-plan.invariant.built),
@@ -110,8 +107,7 @@ pub op_table-ops_table-requires : goal.op_table-ops_table-requires
 op_table-ops_table-requires t c =
     let w = world_of c.args.catalogue.now c.args.lets.now in
     let none = c.in_ok-none-in-Partition.ensures.rows ∙ ap emptied c.as_table-table.ensures.table in
-    let fits = partition.subquery-fits c.args.op.now c.in-Partition.key c.in-Partition.ops w (input_table c.args.from) c.in-Partition.is c.requires.fits in
-    (
+    let fits = partition.subquery-fits c.args.op.now c.in-Partition.key c.in-Partition.ops w (input_table c.args.from) c.in-Partition.is c.requires.fits in (
       search (rules, the_lemmas),
       (
         subst (λ os. list_all op_is_built os ≡ true) (sym c.as_slice-in-Partition.ensures.items) (partition.subquery-built c.args.op.now c.in-Partition.key c.in-Partition.ops c.in-Partition.is c.requires.built),
@@ -140,13 +136,12 @@ op_table-ops_table-requires-in-loop-number t c =
     let fits = partition.subquery-fits c.args.op.now c.in-Partition.key c.in-Partition.ops w (input_table c.args.from) c.in-Partition.is c.requires.fits in
     let here = subst (λ u. OpsFit c.in-Partition.ops w u) (sym c.as_table-table.ensures.table) fits in
     let inside = partition.list-inside c.as_str.result.now table c.in_ok-keyed-in-Partition.keyed c.loop-number.number c.get.result.now c.in_ok-keyed-in-Partition.ensures.rows
-        (omega (arith, c.loop-number-test.true, c.len-number-end.ensures.count)) c.get.ensures.same in
-    (
+    (omega (arith, c.loop-number-test.true, c.len-number-end.ensures.count)) c.get.ensures.same in (
       search (rules, the_lemmas, c.decreases, c.in-Partition.is, c.as_slice-in-loop-number.ensures.items),
       (
         subst (λ os. list_all op_is_built os ≡ true) (sym c.as_slice-in-loop-number.ensures.items) (partition.subquery-built c.args.op.now c.in-Partition.key c.in-Partition.ops c.in-Partition.is c.requires.built),
         subst (λ os. OpsFit os w c.in_ok-rows-in-Partition.rows) (sym c.as_slice-in-loop-number.ensures.items)
-        (subst (λ u. OpsFit c.in-Partition.ops w u) (sym c.in_ok-rows-in-Partition.ensures.rows) (partition.rows-fit c.in-Partition.ops w table c.get.result.now here inside)),
+            (subst (λ u. OpsFit c.in-Partition.ops w u) (sym c.in_ok-rows-in-Partition.ensures.rows) (partition.rows-fit c.in-Partition.ops w table c.get.result.now here inside)),
       ),
     )
 
@@ -158,7 +153,7 @@ op_table-append-requires t c =
     let fits = partition.subquery-fits c.args.op.now c.in-Partition.key ops w (input_table c.args.from) c.in-Partition.is c.requires.fits in
     let here = subst (λ u. OpsFit ops w u) (sym c.as_table-table.ensures.table) fits in
     let inside = partition.list-inside c.as_str.result.now table c.in_ok-keyed-in-Partition.keyed c.loop-number.number c.get.result.now c.in_ok-keyed-in-Partition.ensures.rows
-        (omega (arith, c.loop-number-test.true, c.len-number-end.ensures.count)) c.get.ensures.same in
+    (omega (arith, c.loop-number-test.true, c.len-number-end.ensures.count)) c.get.ensures.same in
     let part = c.in_ok-part-in-Partition.ensures.table ∙ ap (λ os. partition.made_of os w c.in_ok-rows-in-Partition.rows) c.as_slice-in-loop-number.ensures.items in
     partition.same-kinds ops w table c.in_ok-rows-in-Partition.rows c.in_ok-part-in-Partition.part c.loop-number.made c.get.result.now here c.in_ok-rows-in-Partition.ensures.rows part inside c.loop-number.invariant.columns
 
@@ -177,7 +172,7 @@ op_table-loop-number-preserved t c =
     let w = world_of c.args.catalogue.now c.args.lets.now in
     let part = c.in_ok-part-in-Partition.ensures.table ∙ ap (λ os. partition.made_of os w c.in_ok-rows-in-Partition.rows) c.as_slice-in-loop-number.ensures.items in
     let more = partition.rows-more c.in-Partition.ops w c.as_table-table.result.now c.in_ok-keyed-in-Partition.keyed c.loop-number.number c.get.result.now c.in_ok-part-in-Partition.part c.in_ok-rows-in-Partition.rows
-        (omega (arith, c.loop-number-test.true, c.len-number-end.ensures.count)) c.get.ensures.same c.in_ok-rows-in-Partition.ensures.rows part in
+    (omega (arith, c.loop-number-test.true, c.len-number-end.ensures.count)) c.get.ensures.same c.in_ok-rows-in-Partition.ensures.rows part in
     record {
       columns = ap (λ (g : Grid). g.columns) c.in_ok-append-in-Partition.ensures.added ∙ c.loop-number.invariant.columns;
       lines = ap (λ (g : Grid). g.lines) c.in_ok-append-in-Partition.ensures.added ∙ (ap (λ rows. rows ++ c.in_ok-part-in-Partition.part.lines) c.loop-number.invariant.lines ∙ sym more);
