@@ -48,10 +48,17 @@ fn cut_with(
     Ok(Some(ends))
 }
 
+/// How many items a pattern has at most. The search goes three frames deep for each item, and for more of them there is no room on
+/// the stack: that is want of memory too.
+const MOST_ITEMS: usize = 10_000;
+
 /// A slot for each of so many items.
 pub(crate) fn slots_of(alloc: Global, count: usize) -> Result<Vec<Slot>, AllocError>
     ensures count { IfOk result (λ v. length v.items ≡ count) }
 {
+    if count > MOST_ITEMS {
+        return Err(AllocError);
+    }
     let mut slots = Vec::with_capacity(alloc, count)?;
     'each: for _k in 0..count {
         slots.push(Slot::new(alloc))?;
