@@ -7,6 +7,7 @@ pub mod JoinLaws
 pub mod JoinStates
 pub mod KeyFacts
 pub mod ListLaws
+pub mod PieceLaws
 pub mod RowLaws
 pub mod StateLaws
 pub mod TotalFacts

@@ -3,4 +3,5 @@ pub mod Folds
 pub mod Kept
 pub mod Keys
 pub mod Laws
+pub mod Pieces
 pub mod States

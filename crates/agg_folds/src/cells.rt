@@ -1,5 +1,6 @@
 //! What is read of a cell.
-ghost use Rattle.std.specs.Prelude.{◌≡◌, map};
+ghost use Rattle.std.specs.Prelude.{◌≡◌, FitsSigned, IfSome, map};
+ghost use Rattle.std.specs.Int.{w64};
 ghost use Rattle.kql_cells.specs.Seen.{seen};
 ghost use Rattle.kql_scalar_fns.specs.Arguments.{argument};
 ghost use Rattle.kql_scalar_fns.specs.Choice.{is_below};
@@ -42,6 +43,17 @@ pub(crate) fn number_of(cell: CellRef<'_>) -> Option<i64>
         CellRef::Moment(n) => Some(n),
         CellRef::Span(n) => Some(n),
         _ => None,
+    }
+}
+
+/// The number that the first argument is. It has 64 bits.
+pub(crate) fn first_number(args: &[CellRef<'_>]) -> Option<i64>
+    ensures value { result ≡ number_of (argument (map seen args.now) 0) }
+    ensures fits { IfSome result (λ n. FitsSigned w64 n) }
+{
+    match number_of(argument(args, 0)) {
+        None => None,
+        Some(n) => Some(n),
     }
 }
 

@@ -100,6 +100,7 @@ impl<'a> Fold<'a> {
     /// Takes the rows of another fold of the same call behind its own. Without memory it is not known which it has taken.
     pub fn join(&mut self, other: &Fold<'a>) -> Result<(), AllocError>
         requires room { self.old.count + other.now.count ≤ 2 ^ 63 }
+        ensures joined { OnOk result (self.new ≡ with_fold self.old other.now) }
         ensures rows { (call : FoldCall) (rows more : List (List Cell)) → HaveOneKind rows more → self.old ≡ fold_of call rows → other.now ≡ fold_of call more → OnOk result (self.new ≡ fold_of call (rows ++ more)) }
     {
         self.take_all(other)
