@@ -1,4 +1,5 @@
 -- A table in the columns of a union, column by column.
+use Rattle.std.specs.Borrow.{Bor}
 use Rattle.std.specs.Prelude.{Bool, List, map}
 use Rattle.std.specs.List.{list_all}
 use Rattle.kql_cells.specs.Named.{column_name, place_of}
@@ -20,3 +21,7 @@ are_of_type_in columns table = list_all (λ (c : Column). is_of_type_in c table)
 -- The columns of each table.
 abbrev pub columns_of : List Grid → List (List Column)
 columns_of tables = map (λ (t : Grid). t.columns) tables
+
+-- Tables that are lent.
+abbrev pub tables_lent : List (Bor Grid) → List Grid
+tables_lent tables = map (λ (t : Bor Grid). t.now) tables

@@ -1,11 +1,11 @@
 //! `union`.
-ghost use Rattle.std.specs.Prelude.{◌≡◌, ◌∷◌, map, IfOk, IsTrue};
+ghost use Rattle.std.specs.Prelude.{◌≡◌, ◌∷◌, IfOk, IsTrue};
 ghost use Rattle.std.specs.List.{flat_map, list_all};
 ghost use Rattle.kql_cells.specs.Named.{HasDistinctNames, column_name};
 ghost use Rattle.kql_cells.specs.Table.{Grid};
 ghost use Rattle.kql_meaning.specs.FittingOperators.{union_fits};
 ghost use Rattle.kql_meaning.specs.Union.{rows_in_columns, union_columns, union_table};
-ghost use Rattle.table_ops.specs.InColumns.{are_of_type_in, columns_of};
+ghost use Rattle.table_ops.specs.InColumns.{are_of_type_in, columns_of, tables_lent};
 
 use crate::in_columns::in_columns;
 use kql_cells::{Column, copy_columns};
@@ -24,11 +24,11 @@ pub fn union_tables(
     alloc: Global,
     inner: bool,
     first: &Table,
-    others: &[Table],
+    others: &[&Table],
 ) -> Result<Table, AllocError>
-    requires fits { IsTrue (union_fits (union_columns inner first.now.columns (map (λ (t : Grid). t.columns) others.now)) (first.now.columns ∷ map (λ (t : Grid). t.columns) others.now)) }
-    requires names { HasDistinctNames column_name (union_columns inner first.now.columns (map (λ (t : Grid). t.columns) others.now)) }
-    ensures table { IfOk result (λ r. r ≡ union_table inner first.now others.now) }
+    requires fits { IsTrue (union_fits (union_columns inner first.now.columns (columns_of (tables_lent others.now))) (first.now.columns ∷ columns_of (tables_lent others.now))) }
+    requires names { HasDistinctNames column_name (union_columns inner first.now.columns (columns_of (tables_lent others.now))) }
+    ensures table { IfOk result (λ r. r ≡ union_table inner first.now (tables_lent others.now)) }
 {
     let schemas = columns_of(alloc, others)?;
     let columns = union_columns(alloc, inner, first.schema().columns(), schemas.as_slice())?;
@@ -41,16 +41,16 @@ fn tables_in(
     alloc: Global,
     columns: &[Column],
     first: &Table,
-    others: &[Table],
+    others: &[&Table],
 ) -> Result<Table, AllocError>
     requires names { HasDistinctNames column_name columns.now }
     requires first { IsTrue (are_of_type_in columns.now first.now.columns) }
-    requires others { IsTrue (list_all (λ (t : Grid). are_of_type_in columns.now t.columns) others.now) }
-    ensures table { IfOk result (λ r. r ≡ record { columns = columns.now; lines = flat_map (rows_in_columns columns.now) (first.now ∷ others.now) }) }
+    requires others { IsTrue (list_all (λ (t : Grid). are_of_type_in columns.now t.columns) (tables_lent others.now)) }
+    ensures table { IfOk result (λ r. r ≡ record { columns = columns.now; lines = flat_map (rows_in_columns columns.now) (first.now ∷ tables_lent others.now) }) }
 {
     let mut made = in_columns(alloc, first, columns)?;
     'tables: for other in others {
-        let more = in_columns(alloc, other, columns)?;
+        let more = in_columns(alloc, *other, columns)?;
         made.append(more)?;
     }
     Ok(made)
@@ -58,8 +58,8 @@ fn tables_in(
 
 // The columns of each table.
 #[tactic(auto, unfolding(crate::specs::InColumns::columns_of))]
-fn columns_of(alloc: Global, tables: &[Table]) -> Result<Items<Items<Column>>, AllocError>
-    ensures columns { IfOk result (λ cs. cs ≡ columns_of tables.now) }
+fn columns_of(alloc: Global, tables: &[&Table]) -> Result<Items<Items<Column>>, AllocError>
+    ensures columns { IfOk result (λ cs. cs ≡ columns_of (tables_lent tables.now)) }
 {
     let mut all = Items::with_capacity(alloc, tables.len())?;
     for table in tables {

@@ -3,4 +3,4 @@ use Rattle.table_ops.proofs.UnionFacts.{made-more}
 use Rattle.table_ops.proofs.union.tables_in.Goals as goal
 
 pub tables-preserved : goal.tables-preserved
-tables-preserved c = made-more c.args.columns.now c.args.first.now c.other-item.result c.tables.made c.in_ok-more.more c.append.new.self c.args.others.now c.tables.other-index (search rules) c.other-item.is c.tables.invariant c.in_ok-more.ensures.table c.in_ok-append.ensures.added
+tables-preserved c = made-more c.args.columns.now c.args.first.now c.tables.made c.in_ok-more.more c.append.new.self c.other-item.result c.args.others.now c.tables.other-index (search rules) c.other-item.is c.tables.invariant c.in_ok-more.ensures.table c.in_ok-append.ensures.added
