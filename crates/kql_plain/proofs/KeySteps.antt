@@ -1,71 +1,25 @@
 -- The rows of each key of a column.
-use Rattle.std.proofs.Common.{◌≡◌, ◌<◌, ◌+◌, Bor, ℕ, zero, suc, Bool, true, false, List, [], ◌∷◌, map, filter, length, get_or, refl, ap, ap₂, sym, ◌∙◌, inl, inr, arith}
-use Rattle.std.specs.Prelude.{not, Some, slice_get}
+use Rattle.std.proofs.Common.{◌≡◌, ◌<◌, ◌+◌, Bor, ℕ, suc, List, [], ◌∷◌, map, filter, length, get_or, refl, ap, ap₂, sym, ◌∙◌, arith}
+use Rattle.std.specs.Prelude.{not}
 use Rattle.std.specs.List.{range_with_len}
-use Rattle.std.proofs.lemmas.Bool.{cases_Bool}
 use Rattle.std.proofs.lemmas.List.{length-map}
 use Rattle.std.proofs.lemmas.List.FromFn.{get_or-map-range_with_len, length-map-range_with_len}
-use Rattle.std.proofs.lemmas.Option.{slice_get_within}
 use Rattle.kql_cells.specs.Keys.{same_keys-decides, same_keys-equiv}
-use Rattle.kql_cells.specs.Named.{column_name, place_of}
-use Rattle.kql_cells.specs.Seen.{row_at, value_at}
-use Rattle.kql_cells.specs.Table.{Grid, IsGrid}
-use Rattle.kql_cells.specs.declared.schema.Column.{Column}
+use Rattle.kql_cells.specs.Seen.{value_at}
+use Rattle.kql_cells.specs.Table.{Grid}
 use Rattle.kql_cells.specs.declared.value.Value.{Value}
 use Rattle.kql_cells.specs.declared.value.Value.TheVariants as value
-use Rattle.kql_cells.proofs.RowLaws.{length-RowFits}
-use Rattle.kql_values.specs.Grids.{column_at, row_of, rows_of}
+use Rattle.kql_values.specs.Grids.{row_of, rows_of}
 use Rattle.kql_keys.specs.Numbers.{distinct, first_places, numbers_of}
 use Rattle.kql_keys.specs.Places.{places_by, places_of}
 use Rattle.kql_keys.proofs.KeyLaws.{first-keys, group-rows}
 use Rattle.kql_meaning.specs.Groups.{distinct_keys}
 use Rattle.kql_meaning.specs.Partition.{key_in_column}
-use Rattle.kql_meaning.specs.Tables.{absent_in, cell, cell_in, distinct_by, places, places_below}
+use Rattle.kql_meaning.specs.Tables.{cell, distinct_by, places, places_below}
 use Rattle.kql_meaning.specs.Values.{same_keys}
-use Rattle.kql_meaning.proofs.JoinLaws.{map-map}
-use Rattle.kql_meaning.proofs.RowByRowLaws.{rows-at-all}
-use Rattle.kql_fit_laws.proofs.RowFacts.{found-place}
-use Rattle.kql_plain.specs.Keys.{column_cells, rows_by_key, rows_of_key}
-
--- Lists made of a range, item by item.
-
-map-range-same : {X : Type 0} (f g : ℕ → X) (a n : ℕ) → ((i : ℕ) → i < a + n → f i ≡ g i) → map f (range_with_len a n) ≡ map g (range_with_len a n)
-map-range-same f g a zero h = refl
-map-range-same f g a (suc n) h = ap₂ (λ x xs. x ∷ xs) (h a (omega arith)) (map-range-same f g (a + 1) n (λ i lt. h i (omega (arith, lt))))
-
-filter-same : (p q : ℕ → Bool) (is : List ℕ) → ((i : ℕ) → p i ≡ q i) → filter p is ≡ filter q is
-filter-same p q [] h = refl
-filter-same p q (i ∷ is) h = elim (cases_Bool (q i)) [
-  | inl t ↦ let s : p i ≡ true = h i ∙ t in rw (s, t, filter-same p q is h) refl
-  | inr n ↦ let s = h i ∙ n in rw (s, n) (filter-same p q is h)
-]
-
--- The column of a name.
-
-pub place-inside : (cs : List Column) (n : List ℕ) (p : ℕ) → Some p ≡ place_of column_name n cs → p < length cs
-place-inside cs n p e = let q = found-place cs n p (sym e) in slice_get_within cs p q.0 q.1
-
-same-inside : (vs : List Value) (j : ℕ) (d e : Value) → j < length vs → get_or vs j d ≡ get_or vs j e
-same-inside [] j d e lt = absurd (omega (arith, lt))
-same-inside (v ∷ vs) zero d e lt = refl
-same-inside (v ∷ vs) (suc j) d e lt = same-inside vs j d e (omega (arith, lt))
-
-cell-there : (t : Grid) (i p : ℕ) (n : List ℕ) → IsGrid t → i < length t.lines → p < length t.columns → place_of column_name n t.columns ≡ Some p → cell t i n ≡ value_at (row_at t.lines i) p
-unfolding cell cell_in
-cell-there t i p n fits row inside is =
-    let width = length-RowFits t.columns (row_at t.lines i) (fits i [] row) in
-    let k : p < length (row_at t.lines i) = omega (arith, width, inside) in
-    ap (cell_in t i) is ∙ same-inside (row_at t.lines i) p (absent_in (slice_get t.columns p)) value.Null k
-
-pub column-down : (t : Grid) (n : List ℕ) (p : ℕ) (v : List Value) → IsGrid t → Some p ≡ place_of column_name n t.columns → v ≡ column_at t.lines p → v ≡ column_cells t n
-unfolding column_cells places places_below
-column-down t n p v fits is e =
-    let inside = place-inside t.columns n p is in
-    e ∙ (ap (map (λ row. value_at row p)) (sym (rows-at-all t))
-    ∙ (map-map (λ row. value_at row p) (row_at t.lines) (places t)
-    ∙ map-range-same (λ i. value_at (row_at t.lines i) p) (λ i. cell t i n) 0 (length t.lines) (λ i lt. sym (cell-there t i p n fits (omega (arith, lt)) inside (sym is)))))
-
-pub ruleset column_steps = (place-inside, column-down)
+use Rattle.join_op.specs.Sides.{column_cells}
+use Rattle.join_op.proofs.ListSteps.{filter-same, map-range-same}
+use Rattle.kql_plain.specs.Keys.{rows_by_key, rows_of_key}
 
 -- Keys of one column.
 

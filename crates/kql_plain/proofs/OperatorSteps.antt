@@ -1,8 +1,9 @@
 -- What operators mean, variant by variant, and one after another.
-use Rattle.std.proofs.Common.{◌≡◌, ◌<◌, ◌≤◌, ◌+◌, ℕ, zero, suc, arith, drop, get_or, length, Bool, true, List, [], ◌∷◌, map, refl, sym, ap, ◌∙◌, subst, rules}
+use Rattle.std.proofs.Common.{◌≡◌, ◌<◌, ◌≤◌, ◌+◌, ℕ, zero, suc, arith, drop, get_or, length, Bool, true, List, [], ◌∷◌, map, refl, sym, ap, ap₂, ◌∙◌, subst, rules}
 use Rattle.std.specs.Prelude.{None, Option, Some, fold, is_some}
 use Rattle.std.specs.List.{list_all}
 use Rattle.std.proofs.lemmas.Bool.{and_parts}
+use Rattle.kql_cells.specs.Named.{HasDistinctNames, column_name}
 use Rattle.kql_cells.specs.Table.{Grid}
 use Rattle.kql_cells.specs.declared.schema.Column.{Column}
 use Rattle.kql_bound.specs.declared.expr.BExpr.{BExpr}
@@ -21,7 +22,8 @@ use Rattle.kql_bound.specs.declared.plan.Op.TheVariants as V
 use Rattle.kql_bound.specs.declared.plan.Plan.{Plan}
 use Rattle.kql_meaning.specs.Extend.{extend_table}
 use Rattle.kql_meaning.specs.Fits.{Known, op_columns, ops_columns}
-use Rattle.kql_meaning.specs.Join.{join_table}
+use Rattle.kql_meaning.specs.FittingOperators.{join_fits, union_fits}
+use Rattle.kql_meaning.specs.Join.{join_columns, join_table}
 use Rattle.kql_meaning.specs.MakeSeries.{series_table}
 use Rattle.kql_meaning.specs.MvExpand.{expand_table}
 use Rattle.kql_meaning.specs.Parse.{parse_table}
@@ -31,7 +33,7 @@ use Rattle.kql_meaning.specs.Scan.{scan_table}
 use Rattle.kql_meaning.specs.Sort.{sort_table, top_table}
 use Rattle.kql_meaning.specs.Summarize.{summarize_table}
 use Rattle.kql_meaning.specs.TakeAndCount.{count_table, take_table}
-use Rattle.kql_meaning.specs.Union.{union_table}
+use Rattle.kql_meaning.specs.Union.{union_columns, union_table}
 use Rattle.kql_meaning.specs.Where.{where_table}
 use Rattle.kql_meaning.proofs.OperatorFitLaws.{after, after-none, after-some, ops-fold, stays-none}
 use Rattle.kql_meaning.proofs.PlanLaws.{op_means-out}
@@ -40,7 +42,7 @@ use Rattle.kql_fit_laws.specs.LawsOfRows.{IsTable}
 use Rattle.kql_plain.specs.AtHand.{IsSo, OpFits, OpsFit, PlanFits, PlansFit, plans_mean}
 use Rattle.kql_plain.specs.Built.{op_is_built, plan_is_built}
 use Rattle.kql_plain.proofs.BuiltSteps.{built-Join, built-Union, built_steps}
-use Rattle.kql_plain.proofs.FitSteps.{fit_steps, means-each, plan-Join, plans-Union}
+use Rattle.kql_plain.proofs.FitSteps.{columns_of, fit_steps, fits-Join, fits-Union, means-each, names-Join, names-Union, plan-Join, plans-Union}
 
 -- What each means.
 
@@ -174,3 +176,40 @@ pub more-done : (o : Op) (os left : List Op) (w : World) (t next all : Grid) →
 more-done o os left w t next all is made rest =
     ap (λ (u : Grid). one_after_another (map op_means os) w u) made
     ∙ (sym (one-more o os w t) ∙ (ap (λ (ps : List Op). one_after_another (map op_means ps) w t) (sym is) ∙ rest))
+
+-- An operator that changes nothing.
+
+unchanged : (o : Op) (w : World) (t : Grid) → o ≡ V.Serialize → op_means o w t ≡ t
+unchanged o w t is = ap (λ (p : Op). op_means p w t) is ∙ means-Serialize w t
+
+pub unchanged-fits : (o : Op) (os : List Op) (w : World) (t : Grid) → o ≡ V.Serialize → OpsFit (o ∷ os) w t → OpsFit os w t
+unchanged-fits o os w t is f = subst (λ (u : Grid). OpsFit os w u) (unchanged o w t is) (others-fit o os w t f)
+
+pub unchanged-done : (o : Op) (os left : List Op) (w : World) (t next all : Grid) → left ≡ o ∷ os → o ≡ V.Serialize → next ≡ t → one_after_another (map op_means left) w t ≡ all → one_after_another (map op_means os) w next ≡ all
+unchanged-done o os left w t next all here is same rest = more-done o os left w t next all here (same ∙ sym (unchanged o w t is)) rest
+
+-- The tables of a join and of a union, as they are lent.
+
+pub join-fits-lent : (o : Op) (j : JoinPlan) (right : Plan) (w : World) (t a b : Grid) → o ≡ V.Join j right → OpFits o w t → a ≡ t → b ≡ plan_means right w → join_fits j a.columns b.columns ≡ true
+join-fits-lent o j right w t a b is f left other =
+    ap₂ (λ (g h : Grid). join_fits j g.columns h.columns) left other ∙ fits-Join j right w t (subst (λ (p : Op). OpFits p w t) is f)
+
+pub join-names-lent : (o : Op) (j : JoinPlan) (right : Plan) (w : World) (t a b : Grid) → o ≡ V.Join j right → OpFits o w t → a ≡ t → b ≡ plan_means right w → HasDistinctNames column_name (join_columns j.kind j a.columns b.columns)
+join-names-lent o j right w t a b is f left other =
+    subst (HasDistinctNames column_name) (sym (ap₂ (λ (g h : Grid). join_columns j.kind j g.columns h.columns) left other)) (names-Join j right w t (subst (λ (p : Op). OpFits p w t) is f))
+
+pub joined-means : (o : Op) (j : JoinPlan) (right : Plan) (w : World) (t a b : Grid) → o ≡ V.Join j right → a ≡ t → b ≡ plan_means right w → join_table j a b ≡ op_means o w t
+joined-means o j right w t a b is left other =
+    ap₂ (join_table j) left other ∙ sym (ap (λ (p : Op). op_means p w t) is ∙ means-Join j right w t)
+
+pub union-fits-lent : (o : Op) (inner : Bool) (others : List Plan) (w : World) (t a : Grid) (ts : List Grid) → o ≡ V.Union inner others → OpFits o w t → a ≡ t → ts ≡ plans_mean others w → union_fits (union_columns inner a.columns (columns_of ts)) (a.columns ∷ columns_of ts) ≡ true
+union-fits-lent o inner others w t a ts is f left all =
+    ap₂ (λ (g : Grid) (us : List Grid). union_fits (union_columns inner g.columns (columns_of us)) (g.columns ∷ columns_of us)) left all ∙ fits-Union inner others w t (subst (λ (p : Op). OpFits p w t) is f)
+
+pub union-names-lent : (o : Op) (inner : Bool) (others : List Plan) (w : World) (t a : Grid) (ts : List Grid) → o ≡ V.Union inner others → OpFits o w t → a ≡ t → ts ≡ plans_mean others w → HasDistinctNames column_name (union_columns inner a.columns (columns_of ts))
+union-names-lent o inner others w t a ts is f left all =
+    subst (HasDistinctNames column_name) (sym (ap₂ (λ (g : Grid) (us : List Grid). union_columns inner g.columns (columns_of us)) left all)) (names-Union inner others w t (subst (λ (p : Op). OpFits p w t) is f))
+
+pub united-means : (o : Op) (inner : Bool) (others : List Plan) (w : World) (t a : Grid) (ts : List Grid) → o ≡ V.Union inner others → a ≡ t → ts ≡ plans_mean others w → union_table inner a ts ≡ op_means o w t
+united-means o inner others w t a ts is left all =
+    ap₂ (union_table inner) left all ∙ sym (ap (λ (p : Op). op_means p w t) is ∙ means-Union inner others w t)

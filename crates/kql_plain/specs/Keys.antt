@@ -4,7 +4,7 @@ use Rattle.kql_cells.specs.Table.{Grid}
 use Rattle.kql_cells.specs.declared.value.Value.{Value}
 use Rattle.kql_meaning.specs.Groups.{distinct_keys}
 use Rattle.kql_meaning.specs.Partition.{key_in_column}
-use Rattle.kql_meaning.specs.Tables.{cell, places}
+use Rattle.kql_meaning.specs.Tables.{places}
 use Rattle.kql_meaning.specs.Values.{same_keys}
 
 -- The places of the rows of a key, rising.
@@ -14,7 +14,3 @@ rows_of_key c t k = filter (λ i. same_keys (key_in_column c t i) k) (places t)
 -- Those of each key, keys in order of first occurrence.
 unfoldable pub rows_by_key : List ℕ → Grid → List (List ℕ)
 rows_by_key c t = map (rows_of_key c t) (distinct_keys (key_in_column c t) t)
-
--- The cells of a column at all rows.
-unfoldable pub column_cells : Grid → List ℕ → List Value
-column_cells t name = map (λ i. cell t i name) (places t)

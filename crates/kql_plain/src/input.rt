@@ -1,6 +1,7 @@
 //! The table that an operator takes.
-ghost use Rattle.std.specs.Prelude.{◌≡◌, IfOk};
+ghost use Rattle.std.specs.Prelude.{◌≡◌, IfOk, map};
 ghost use Rattle.kql_meaning.specs.TakeAndCount.{take_table};
+ghost use Rattle.table_ops.specs.InColumns.{tables_lent};
 ghost use Rattle.kql_plain.specs.Inputs.{input_table};
 
 use kql_values::Table;
@@ -56,4 +57,19 @@ fn copy_first(alloc: Global, t: &Table, n: u64) -> Result<Table, AllocError>
     } else {
         t.copy(alloc)
     }
+}
+
+/// Tables that were taken, each lent.
+pub(crate) fn lent_tables<'a>(
+    alloc: Global,
+    inputs: &'a [Input<'_>],
+) -> Result<Vec<&'a Table>, AllocError>
+    ensures tables { IfOk result (λ ts. tables_lent ts.items ≡ map input_table inputs.now) }
+{
+    let mut tables = Vec::with_capacity(alloc, inputs.len())?;
+    for k in 0..inputs.len() {
+        let table = inputs[k].as_table();
+        tables.push(table)?;
+    }
+    Ok(tables)
 }

@@ -1,11 +1,12 @@
 //! The rows of each key of a column.
-ghost use Rattle.std.specs.Prelude.{◌≡◌, IfOk, IsTrue, is_some, length};
+ghost use Rattle.std.specs.Prelude.{◌≡◌, IfOk, IsTrue, is_some};
 ghost use Rattle.kql_cells.specs.Named.{column_name, place_of};
 ghost use Rattle.kql_meaning.specs.Tables.{emptied};
-ghost use Rattle.kql_plain.specs.Keys.{column_cells, rows_by_key};
+ghost use Rattle.kql_plain.specs.Keys.{rows_by_key};
 
+use join_op::key_column;
 use kql_keys::{Numbered, PlaceLists, number_keys, places_by_number};
-use kql_values::{Table, Vector};
+use kql_values::Table;
 use std::alloc::{AllocError, Global};
 
 /// The places of the rows of each key of a column, in one pass: keys in order of first occurrence, places rising. Null is a key.
@@ -25,17 +26,4 @@ pub(crate) fn emptied(alloc: Global, t: &Table) -> Result<Table, AllocError>
     ensures rows { IfOk result (λ r. r ≡ emptied t.now) }
 {
     t.slice(alloc, 0, 0)
-}
-
-// The column of a name.
-#[tactic(auto, using(crate::proofs::KeySteps::column_steps))]
-fn key_column<'a>(t: &'a Table, name: &str) -> &'a Vector
-    requires stands { IsTrue (is_some (place_of column_name name.now t.now.columns)) }
-    ensures cells { result.now ≡ column_cells t.now name.now }
-    ensures count { length result.now ≡ length t.now.lines }
-{
-    match t.schema().find(name) {
-        Some(place) => t.column(place),
-        None => unreachable!(),
-    }
 }

@@ -1,6 +1,7 @@
 //! Plans: a source, and operators one after another, each a call of the crate that has its body.
-ghost use Rattle.std.specs.Prelude.{◌≡◌, map, IfOk, IsTrue};
+ghost use Rattle.std.specs.Prelude.{◌≡◌, false, map, IfOk, IsTrue};
 ghost use Rattle.std.specs.List.{list_all};
+ghost use Rattle.kql_bound.specs.declared.plan.Op.TheVariants as operator;
 ghost use Rattle.kql_cells.specs.Named.{HasDistinctNames, column_name};
 ghost use Rattle.kql_meaning.specs.FittingOperators.{items_fit};
 ghost use Rattle.kql_meaning.specs.Items.{items_columns};
@@ -11,13 +12,12 @@ ghost use Rattle.kql_plain.specs.AtHand.{OpFits, OpsFit, PlanFits, PlansFit, pla
 ghost use Rattle.kql_plain.specs.Built.{op_is_built, plan_is_built};
 ghost use Rattle.kql_plain.specs.Inputs.{input_table};
 
-use crate::input::Input;
+use crate::input::{Input, lent_tables};
 use crate::keys::{emptied, rows_by_key};
 use crate::sources::source_table;
 use join_op::join_tables;
 use kql_bound::{BItem, Op, Plan};
-use kql_items::Items;
-use kql_values::{Catalogue, Table, Tables};
+use kql_values::{Catalogue, Table};
 use order_ops::{sort_rows, top_rows};
 use parse_op::parse_rows;
 use row_ops::count_rows;
@@ -28,8 +28,6 @@ use table_ops::{expand_rows, union_tables};
 use window_ops::{extend_rows, project_rows, where_rows, window_rows};
 
 /// The table of a plan: its source, and then its operators.
-#[cycle(plan_table)]
-#[tactic(auto, using(crate::proofs::PlanSteps::plan_steps))]
 pub(crate) fn plan_table(
     alloc: Global,
     plan: &Plan,
@@ -40,55 +38,85 @@ pub(crate) fn plan_table(
     requires fits { PlanFits plan.now (world_of catalogue.now lets.now) }
     ensures table { IfOk result (λ t. t ≡ plan_means plan.now (world_of catalogue.now lets.now)) }
 {
+    let made = plan_input(alloc, plan, catalogue, lets)?;
+    let table = made.into_table(alloc)?;
+    Ok(table)
+}
+
+// The same, to be read: a plan that is a source alone lends a table of the catalogue or of a let.
+#[cycle(plan_input)]
+#[tactic(auto, using(crate::proofs::PlanSteps::plan_steps))]
+fn plan_input<'a>(
+    alloc: Global,
+    plan: &Plan,
+    catalogue: &'a Catalogue,
+    lets: &'a [Table],
+) -> Result<Input<'a>, AllocError>
+    requires built { IsTrue (plan_is_built plan.now) }
+    requires fits { PlanFits plan.now (world_of catalogue.now lets.now) }
+    ensures table { IfOk result (λ t. input_table t ≡ plan_means plan.now (world_of catalogue.now lets.now)) }
+{
     match source_table(alloc, &plan.source, catalogue, lets) {
-        Ok(source) => ops_table(alloc, plan.ops.as_slice(), catalogue, lets, source),
+        Ok(source) => ops_input(alloc, plan.ops.as_slice(), catalogue, lets, source),
         Err(e) => Err(e),
     }
 }
 
-// The tables of plans, in order.
-#[cycle(plan_table)]
-fn plans_tables(
+// The tables of plans, in order, to be read.
+#[cycle(plan_input)]
+fn plans_inputs<'a>(
     alloc: Global,
     plans: &[Plan],
-    catalogue: &Catalogue,
-    lets: &[Table],
-) -> Result<Tables, AllocError>
+    catalogue: &'a Catalogue,
+    lets: &'a [Table],
+) -> Result<Vec<Input<'a>>, AllocError>
     requires built { IsTrue (list_all plan_is_built plans.now) }
     requires fits { PlansFit plans.now (world_of catalogue.now lets.now) }
-    ensures tables { IfOk result (λ ts. ts ≡ plans_mean plans.now (world_of catalogue.now lets.now)) }
+    ensures tables { IfOk result (λ ts. map input_table ts.items ≡ plans_mean plans.now (world_of catalogue.now lets.now)) }
 {
-    let mut made = Items::with_capacity(alloc, plans.len())?;
+    let mut made = Vec::with_capacity(alloc, plans.len())?;
     for plan in plans {
-        let table = plan_table(alloc, plan, catalogue, lets)?;
+        let table = plan_input(alloc, plan, catalogue, lets)?;
         made.push(table)?;
     }
     Ok(made)
 }
 
-// What operators make of a table, one after another.
-#[cycle(plan_table)]
-fn ops_table(
+// What operators make of a table, one after another. One that changes nothing hands its table on as it is.
+#[cycle(plan_input)]
+fn ops_input<'a>(
     alloc: Global,
     ops: &[Op],
     catalogue: &Catalogue,
     lets: &[Table],
-    from: Input<'_>,
-) -> Result<Table, AllocError>
+    from: Input<'a>,
+) -> Result<Input<'a>, AllocError>
     requires built { IsTrue (list_all op_is_built ops.now) }
     requires fits { OpsFit ops.now (world_of catalogue.now lets.now) (input_table from) }
-    ensures table { IfOk result (λ t. t ≡ one_after_another (map op_means ops.now) (world_of catalogue.now lets.now) (input_table from.entry)) }
+    ensures table { IfOk result (λ t. input_table t ≡ one_after_another (map op_means ops.now) (world_of catalogue.now lets.now) (input_table from.entry)) }
 {
     let mut made = from;
     for op in ops {
-        let next = op_table(alloc, op, catalogue, lets, made)?;
-        made = Input::Owned(next);
+        if changes(op) {
+            let next = op_table(alloc, op, catalogue, lets, made)?;
+            made = Input::Owned(next);
+        }
     }
-    made.into_table(alloc)
+    Ok(made)
+}
+
+// Whether an operator may give another table than it takes: `serialize` alone does not.
+fn changes(op: &Op) -> bool
+    ensures unchanged { result ≡ false → op.now ≡ operator.Serialize }
+{
+    match op {
+        Op::Serialize => false,
+        _ => true,
+    }
 }
 
 // What one operator makes of a table.
-#[cycle(plan_table)]
+#[cycle(plan_input)]
 #[tactic(auto, using(crate::proofs::OperatorSteps::op_steps))]
 fn op_table(
     alloc: Global,
@@ -121,24 +149,27 @@ fn op_table(
             parse_rows(alloc, table, parse)
         }
         Op::Join(join, right) => {
-            let right = plan_table(alloc, right, catalogue, lets)?;
-            join_tables(alloc, from.as_table(), &right, join)
+            let right = plan_input(alloc, right, catalogue, lets)?;
+            join_tables(alloc, from.as_table(), right.as_table(), join)
         }
         Op::Union(inner, others) => {
-            let others = plans_tables(alloc, others.as_slice(), catalogue, lets)?;
-            union_tables(alloc, *inner, from.as_table(), others.as_slice())
+            let others = plans_inputs(alloc, others.as_slice(), catalogue, lets)?;
+            let tables = lent_tables(alloc, others.as_slice())?;
+            union_tables(alloc, *inner, from.as_table(), tables.as_slice())
         }
         Op::Scan(scan) => scan_rows(alloc, from.as_table(), scan),
         Op::Partition(key, ops) => {
             let table = from.as_table();
             let none = emptied(alloc, table)?;
-            let mut made = ops_table(alloc, ops.as_slice(), catalogue, lets, Input::Owned(none))?;
+            let empty = ops_input(alloc, ops.as_slice(), catalogue, lets, Input::Owned(none))?;
+            let mut made = empty.into_table(alloc)?;
             made.truncate(0);
             let keyed = rows_by_key(alloc, table, key.as_str())?;
             let lists = &keyed;
             for number in 0..lists.len() {
                 let rows = table.gather(alloc, lists.get(number))?;
-                let part = ops_table(alloc, ops.as_slice(), catalogue, lets, Input::Owned(rows))?;
+                let given = ops_input(alloc, ops.as_slice(), catalogue, lets, Input::Owned(rows))?;
+                let part = given.into_table(alloc)?;
                 made.append(part)?;
             }
             Ok(made)

@@ -1,6 +1,7 @@
-use Rattle.std.proofs.Common.{◌≡◌, ◌∷◌, ◌+◌, ◌++◌, ◌∙◌, ℕ, List, ap, arith, drop, rules, subst, sym, true}
-use Rattle.std.specs.Prelude.{IfOk, is_some}
+use Rattle.std.proofs.Common.{◌≡◌, ◌∷◌, ◌+◌, ◌++◌, ◌∙◌, ℕ, List, [], ap, arith, drop, map, rules, subst, sym, true}
+use Rattle.std.specs.Prelude.{is_some}
 use Rattle.std.specs.List.{list_all}
+use Rattle.std.proofs.lemmas.List.{map-append}
 use Rattle.kql_cells.specs.Named.{column_name, place_of}
 use Rattle.kql_cells.specs.Table.{Grid}
 use Rattle.kql_bound.specs.declared.plan.Op.{the_lemmas}
@@ -11,12 +12,13 @@ use Rattle.kql_plain.specs.Inputs.{input_table}
 use Rattle.kql_plain.proofs.OperatorSteps as operators
 use Rattle.kql_plain.proofs.PartitionSteps as partition
 use Rattle.kql_plain.proofs.PlanSteps as plans
-use Rattle.kql_plain.proofs.plans.+plan_table.Goals as goal
+use Rattle.kql_plain.proofs.plans.+plan_input.Goals as goal
+use Rattle.kql_plain.proofs.plans.+plan_input.Goals.{then-changes+in_ok-next, else-changes}
 
 -- The plans in an operator.
 
-pub op_table-plan_table-requires : goal.op_table-plan_table-requires
-op_table-plan_table-requires t c = (
+pub op_table-plan_input-requires : goal.op_table-plan_input-requires
+op_table-plan_input-requires t c = (
   search (rules, the_lemmas),
   (
     operators.right-built c.args.op.now c.in-Join.join c.in-Join.right c.in-Join.is c.requires.built,
@@ -24,8 +26,8 @@ op_table-plan_table-requires t c = (
   ),
 )
 
-pub op_table-plans_tables-requires : goal.op_table-plans_tables-requires
-op_table-plans_tables-requires t c = (
+pub op_table-plans_inputs-requires : goal.op_table-plans_inputs-requires
+op_table-plans_inputs-requires t c = (
   search (rules, the_lemmas),
   (
     operators.others-are-built c.args.op.now c.in-Union.inner c.in-Union.others c.as_slice-in-Union.result.now c.in-Union.is c.as_slice-in-Union.ensures.items c.requires.built,
@@ -35,8 +37,8 @@ op_table-plans_tables-requires t c = (
 
 -- Operators, one after another.
 
-pub ops_table-op_table-requires : goal.ops_table-op_table-requires
-ops_table-op_table-requires t c =
+pub ops_input-op_table-requires : goal.ops_input-op_table-requires
+ops_input-op_table-requires t c =
     let left = operators.rest-at c.args.ops.now c.loop-op.op-index c.op-item.result (omega (arith, c.loop-op-test.true)) c.op-item.is in
     let rest = drop (c.loop-op.op-index + 1) c.args.ops.now in
     let w = world_of c.args.catalogue.now c.args.lets.now in (
@@ -47,26 +49,34 @@ ops_table-op_table-requires t c =
       ),
     )
 
-pub ops_table-loop-op-preserved : goal.ops_table-loop-op-preserved
-ops_table-loop-op-preserved t c =
+pub ops_input-loop-op-preserved : goal.ops_input-loop-op-preserved
+ops_input-loop-op-preserved t c =
     let left = operators.rest-at c.args.ops.now c.loop-op.op-index c.op-item.result (omega (arith, c.loop-op-test.true)) c.op-item.is in
     let rest = drop (c.loop-op.op-index + 1) c.args.ops.now in
     let w = world_of c.args.catalogue.now c.args.lets.now in
-    record {
-      built = operators.others-built c.op-item.result rest (subst (λ os. list_all op_is_built os ≡ true) left c.loop-op.invariant.built);
-      fit = subst (λ u. OpsFit rest w u) (sym c.in_ok-next.ensures.table)
-          (operators.others-fit c.op-item.result rest w (input_table c.loop-op.made) (subst (λ os. OpsFit os w (input_table c.loop-op.made)) left c.loop-op.invariant.fit));
-      rest = operators.more-done c.op-item.result rest (drop c.loop-op.op-index c.args.ops.now) w (input_table c.loop-op.made) c.in_ok-next.next _ left c.in_ok-next.ensures.table c.loop-op.invariant.rest;
-    }
+    let before = input_table c.loop-op.made in
+    let fits = subst (λ os. OpsFit os w before) left c.loop-op.invariant.fit in
+    let built = operators.others-built c.op-item.result rest (subst (λ os. list_all op_is_built os ≡ true) left c.loop-op.invariant.built) in
+    elim c.if-changes.branch [
+      | then-changes+in_ok-next s ↦ let made = ap input_table s.made-is ∙ s.in_ok-next.ensures.table in record {
+        built = built;
+        fit = subst (λ u. OpsFit rest w u) (sym made) (operators.others-fit c.op-item.result rest w before fits);
+        rest = operators.more-done c.op-item.result rest (drop c.loop-op.op-index c.args.ops.now) w before (input_table c.if-changes.made) _ left made c.loop-op.invariant.rest;
+      }
+      | else-changes s ↦ let same = ap input_table s.made-is in let still = c.changes.ensures.unchanged s.if-changes.false in record {
+        built = built;
+        fit = subst (λ u. OpsFit rest w u) (sym same) (operators.unchanged-fits c.op-item.result rest w before still fits);
+        rest = operators.unchanged-done c.op-item.result rest (drop c.loop-op.op-index c.args.ops.now) w before (input_table c.if-changes.made) _ left still same c.loop-op.invariant.rest;
+      }
+    ]
 
-pub ops_table-returns : goal.ops_table-returns
-ops_table-returns t c =
+pub ops_input-returns : goal.ops_input-returns
+ops_input-returns t c =
     let none = operators.rest-none c.args.ops.now c.loop-op.op-index (omega (arith, c.loop-op-test.false)) in
-    let same = operators.all-done (drop c.loop-op.op-index c.args.ops.now) (world_of c.args.catalogue.now c.args.lets.now) (input_table c.loop-op.made) _ none c.loop-op.invariant.rest in
-    record { table = subst (λ u. IfOk c.into_table.result (λ r. r ≡ u)) same c.into_table.ensures.table }
+    record { table = operators.all-done (drop c.loop-op.op-index c.args.ops.now) (world_of c.args.catalogue.now c.args.lets.now) (input_table c.loop-op.made) _ none c.loop-op.invariant.rest }
 
-pub plan_table-ops_table-requires : goal.plan_table-ops_table-requires
-plan_table-ops_table-requires t c =
+pub plan_input-ops_input-requires : goal.plan_input-ops_input-requires
+plan_input-ops_input-requires t c =
     let w = world_of c.args.catalogue.now c.args.lets.now in (
       search (rules, the_lemmas),
       (
@@ -78,8 +88,8 @@ plan_table-ops_table-requires t c =
 
 -- Plans.
 
-pub plans_tables-plan_table-requires : goal.plans_tables-plan_table-requires
-plans_tables-plan_table-requires t c =
+pub plans_inputs-plan_input-requires : goal.plans_inputs-plan_input-requires
+plans_inputs-plan_input-requires t c =
     let left = operators.rest-at c.args.plans.now c.loop-plan.plan-index c.plan-item.result (omega (arith, c.loop-plan-test.true)) c.plan-item.is in
     let rest = drop (c.loop-plan.plan-index + 1) c.args.plans.now in
     let w = world_of c.args.catalogue.now c.args.lets.now in (
@@ -90,21 +100,23 @@ plans_tables-plan_table-requires t c =
       ),
     )
 
-pub plans_tables-loop-plan-preserved : goal.plans_tables-loop-plan-preserved
-plans_tables-loop-plan-preserved t c =
+pub plans_inputs-loop-plan-preserved : goal.plans_inputs-loop-plan-preserved
+plans_inputs-loop-plan-preserved t c =
     let left = operators.rest-at c.args.plans.now c.loop-plan.plan-index c.plan-item.result (omega (arith, c.loop-plan-test.true)) c.plan-item.is in
     let rest = drop (c.loop-plan.plan-index + 1) c.args.plans.now in
     let w = world_of c.args.catalogue.now c.args.lets.now in
+    let made = map input_table c.loop-plan.made.items in
+    let pushed = ap (map input_table) c.in_ok-push.ensures.items ∙ map-append input_table c.loop-plan.made.items (c.in_ok-table.table ∷ []) in
     record {
       built = plans.other-plans c.plan-item.result rest (subst (λ ps. list_all plan_is_built ps ≡ true) left c.loop-plan.invariant.built);
       fit = plans.others-fit c.plan-item.result rest w (subst (λ ps. PlansFit ps w) left c.loop-plan.invariant.fit);
-      rest = plans.more-tables c.plan-item.result rest (drop c.loop-plan.plan-index c.args.plans.now) w c.loop-plan.made c.push.new.self _ c.in_ok-table.table left c.in_ok-table.ensures.table c.in_ok-push.ensures.added c.loop-plan.invariant.rest;
+      rest = plans.more-tables c.plan-item.result rest (drop c.loop-plan.plan-index c.args.plans.now) w made (map input_table c.push.new.self.items) _ (input_table c.in_ok-table.table) left c.in_ok-table.ensures.table pushed c.loop-plan.invariant.rest;
     }
 
 -- A partition.
 
-pub op_table-ops_table-requires : goal.op_table-ops_table-requires
-op_table-ops_table-requires t c =
+pub op_table-ops_input-requires : goal.op_table-ops_input-requires
+op_table-ops_input-requires t c =
     let w = world_of c.args.catalogue.now c.args.lets.now in
     let none = c.in_ok-none-in-Partition.ensures.rows ∙ ap emptied c.as_table-table.ensures.table in
     let fits = partition.subquery-fits c.args.op.now c.in-Partition.key c.in-Partition.ops w (input_table c.args.from) c.in-Partition.is c.requires.fits in (
@@ -129,8 +141,8 @@ op_table-gather-requires t c =
     partition.list-inside c.as_str.result.now c.as_table-table.result.now c.in_ok-keyed-in-Partition.keyed c.loop-number.number c.get.result.now c.in_ok-keyed-in-Partition.ensures.rows
     (omega (arith, c.loop-number-test.true, c.len-number-end.ensures.count)) c.get.ensures.same
 
-pub op_table-ops_table-requires-in-loop-number : goal.op_table-ops_table-requires-in-loop-number
-op_table-ops_table-requires-in-loop-number t c =
+pub op_table-ops_input-requires-in-loop-number : goal.op_table-ops_input-requires-in-loop-number
+op_table-ops_input-requires-in-loop-number t c =
     let w = world_of c.args.catalogue.now c.args.lets.now in
     let table = c.as_table-table.result.now in
     let fits = partition.subquery-fits c.args.op.now c.in-Partition.key c.in-Partition.ops w (input_table c.args.from) c.in-Partition.is c.requires.fits in
@@ -154,7 +166,7 @@ op_table-append-requires t c =
     let here = subst (λ u. OpsFit ops w u) (sym c.as_table-table.ensures.table) fits in
     let inside = partition.list-inside c.as_str.result.now table c.in_ok-keyed-in-Partition.keyed c.loop-number.number c.get.result.now c.in_ok-keyed-in-Partition.ensures.rows
     (omega (arith, c.loop-number-test.true, c.len-number-end.ensures.count)) c.get.ensures.same in
-    let part = c.in_ok-part-in-Partition.ensures.table ∙ ap (λ os. partition.made_of os w c.in_ok-rows-in-Partition.rows) c.as_slice-in-loop-number.ensures.items in
+    let part = (c.in_ok-part-in-Partition.ensures.table ∙ c.in_ok-given-in-Partition.ensures.table) ∙ ap (λ os. partition.made_of os w c.in_ok-rows-in-Partition.rows) c.as_slice-in-loop-number.ensures.items in
     partition.same-kinds ops w table c.in_ok-rows-in-Partition.rows c.in_ok-part-in-Partition.part c.loop-number.made c.get.result.now here c.in_ok-rows-in-Partition.ensures.rows part inside c.loop-number.invariant.columns
 
 pub op_table-loop-number-init : goal.op_table-loop-number-init
@@ -162,7 +174,7 @@ op_table-loop-number-init t c =
     let w = world_of c.args.catalogue.now c.args.lets.now in
     record {
       columns = ap (λ (g : Grid). g.columns) c.truncate.ensures.rest
-          ∙ (ap (λ (g : Grid). g.columns) (c.in_ok-made-in-Partition.ensures.table ∙ ap (λ os. partition.made_of os w c.in_ok-none-in-Partition.none) c.as_slice-in-Partition.ensures.items)
+          ∙ (ap (λ (g : Grid). g.columns) ((c.in_ok-made-in-Partition.ensures.table ∙ c.in_ok-empty-in-Partition.ensures.table) ∙ ap (λ os. partition.made_of os w c.in_ok-none-in-Partition.none) c.as_slice-in-Partition.ensures.items)
           ∙ ap (λ (u : Grid). (partition.made_of c.in-Partition.ops w u).columns) c.in_ok-none-in-Partition.ensures.rows);
       lines = ap (λ (g : Grid). g.lines) c.truncate.ensures.rest;
     }
@@ -170,7 +182,7 @@ op_table-loop-number-init t c =
 pub op_table-loop-number-preserved : goal.op_table-loop-number-preserved
 op_table-loop-number-preserved t c =
     let w = world_of c.args.catalogue.now c.args.lets.now in
-    let part = c.in_ok-part-in-Partition.ensures.table ∙ ap (λ os. partition.made_of os w c.in_ok-rows-in-Partition.rows) c.as_slice-in-loop-number.ensures.items in
+    let part = (c.in_ok-part-in-Partition.ensures.table ∙ c.in_ok-given-in-Partition.ensures.table) ∙ ap (λ os. partition.made_of os w c.in_ok-rows-in-Partition.rows) c.as_slice-in-loop-number.ensures.items in
     let more = partition.rows-more c.in-Partition.ops w c.as_table-table.result.now c.in_ok-keyed-in-Partition.keyed c.loop-number.number c.get.result.now c.in_ok-part-in-Partition.part c.in_ok-rows-in-Partition.rows
     (omega (arith, c.loop-number-test.true, c.len-number-end.ensures.count)) c.get.ensures.same c.in_ok-rows-in-Partition.ensures.rows part in
     record {
