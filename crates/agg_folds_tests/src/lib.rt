@@ -1,9 +1,5 @@
-//! Tests of agg_folds, on its public calls.
+//! Tests of agg_folds that no query reaches: folds in pieces.
 #![tactic(auto)]
 
-#[cfg(test)]
-mod cases;
-#[cfg(test)]
-mod folding;
 #[cfg(test)]
 mod tests;

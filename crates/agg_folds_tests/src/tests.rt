@@ -1,134 +1,129 @@
-use crate::cases::{Case, NOTHING, OTHERS, TWENTY};
-use crate::folding::{Line, Made, Shown, fold_of, is, joined, take};
-use agg_folds::{Fold, FoldCall, fold_call, law_of_folds, needs};
-use kql_bound::{BExpr, Exprs, Lit};
-use kql_cells::{KText, Kind, Value};
-use kql_dynamic::parse_json;
+//! Folds of pieces, joined at each place: no query makes pieces. What aggregates give is shown by rows of the program.
+
+use agg_folds::{Fold, FoldCall, PieceFold};
+use kql_cells::{CellRef, Kind, Value, is_well_formed};
 use kql_functions::Aggregate;
-use kql_items::Items;
-use std::alloc::Global;
+use kql_scalar_fns::are_well_formed;
+use std::alloc::{AllocError, Global};
 use std::test::Fail;
 
-// Whether a fold gives what is expected.
-fn gives(alloc: Global, fold: Made<Fold<'_>>, want: Shown, place: usize) -> Made<bool> {
-    let fold = fold?;
-    let value = fold.finish(alloc)?;
-    let same = is(alloc, &value, want)?;
-    Ok(same && fold.chosen() == place)
-}
+/// What is made, or want of memory.
+type Made<T> = Result<T, AllocError>;
 
-// Whether the rows of a case give what is expected, folded at once and in two pieces.
-fn holds(alloc: Global, case: &Case) -> Made<bool> {
-    let (aggregate, kind, limit, lines, want, place) = *case;
-    let call = FoldCall {
+/// All twenty.
+const TWENTY: &[Aggregate] = &[
+    Aggregate::Count,
+    Aggregate::CountIf,
+    Aggregate::CountDistinct,
+    Aggregate::CountDistinctIf,
+    Aggregate::Sum,
+    Aggregate::SumIf,
+    Aggregate::Min,
+    Aggregate::MinIf,
+    Aggregate::Max,
+    Aggregate::MaxIf,
+    Aggregate::MakeList,
+    Aggregate::MakeListIf,
+    Aggregate::MakeSet,
+    Aggregate::MakeSetIf,
+    Aggregate::ArgMax,
+    Aggregate::ArgMin,
+    Aggregate::TakeAny,
+    Aggregate::BinaryAllAnd,
+    Aggregate::BinaryAllOr,
+    Aggregate::BinaryAllXor,
+];
+
+fn long_call(aggregate: Aggregate) -> FoldCall {
+    FoldCall {
         aggregate,
-        kind,
-        limit,
-    };
-    let whole = gives(alloc, fold_of(alloc, call, lines), want, place)?;
-    Ok(whole && pieces_give(alloc, call, lines, want, place)?)
+        kind: Some(Kind::Long),
+        limit: Some(3),
+    }
 }
 
-// The same of the rows cut at each place.
-fn pieces_give(
-    alloc: Global,
-    call: FoldCall,
-    lines: &[Line],
-    want: Shown,
-    place: usize,
-) -> Made<bool> {
-    for cut in 0..lines.len() {
-        let same = gives(alloc, joined(alloc, call, lines, cut), want, place)?;
-        if !same {
-            return Ok(false);
+// Numbers with nulls and ties; with their neighbours' conditions below.
+fn numbers() -> [CellRef<'static>; 7] {
+    [
+        CellRef::Null,
+        CellRef::Long(3),
+        CellRef::Long(i64::MAX),
+        CellRef::Long(-5),
+        CellRef::Long(i64::MAX),
+        CellRef::Null,
+        CellRef::Long(-3),
+    ]
+}
+
+// The state of a piece: of these values of the first argument, at each of which the second is true.
+fn piece<'a>(alloc: Global, call: &FoldCall, cells: &[CellRef<'a>]) -> Made<Fold<'a>> {
+    let mut state = call.start(alloc)?;
+    for cell in cells {
+        let args = [*cell, CellRef::Bool(true)];
+        if state.count() < 1000 && are_well_formed(&args) {
+            let next = call.step(state, &args)?;
+            state = next;
         }
     }
-    Ok(true)
+    Ok(state)
 }
 
-// The first case that does not hold.
-fn first_wrong(alloc: Global, cases: &[Case]) -> Made<Option<usize>> {
-    for i in 0..cases.len() {
-        let right = holds(alloc, &cases[i])?;
-        if !right {
-            return Ok(Some(i));
+// The state of the pieces before a place and from it on, joined.
+fn joined<'a>(alloc: Global, call: &FoldCall, cells: &[CellRef<'a>], cut: usize) -> Made<Fold<'a>> {
+    if cells.len() < cut {
+        return piece(alloc, call, cells);
+    }
+    let first = piece(alloc, call, &cells[..cut])?;
+    let second = piece(alloc, call, &cells[cut..])?;
+    if first.count() < 1000 && second.count() < 1000 {
+        call.join(first, second)
+    } else {
+        Ok(first)
+    }
+}
+
+fn are_same(a: &Value, b: &Value) -> bool {
+    is_well_formed(a) && is_well_formed(b) && a.as_cell().is_same(b.as_cell())
+}
+
+// Whether pieces joined at a place give what all rows give at once, from the row that these take.
+fn cut_gives(alloc: Global, call: &FoldCall, cells: &[CellRef<'_>], cut: usize) -> Made<bool> {
+    let whole = piece(alloc, call, cells)?;
+    let parts = joined(alloc, call, cells, cut)?;
+    let same_row = whole.chosen() == parts.chosen();
+    let a = call.finish(alloc, whole)?;
+    let b = call.finish(alloc, parts)?;
+    Ok(same_row && are_same(&a, &b))
+}
+
+// The first aggregate that gives something else where its rows are cut, and the place.
+fn first_wrong(alloc: Global) -> Made<Option<(usize, usize)>> {
+    let cells = numbers();
+    for i in 0..TWENTY.len() {
+        let call = long_call(TWENTY[i]);
+        for cut in 0..cells.len() {
+            let same = cut_gives(alloc, &call, &cells, cut)?;
+            if !same {
+                return Ok(Some((i, cut)));
+            }
         }
     }
     Ok(None)
 }
 
-#[test]
-fn aggregates_give_their_values(rt: HostRuntime) -> Result<(), Fail> {
-    let alloc = rt.alloc();
-    assert_eq!(rt; first_wrong(alloc, TWENTY)?, None);
-    assert_eq!(rt; first_wrong(alloc, NOTHING)?, None);
-    assert_eq!(rt; first_wrong(alloc, OTHERS)?, None);
-    law_of_folds();
-    Ok(())
-}
-
-// A list of one value that has so many levels.
-fn nested(alloc: Global, levels: usize) -> Made<Value> {
-    let mut text = String::new(alloc);
-    for _ in 0..levels {
-        text.push_str("[")?;
-    }
-    for _ in 0..levels {
-        text.push_str("]")?;
-    }
-    parse_json(alloc, text.as_str())
-}
-
-// Whether the list of one value of so many levels is null.
-fn list_is_null(alloc: Global, levels: usize) -> Made<bool> {
-    let value = nested(alloc, levels)?;
-    let call = FoldCall {
-        aggregate: Aggregate::MakeList,
-        kind: Some(Kind::Dynamic),
-        limit: None,
-    };
-    let mut fold = Fold::new(alloc, call);
-    take(&mut fold, &[value.as_cell()])?;
-    let list = fold.finish(alloc)?;
-    Ok(list.as_cell().is_null())
+// The sum of the greatest long, one and minus one, cut behind the second: it does not fit there, and does at the end.
+fn sum_over_the_range(alloc: Global) -> Made<Value> {
+    let call = long_call(Aggregate::Sum);
+    let cells = [CellRef::Long(i64::MAX), CellRef::Long(1), CellRef::Long(-1)];
+    let state = joined(alloc, &call, &cells, 2)?;
+    call.finish(alloc, state)
 }
 
 #[test]
-fn lists_have_at_most_127_levels(rt: HostRuntime) -> Result<(), Fail> {
+fn pieces_are_joined(rt: HostRuntime) -> Result<(), Fail> {
     let alloc = rt.alloc();
-    let below = list_is_null(alloc, 126)?;
-    let above = list_is_null(alloc, 127)?;
-    assert!(rt; !below && above);
-    Ok(())
-}
-
-// The arguments of `make_set(x, 2)`.
-fn arguments(alloc: Global) -> Made<Exprs> {
-    let column = BExpr::Column(KText::from_str(alloc, "x")?);
-    let mut args = Items::new(alloc);
-    args.push(column)?;
-    args.push(BExpr::Literal(Lit {
-        kind: Kind::Long,
-        value: Value::Long(2),
-    }))?;
-    Ok(args)
-}
-
-fn limit_of(alloc: Global, aggregate: Aggregate) -> Made<Option<usize>> {
-    let args = arguments(alloc)?;
-    let call = fold_call(alloc, aggregate, args.as_slice(), &[])?;
-    Ok(call.limit)
-}
-
-#[test]
-fn calls_say_how_many_are_kept(rt: HostRuntime) -> Result<(), Fail> {
-    let alloc = rt.alloc();
-    let limited = limit_of(alloc, Aggregate::MakeSet)?;
-    let free = limit_of(alloc, Aggregate::ArgMax)?;
-    assert_eq!(rt; limited, Some(2));
-    assert_eq!(rt; free, None);
-    assert_eq!(rt; needs(Aggregate::Count), 0);
-    assert_eq!(rt; needs(Aggregate::SumIf), 2);
-    assert_eq!(rt; needs(Aggregate::ArgMax), 1);
+    assert_eq!(rt; first_wrong(alloc)?, None);
+    let sum = sum_over_the_range(alloc)?;
+    assert!(rt; are_same(&sum, &Value::Long(i64::MAX)));
     Ok(())
 }
