@@ -1,5 +1,5 @@
 -- The tables of the kinds of join.
-use Rattle.std.proofs.Common.{◌≡◌, ◌<◌, ◌≤◌, ◌+◌, ℕ, true, false, List, [], ◌∷◌, ◌++◌, map, length, length-append, refl, ap, ap₂, sym, ◌∙◌, subst, inl, inr, arith}
+use Rattle.std.proofs.Common.{◌≡◌, ◌<◌, ◌≤◌, ◌+◌, ℕ, Bool, true, false, List, [], ◌∷◌, ◌++◌, map, length, length-append, refl, ap, ap₂, sym, ◌∙◌, subst, inl, inr, arith}
 use Rattle.std.specs.Prelude.{All, AllPairs, Option, Some}
 use Rattle.std.specs.List.{AllByRecursion, flat_map}
 use Rattle.std.proofs.lemmas.List.{length-map, map-append}
@@ -17,18 +17,19 @@ use Rattle.kql_meaning.specs.FittingOperators.{join_fits}
 use Rattle.kql_meaning.specs.Groups.{is_first_of_key}
 use Rattle.kql_meaning.specs.Join.{both_columns, join_columns, join_rows, join_table, left_key, matches_left, matches_right, rows_match}
 use Rattle.kql_meaning.specs.Tables.{places, places_below}
+use Rattle.kql_meaning.proofs.JoinLaws.{map-map}
 use Rattle.kql_meaning.proofs.MemberLaws.{Member, Pairwise, member-of-filter, member-of-flat, every-of-members, member-of-map, of-member, pairs-of, pairwise-append, pairwise-filter, pairwise-range}
 use Rattle.kql_fit_laws.proofs.RowFacts.{all-members, place-below}
 use Rattle.kql_values.specs.Moves.{IsWithin, beside, gathered_or_absent, row_or_absent}
-use Rattle.join_op.specs.Pairs.{given, has_lead, join_leads, join_pairs, lead_rows, pairs_by, row_rule, shows_both}
-use Rattle.join_op.specs.Shown.{shown_at}
+use Rattle.join_op.specs.Pairs.{given, has_lead, join_leads, join_pairs, lead_rows, pairs_by, pairs_joined, row_rule, shows_both}
+use Rattle.join_op.specs.Shown.{row_shown, shown_at}
 use Rattle.join_op.specs.Sides.{have_keys, lead_of, lead_side, matches_of, opposite}
 use Rattle.join_op.specs.declared.pairs.RowRule.{RowRule}
 use Rattle.join_op.specs.declared.pairs.RowRule.TheVariants as rule
 use Rattle.join_op.specs.declared.sides.Side.{Side}
 use Rattle.join_op.specs.declared.sides.Side.TheVariants as side
 use Rattle.join_op.proofs.KeySteps.{left-keys, right-keys}
-use Rattle.join_op.proofs.ListSteps.{beside-append}
+use Rattle.join_op.proofs.ListSteps.{beside-append, beside-pairs}
 use Rattle.join_op.proofs.MatchSteps.{lead-inside}
 use Rattle.join_op.proofs.RowSteps.{full-left, full-right, lead, left-only, left-rows, of-pairs, other, right-only, right-rows}
 
@@ -331,14 +332,39 @@ pub rise : (k : JoinKind) (on : List OnPair) (a b : Grid) (leads : List ℕ) →
 rise k on a b leads e = subst (AllPairs (λ (x y : ℕ). x ≤ y)) (sym e) (leads-rise k on a b)
 
 pub left-leads : (j : JoinPlan) (a b : Grid) (leads : List ℕ) → lead_side j.kind ≡ side.Left → leads ≡ map (λ q. q.0) (join_pairs j.kind j.on a b) → leads ≡ join_leads j a b
-unfolding join_leads lead_of opposite
+unfolding join_leads pairs_joined lead_of opposite
 left-leads j a b leads s e = e ∙ sym (ap (λ x. map lead (join_pairs j.kind j.on (lead_of x a b) (lead_of (opposite x) a b))) s)
 
 pub right-leads : (j : JoinPlan) (a b : Grid) (leads : List ℕ) → lead_side j.kind ≡ side.Right → leads ≡ map (λ q. q.0) (join_pairs j.kind j.on b a) → leads ≡ join_leads j a b
-unfolding join_leads lead_of opposite
+unfolding join_leads pairs_joined lead_of opposite
 right-leads j a b leads s e = e ∙ sym (ap (λ x. map lead (join_pairs j.kind j.on (lead_of x a b) (lead_of (opposite x) a b))) s)
 
-pub ruleset lead_steps = (left-led-keys, left-led-others, right-led-keys, right-led-others, left-leads, right-leads, rise)
+-- Each row of the answer is that of its pair.
+
+rows-of-left : (j : JoinPlan) (a b : Grid) (ps : List (ℕ × Option ℕ)) → beside (map (row_at a.lines) (map lead ps)) (map (shown_at j b) (map other ps)) ≡ map (row_shown true side.Left j a b) ps
+unfolding row_shown
+rows-of-left j a b ps =
+    ap₂ (λ (xs ys : List (List Value)). beside xs ys) (map-map (row_at a.lines) lead ps) (map-map (shown_at j b) other ps)
+    ∙ beside-pairs (λ (p : ℕ × Option ℕ). row_at a.lines p.0) (λ (p : ℕ × Option ℕ). shown_at j b p.1) ps
+
+rows-of-right : (j : JoinPlan) (a b : Grid) (ps : List (ℕ × Option ℕ)) → beside (map (row_or_absent a) (map other ps)) (map (shown_at j b) (map (λ i. Some i) (map lead ps))) ≡ map (row_shown true side.Right j a b) ps
+unfolding row_shown
+rows-of-right j a b ps =
+    ap₂ (λ (xs ys : List (List Value)). beside xs ys) (map-map (row_or_absent a) other ps) (map-map (shown_at j b) (λ i. Some i) (map lead ps) ∙ map-map (λ i. shown_at j b (Some i)) lead ps)
+    ∙ beside-pairs (λ (p : ℕ × Option ℕ). row_or_absent a p.1) (λ (p : ℕ × Option ℕ). shown_at j b (Some p.0)) ps
+
+rows-by : (j : JoinPlan) (a b : Grid) (both : Bool) (s : Side) → has_lead j.kind ≡ true → shows_both j.kind ≡ both → lead_side j.kind ≡ s → join_rows j.kind j a b ≡ map (row_shown both s j a b) (join_pairs j.kind j.on (lead_of s a b) (lead_of (opposite s) a b))
+unfolding lead_of opposite row_shown
+rows-by j a b true side.Left led e s = sym (left-rows j.kind j a b led e s) ∙ rows-of-left j a b (join_pairs j.kind j.on a b)
+rows-by j a b true side.Right led e s = sym (right-rows j.kind j a b e s) ∙ rows-of-right j a b (join_pairs j.kind j.on b a)
+rows-by j a b false side.Left led e s = sym (left-only j.kind j a b e s) ∙ map-map (row_at a.lines) lead (join_pairs j.kind j.on a b)
+rows-by j a b false side.Right led e s = sym (right-only j.kind j a b e s) ∙ map-map (row_at b.lines) lead (join_pairs j.kind j.on b a)
+
+pub rows-shown-joined : (j : JoinPlan) (a b t : Grid) → has_lead j.kind ≡ true → t ≡ join_table j a b → t.lines ≡ map (row_shown (shows_both j.kind) (lead_side j.kind) j a b) (pairs_joined j a b)
+unfolding join_table pairs_joined
+rows-shown-joined j a b t led e = ap (λ (g : Grid). g.lines) e ∙ rows-by j a b (shows_both j.kind) (lead_side j.kind) led refl refl
+
+pub ruleset lead_steps = (left-led-keys, left-led-others, right-led-keys, right-led-others, left-leads, right-leads, rise, rows-shown-joined)
 
 pub ruleset left_steps = (leads-inside, others-inside, left-count, gathered-columns, names-shown)
 

@@ -1,6 +1,7 @@
 pub mod KeySteps
 pub mod ListSteps
 pub mod PairSteps
+pub mod PlaceSteps
 pub mod MatchSteps
 pub mod RowSteps
 pub mod ShownSteps

@@ -9,7 +9,7 @@ use Rattle.join_op.specs.Pairs.{given, pairs_by}
 use Rattle.join_op.specs.declared.pairs.RowRule.{RowRule}
 use Rattle.join_op.specs.declared.pairs.RowRule.TheVariants as rule
 
-range-more : (n : ℕ) → range_with_len 0 (n + 1) ≡ range_with_len 0 n ++ n ∷ []
+pub range-more : (n : ℕ) → range_with_len 0 (n + 1) ≡ range_with_len 0 n ++ n ∷ []
 range-more n = sym (map-id (range_with_len 0 (n + 1))) ∙ (map-range_with_len_more (λ (x : ℕ). x) 0 n n (omega arith) ∙ ap (λ xs. xs ++ n ∷ []) (map-id (range_with_len 0 n)))
 
 pub row-added : (n : ℕ) (old new : List ℕ) → old ≡ range_with_len 0 n → new ≡ old ++ n ∷ [] → new ≡ range_with_len 0 (n + 1)

@@ -26,6 +26,7 @@ use Rattle.kql_values.proofs.GridLaws.{HaveLength-append, rows_of-are, rows_of-b
 use Rattle.kql_values.proofs.TableLaws.{fits-HaveLength}
 use Rattle.join_op.specs.Shown.{is_right_key, is_shown, shown_at, shown_cell, shown_cells}
 use Rattle.join_op.proofs.KeySteps.{cell-there}
+use Rattle.join_op.proofs.PlaceSteps.{there-within}
 
 -- One column: its cells stand where its name says.
 
@@ -69,7 +70,38 @@ vector-shown b p c places a v h fits lt within is none made =
 pub within-columns : (b : Grid) (v : List Value) (places : List (Option ℕ)) → length v ≡ length b.lines → All (IsWithin (length b.lines)) places → All (IsWithin (length v)) places
 within-columns b v places size within = subst (λ n. All (IsWithin n) places) (sym size) within
 
-pub ruleset cell_steps = (within-columns, vector-shown)
+pub within-rows : (b : Grid) (v : List Value) (rows : List ℕ) → length v ≡ length b.lines → All (λ i. i < length b.lines) rows → All (λ i. i < length v) rows
+within-rows b v rows size within = subst (λ n. All (λ i. i < n) rows) (sym size) within
+
+pub ruleset cell_steps = (within-columns, within-rows, vector-shown)
+
+-- The same where no place is none.
+
+values-there : (a : Value) (vs : List Value) (rows : List ℕ) → map (value_at vs) rows ≡ map (value_or a vs) (map (λ i. Some i) rows)
+values-there a vs [] = refl
+values-there a vs (i ∷ is) = ap (λ xs. value_at vs i ∷ xs) (values-there a vs is)
+
+rows-within : (n : ℕ) (rows : List ℕ) → AllByRecursion (λ i. i < n) rows → AllByRecursion (IsWithin n) (map (λ i. Some i) rows)
+rows-within n [] h = tt
+rows-within n (i ∷ is) h = (h.0, rows-within n is h.1)
+
+own-column : (cs : List Column) (p : ℕ) → p < length cs → column_of cs p ≡ get_or cs p (column_of cs p)
+own-column [] p lt = absurd (omega (arith, lt))
+own-column (c ∷ cs) zero lt = refl
+own-column (c ∷ cs) (suc p) lt = own-column cs p (omega (arith, lt))
+
+pub vector-at : (b : Grid) (p : ℕ) (rows : List ℕ) (v : List Value) → HasDistinctNames column_name b.columns → IsGrid b → p < length b.columns
+    → All (λ i. i < length b.lines) rows → v ≡ map (value_at (column_at b.lines p)) rows → v ≡ map (shown_cell b (column_of b.columns p)) (map (λ i. Some i) rows)
+vector-at b p rows v h fits lt within made =
+    let a = absent (column_of b.columns p).kind in
+    let inside = All-from_recursion (IsWithin (length b.lines)) (map (λ i. Some i) rows) (rows-within (length b.lines) rows (recursion_from_All (λ i. i < length b.lines) rows within)) in
+    vector-shown b p (column_of b.columns p) (map (λ i. Some i) rows) a v h fits lt inside (own-column b.columns p lt) refl (made ∙ values-there a (column_at b.lines p) rows)
+
+-- A column at places, none of which is none.
+pub shown-there : (b : Grid) (c : Column) (places : List (Option ℕ)) (rows : List ℕ) (v : List Value) → places ≡ map (λ i. Some i) rows → v ≡ map (shown_cell b c) (map (λ i. Some i) rows) → v ≡ map (shown_cell b c) places
+shown-there b c places rows v is made = made ∙ ap (map (shown_cell b c)) (sym is)
+
+pub ruleset there_steps = (there-within, shown-there)
 
 -- Column by column.
 

@@ -69,8 +69,12 @@ shows_both join.RightSemi = false
 shows_both join.RightAnti = false
 shows_both _ = true
 
+-- The pairs of places of the answer's rows.
+unfoldable pub pairs_joined : JoinPlan → Grid → Grid → List (ℕ × Option ℕ)
+pairs_joined j a b =
+    let s = lead_side j.kind in
+    join_pairs j.kind j.on (lead_of s a b) (lead_of (opposite s) a b)
+
 -- For each row of the answer, the place of the row that leads it.
 unfoldable pub join_leads : JoinPlan → Grid → Grid → List ℕ
-join_leads j a b =
-    let s = lead_side j.kind in
-    map (λ (p : ℕ × Option ℕ). p.0) (join_pairs j.kind j.on (lead_of s a b) (lead_of (opposite s) a b))
+join_leads j a b = map (λ (p : ℕ × Option ℕ). p.0) (pairs_joined j a b)

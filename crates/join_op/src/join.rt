@@ -3,11 +3,13 @@ ghost use Rattle.std.specs.Prelude.{◌≡◌, ◌≤◌, ◌++◌, ℕ, false, 
 ghost use Rattle.kql_cells.specs.Named.{HasDistinctNames, column_name};
 ghost use Rattle.kql_meaning.specs.FittingOperators.{join_fits};
 ghost use Rattle.kql_meaning.specs.Join.{join_columns, join_table};
-ghost use Rattle.join_op.specs.Pairs.{has_lead, join_leads, join_pairs};
+ghost use Rattle.join_op.specs.Pairs.{has_lead, join_leads, join_pairs, pairs_joined, shows_both};
+ghost use Rattle.join_op.specs.Shown.{row_shown};
 ghost use Rattle.join_op.specs.Sides.{lead_side};
 ghost use Rattle.join_op.specs.declared.sides.Side.TheVariants as side;
 
 use crate::pairs::{Pairs, PlacesOrNone, has_lead, join_pairs, shows_both, some_places};
+use crate::rows::{rows_at, rows_or_absent};
 use crate::shown::with_right;
 use crate::sides::{Side, lead_side};
 use kql_bound::{JoinKind, JoinPlan};
@@ -54,6 +56,7 @@ pub fn join_places(
     requires fits { IsTrue (join_fits j.now left.now.columns right.now.columns) }
     requires names { HasDistinctNames column_name (join_columns j.now.kind j.now left.now.columns right.now.columns) }
     ensures table { IfOk result (λ x. x.table ≡ join_table j.now left.now right.now) }
+    ensures rows { IfOk result (λ x. x.table.lines ≡ map (row_shown (shows_both j.now.kind) (lead_side j.now.kind) j.now left.now right.now) (pairs_joined j.now left.now right.now)) }
     ensures leads { IfOk result (λ x. x.leads ≡ join_leads j.now left.now right.now) }
     ensures order { IfOk result (λ x. AllPairs (λ (i k : ℕ). i ≤ k) x.leads) }
 {
@@ -71,6 +74,7 @@ fn left_led(alloc: Global, left: &Table, right: &Table, j: &JoinPlan) -> Result<
     requires fits { IsTrue (join_fits j.now left.now.columns right.now.columns) }
     requires names { HasDistinctNames column_name (join_columns j.now.kind j.now left.now.columns right.now.columns) }
     ensures table { IfOk result (λ x. x.table ≡ join_table j.now left.now right.now) }
+    ensures rows { IfOk result (λ x. x.table.lines ≡ map (row_shown (shows_both j.now.kind) (lead_side j.now.kind) j.now left.now right.now) (pairs_joined j.now left.now right.now)) }
     ensures leads { IfOk result (λ x. x.leads ≡ join_leads j.now left.now right.now) }
     ensures order { IfOk result (λ x. AllPairs (λ (i k : ℕ). i ≤ k) x.leads) }
 {
@@ -96,7 +100,7 @@ fn left_table(
     requires others { others.now ≡ map (λ p. p.1) (join_pairs j.now.kind j.now.on left.now right.now) }
     ensures table { IfOk result (λ t. t ≡ join_table j.now left.now right.now) }
 {
-    let kept = left.gather(alloc, leads)?;
+    let kept = rows_at(alloc, left, leads)?;
     if shows_both(j.kind) {
         let made = with_right(alloc, kept, right, j, others)?;
         Ok(made)
@@ -113,6 +117,7 @@ fn right_led(alloc: Global, left: &Table, right: &Table, j: &JoinPlan) -> Result
     requires fits { IsTrue (join_fits j.now left.now.columns right.now.columns) }
     requires names { HasDistinctNames column_name (join_columns j.now.kind j.now left.now.columns right.now.columns) }
     ensures table { IfOk result (λ x. x.table ≡ join_table j.now left.now right.now) }
+    ensures rows { IfOk result (λ x. x.table.lines ≡ map (row_shown (shows_both j.now.kind) (lead_side j.now.kind) j.now left.now right.now) (pairs_joined j.now left.now right.now)) }
     ensures leads { IfOk result (λ x. x.leads ≡ join_leads j.now left.now right.now) }
     ensures order { IfOk result (λ x. AllPairs (λ (i k : ℕ). i ≤ k) x.leads) }
 {
@@ -140,11 +145,11 @@ fn right_table(
 {
     if shows_both(j.kind) {
         let rights = some_places(alloc, leads)?;
-        let kept = left.gather_or_absent(alloc, others)?;
+        let kept = rows_or_absent(alloc, left, others)?;
         let made = with_right(alloc, kept, right, j, rights.as_slice())?;
         Ok(made)
     } else {
-        let alone = right.gather(alloc, leads)?;
+        let alone = rows_at(alloc, right, leads)?;
         Ok(alone)
     }
 }
@@ -162,7 +167,7 @@ fn full_outer(alloc: Global, left: &Table, right: &Table, j: &JoinPlan) -> Resul
     let more = join_pairs(alloc, JoinKind::RightAnti, on, right, left)?;
     let lefts = one_after_another(some_places(alloc, leads.as_slice())?, more.others)?;
     let rights = one_after_another(others, some_places(alloc, more.leads.as_slice())?)?;
-    let kept = left.gather_or_absent(alloc, lefts.as_slice())?;
+    let kept = rows_or_absent(alloc, left, lefts.as_slice())?;
     let made = with_right(alloc, kept, right, j, rights.as_slice())?;
     Ok(made)
 }

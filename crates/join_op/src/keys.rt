@@ -26,11 +26,12 @@ pub(crate) fn key_columns<'a>(
     Ok(columns)
 }
 
-// The column of a name.
+/// The column of a name, as its cells at all rows.
 #[tactic(auto, using(crate::proofs::KeySteps::column_steps))]
-fn key_column<'a>(t: &'a Table, name: &str) -> &'a Vector
+pub fn key_column<'a>(t: &'a Table, name: &str) -> &'a Vector
     requires stands { IsTrue (is_some (place_of column_name name.now t.now.columns)) }
     ensures cells { result.now ≡ column_cells t.now name.now }
+    ensures count { length result.now ≡ length t.now.lines }
 {
     match t.schema().find(name) {
         Some(place) => t.column(place),

@@ -7,8 +7,10 @@
 mod join;
 mod keys;
 mod pairs;
+mod rows;
 mod shown;
 mod sides;
 
 pub use join::{Joined, join_places, join_tables};
+pub use keys::key_column;
 pub use pairs::has_lead;

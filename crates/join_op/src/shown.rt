@@ -1,12 +1,13 @@
 //! The right columns that a join shows.
-ghost use Rattle.std.specs.Prelude.{◌≡◌, ◌<◌, All, IfOk, length, map};
+ghost use Rattle.std.specs.Prelude.{◌≡◌, ◌<◌, All, IfOk, IfSome, Some, length, map};
 ghost use Rattle.kql_cells.specs.Named.{HasDistinctNames, column_name};
 ghost use Rattle.kql_meaning.specs.Join.{both_columns};
 ghost use Rattle.kql_values.specs.Moves.{IsWithin, beside, column_of};
 ghost use Rattle.join_op.specs.Shown.{is_right_key, is_shown, shown_at, shown_cell, shown_cells};
 
+use crate::rows::places_there;
 use kql_bound::{JoinPlan, OnPair};
-use kql_cells::{Column, Schema};
+use kql_cells::{Column, Places, Schema};
 use kql_columns::both_columns;
 use kql_values::{Rows, Table, Vector};
 use std::alloc::{AllocError, Global};
@@ -46,19 +47,59 @@ fn shown_vectors(
     ensures cells { IfOk result (λ vs. vs.items ≡ shown_cells j.now right.now places.now right.now.columns) }
 {
     let columns = right.schema().columns();
+    let found = places_there(alloc, places)?;
+    let there = &found;
     let mut shown = Vec::new(alloc);
     for p in 0..columns.len() {
         if is_shown(j, &columns[p]) {
-            let vector = shown_vector(alloc, right, p, places)?;
+            let vector = shown_vector(alloc, right, p, places, there)?;
             shown.push(vector)?;
         }
     }
     Ok(shown)
 }
 
+// A column at these places; where none of them is none, they are given once more without that case.
+#[tactic(auto, using(crate::proofs::ShownSteps::there_steps))]
+fn shown_vector(
+    alloc: Global,
+    right: &Table,
+    p: usize,
+    places: &[Option<usize>],
+    there: &Option<Places>,
+) -> Result<Vector, AllocError>
+    requires column { p < length right.now.columns }
+    requires within { All (IsWithin (length right.now.lines)) places.now }
+    requires there { IfSome there.now (λ ps. places.now ≡ map (λ i. Some i) ps) }
+    ensures cells { IfOk result (λ v. v ≡ map (shown_cell right.now (column_of right.now.columns p)) places.now) }
+{
+    match there {
+        Some(rows) => {
+            let vector = vector_at(alloc, right, p, rows.as_slice())?;
+            Ok(vector)
+        }
+        None => {
+            let vector = vector_or_absent(alloc, right, p, places)?;
+            Ok(vector)
+        }
+    }
+}
+
 // A column at these places.
 #[tactic(auto, using(crate::proofs::ShownSteps::cell_steps))]
-fn shown_vector(
+fn vector_at(alloc: Global, right: &Table, p: usize, rows: &[usize]) -> Result<Vector, AllocError>
+    requires column { p < length right.now.columns }
+    requires within { All (λ i. i < length right.now.lines) rows.now }
+    ensures cells { IfOk result (λ v. v ≡ map (shown_cell right.now (column_of right.now.columns p)) (map (λ i. Some i) rows.now)) }
+{
+    let _known = right.schema().columns();
+    let vector = right.column(p).gather(alloc, rows)?;
+    Ok(vector)
+}
+
+// A column at these places, and absent cells where a place is none.
+#[tactic(auto, using(crate::proofs::ShownSteps::cell_steps))]
+fn vector_or_absent(
     alloc: Global,
     right: &Table,
     p: usize,

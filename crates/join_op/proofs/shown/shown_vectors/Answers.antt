@@ -14,3 +14,6 @@ loop-p-preserved c = elim c.if-is_shown.branch [
   | else-is_shown w ↦ vector-left c.args.j.now c.args.right.now c.args.places.now c.columns-columns.result.now c.loop-p.p c.index-columns-p.result c.loop-p.shown.items c.if-is_shown.shown.items
       c.loop-p-test.true c.index-columns-p.is (sym c.is_shown.ensures.shown ∙ w.if-is_shown.false) c.loop-p.invariant (ap (λ v. v.items) w.shown-is)
 ]
+
+pub shown_vector-requires-clause-there : goal.shown_vector-requires-clause-there
+shown_vector-requires-clause-there c = c.in_ok-found.ensures.places
