@@ -108,3 +108,13 @@ decl-absent p ds k d t u names same lt is before =
     (names-apart (t.columns ++ map column_declared (take k ds)) (map column_declared (drop k ds)) 0 (column_declared d) parted q.0 q.1)
 
 pub ruleset extended_facts = (columns-start)
+
+-- A copy.
+
+pub names-along : (t u : Grid) (p : ScanPlan) → u ≡ t → HasDistinctNames column_name (t.columns ++ declared_columns p) → HasDistinctNames column_name (u.columns ++ declared_columns p)
+names-along t u p same h = subst (λ (g : Grid). HasDistinctNames column_name (g.columns ++ declared_columns p)) (sym same) h
+
+pub declared-along : (t u new : Grid) (p : ScanPlan) → u ≡ t → new ≡ with_declared p u → new ≡ with_declared p t
+declared-along t u new p same e = e ∙ ap (with_declared p) same
+
+pub ruleset copy_facts = (names-along, declared-along)

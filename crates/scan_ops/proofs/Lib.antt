@@ -4,4 +4,8 @@ pub mod EmitFacts
 pub mod RunFacts
 pub mod RowFacts
 pub mod ExtendedFacts
+pub mod FitFacts
+pub mod ScanFacts
 pub mod MachineFacts
+pub mod KeySteps
+pub mod KeyedFacts

@@ -53,7 +53,7 @@ still-none p t i n turn end none h = sym (ap (λ k. fold (tried p t i) turn (rev
 
 -- What was emitted before is passed on.
 
-after-twice : (b c : List (List Value)) (turn : Turn) → after (b ++ c) turn ≡ after b (after c turn)
+pub after-twice : (b c : List (List Value)) (turn : Turn) → after (b ++ c) turn ≡ after b (after c turn)
 unfolding after
 after-twice b c turn = ap (λ (rows : List (List Value)). record { machine = turn.machine; emitted = rows }) (append_assoc b c turn.emitted)
 

@@ -1,9 +1,11 @@
 -- A row at a step.
 use Rattle.std.proofs.Common.{◌≡◌, ◌<◌, ◌≤◌, ◌+◌, ◌-◌, ◌++◌, ℕ, zero, suc, Bool, true, false, List, [], ◌∷◌, map, length, replicate, take, get_or, refl, sym, ap, ap₂, ◌∙◌, ◌≢◌, ◌⊎◌, subst, arith, inl, inr, append_assoc, length-append}
 use Rattle.std.specs.Prelude.{◌==◌, All, IfSome, None, Option, Some, is_some, nat_lt, option_map, slice_get, slice_set, if◌then◌else◌}
+use Rattle.std.specs.List.{swap}
 use Rattle.std.proofs.lemmas.Bool.{cases_Bool}
 use Rattle.std.proofs.lemmas.Bool.Decides.{nat_tests}
 use Rattle.std.proofs.lemmas.List.{get_or-replicate, get_or-set_other, get_or-set_same, length-map, length-replicate, length-set, map-set, length-take-le, take_all}
+use Rattle.std.proofs.lemmas.List.Edits.{swap_is}
 use Rattle.std.proofs.lemmas.List.Elements.{All-append, All-push, All-take}
 use Rattle.std.proofs.lemmas.Option.{slice_get-get_or, slice_get_within}
 use Rattle.kql_cells.specs.Table.{Grid}
@@ -36,10 +38,10 @@ none-held : (n size : ℕ) → map held_in (replicate n (empty_state size)) ≡ 
 none-held zero size = refl
 none-held (suc n) size = ap (λ (hs : List (Option Held)). None ∷ hs) (none-held n size)
 
-pub turn-start : (p : ScanPlan) (n : ℕ) (ss : List StateSeen) (emitted : List (List Value)) → n ≡ length p.steps → ss ≡ replicate n (empty_state n) → emitted ≡ [] → turn_with (machine_of ss 0) emitted ≡ turn_with (machine_at_start p) []
+pub turn-start : (p : ScanPlan) (n : ℕ) (ss : List StateSeen) (emitted : List (List Value)) → n ≡ length p.steps → ss ≡ replicate n (empty_state n) → turn_with (machine_of ss 0) emitted ≡ turn_with (machine_at_start p) emitted
 unfolding machine_at_start
-turn-start p n ss emitted size is none =
-    ap₂ (λ (hs : List (Option Held)) (rows : List (List Value)). turn_with (record { states = hs; begun = 0 }) rows) (ap (map held_in) is ∙ (none-held n n ∙ ap (λ k. replicate k None) size)) none
+turn-start p n ss emitted size is =
+    ap (λ (hs : List (Option Held)). turn_with (record { states = hs; begun = 0 }) emitted) (ap (map held_in) is ∙ (none-held n n ∙ ap (λ k. replicate k None) size))
 
 empty-at : (size width k : ℕ) → IsStateAt size width k (empty_state size)
 empty-at size width k = record { size = refl; count = tt; width = tt; form = tt }
@@ -62,7 +64,7 @@ none-wide w = tt
 pub width-start : (w : ℕ) (rows : List (List Value)) → rows ≡ [] → HaveLength w rows
 width-start w rows is = subst (HaveLength w) (sym is) (none-wide w)
 
-pub ruleset start_facts = (turn-start, states-start, count-start, width-start)
+pub ruleset start_facts = (turn-start, states-start, count-start)
 
 -- The records of a state are sound.
 
@@ -315,6 +317,68 @@ up-held size width at k ss b states above lt before = by b.held (state-there siz
 pub up-room : (width at : ℕ) (ss : List StateSeen) (b : StateSeen) → AreStates (length ss) width ss → 0 < at → at < length ss → b ≡ get_or ss (at - 1) b → at < b.size
 up-room width at ss b states above lt before = state-room (length ss) width (at - 1) at b (state-there (length ss) width (at - 1) ss b states (omega (arith, lt)) before) lt
 
+-- Two states that change places, the first of which is then emptied.
+
+sets-over : {X : Type 0} (xs : List X) (n : ℕ) (a b x y : X) → slice_set (slice_set (slice_set (slice_set xs n a) (suc n) b) n x) (suc n) y ≡ slice_set (slice_set xs n x) (suc n) y
+sets-over [] n a b x y = refl
+sets-over (c ∷ []) zero a b x y = refl
+sets-over (c ∷ d ∷ xs) zero a b x y = refl
+sets-over (c ∷ xs) (suc n) a b x y = ap (λ zs. c ∷ zs) (sets-over xs n a b x y)
+
+swap-low : (ss : List StateSeen) (at : ℕ) (d : StateSeen) → 0 < at → at < length ss → get_or (swap ss (at - 1) at) (at - 1) d ≡ get_or ss at d
+swap-low ss at d above lt =
+    let i = at - 1 in
+    let below : i < length ss = omega (arith, lt) in
+    let other : i ≢ at = λ e. absurd (omega (arith, above, e)) in
+    ap (λ (xs : List StateSeen). get_or xs i d) (sym (swap_is ss i at d below lt)) ∙ (get_or-set_other (slice_set ss i (get_or ss at d)) at i (get_or ss i d) d other ∙ get_or-set_same ss i (get_or ss at d) d below)
+
+swap-high : (ss : List StateSeen) (at : ℕ) (d : StateSeen) → 0 < at → at < length ss → get_or (swap ss (at - 1) at) at d ≡ get_or ss (at - 1) d
+swap-high ss at d above lt =
+    let i = at - 1 in
+    let below : i < length ss = omega (arith, lt) in
+    ap (λ (xs : List StateSeen). get_or xs at d) (sym (swap_is ss i at d below lt)) ∙ get_or-set_same (slice_set ss i (get_or ss at d)) at (get_or ss i d) d (omega (arith, lt, length-set {A = StateSeen} ss i (get_or ss at d)))
+
+pub swapped-before : (ss xs : List StateSeen) (at : ℕ) (ce m : StateSeen) → 0 < at → at < length ss → xs ≡ swap ss (at - 1) at → m ≡ get_or (slice_set xs (at - 1) ce) at m → m ≡ get_or ss (at - 1) m
+swapped-before ss xs at ce m above lt swapped is =
+    let other : at ≢ at - 1 = λ e. absurd (omega (arith, above, e)) in
+    is ∙ (get_or-set_other xs (at - 1) at ce m other ∙ (ap (λ (ys : List StateSeen). get_or ys at m) swapped ∙ swap-high ss at m above lt))
+
+swapped-sets : (ss : List StateSeen) (at : ℕ) (x y : StateSeen) → 0 < at → at < length ss → slice_set (slice_set (swap ss (at - 1) at) (at - 1) x) at y ≡ slice_set (slice_set ss (at - 1) x) at y
+swapped-sets ss at x y above lt =
+    let i = at - 1 in
+    let below : i < length ss = omega (arith, lt) in
+    let next : suc i ≡ at = omega (arith, above) in
+    let a = get_or ss at x in
+    let b = get_or ss i x in
+    ap (λ (zs : List StateSeen). slice_set (slice_set zs i x) at y) (sym (swap_is ss i at x below lt))
+    ∙ subst (λ j. slice_set (slice_set (slice_set (slice_set ss i a) j b) i x) j y ≡ slice_set (slice_set ss i x) j y) next (sets-over ss i a b x y)
+
+pub swapped-moved : (at width : ℕ) (row : List Value) (ss xs new : List StateSeen) (e m ce tk : StateSeen) → AreStates (length ss) width ss → 0 < at → at < length ss → xs ≡ swap ss (at - 1) at → e ≡ get_or xs (at - 1) e → ce ≡ empty_state e.size → m ≡ get_or (slice_set xs (at - 1) ce) at m
+    → tk ≡ record { size = m.size; held = option_map (held_with at row) m.held } → new ≡ slice_set (slice_set xs (at - 1) ce) at tk → HasMovedUp at row ss new
+swapped-moved at width row ss xs new e m ce tk states above lt swapped low cleared high taken made = record { states = λ b found. by b found }
+  where
+    below : at - 1 < length ss
+    below = omega (arith, lt)
+
+    by : (b : StateSeen) → slice_get ss (at - 1) ≡ Some b → new ≡ slice_set (slice_set ss (at - 1) (empty_state b.size)) at (record { size = b.size; held = option_map (held_with at row) b.held })
+    by b found =
+        let before : m ≡ get_or ss (at - 1) m = swapped-before ss xs at ce m above lt swapped high in
+        let there : Some m ≡ Some b = sym (slice_get-get_or ss (at - 1) m below ∙ ap Some (sym before)) ∙ found in
+        let same : m ≡ b = cc in
+        let first : e ≡ get_or ss at e = low ∙ (ap (λ (ys : List StateSeen). get_or ys (at - 1) e) swapped ∙ swap-low ss at e above lt) in
+        let size : e.size ≡ m.size = (state-there (length ss) width at ss e states lt first).size ∙ sym (state-there (length ss) width (at - 1) ss m states below before).size in
+        made
+        ∙ (ap₂ (λ (x y : StateSeen). slice_set (slice_set xs (at - 1) x) at y) (cleared ∙ ap empty_state size) taken
+        ∙ (ap (λ (ys : List StateSeen). slice_set (slice_set ys (at - 1) (empty_state m.size)) at (record { size = m.size; held = option_map (held_with at row) m.held })) swapped
+        ∙ (swapped-sets ss at (empty_state m.size) (record { size = m.size; held = option_map (held_with at row) m.held }) above lt
+        ∙ ap (λ (x : StateSeen). slice_set (slice_set ss (at - 1) (empty_state x.size)) at (record { size = x.size; held = option_map (held_with at row) x.held })) same)))
+
+pub swapped-held : (size width at : ℕ) (ss xs : List StateSeen) (ce m : StateSeen) → AreStates size width ss → 0 < at → at < length ss → xs ≡ swap ss (at - 1) at → m ≡ get_or (slice_set xs (at - 1) ce) at m → IfSome m.held (λ h. (at ≤ length h.records) × (length h.records ≤ at + 1))
+swapped-held size width at ss xs ce m states above lt swapped is = up-held size width at 0 ss m states above lt (swapped-before ss xs at ce m above lt swapped is)
+
+pub swapped-room : (width at : ℕ) (ss xs : List StateSeen) (ce m : StateSeen) → AreStates (length ss) width ss → 0 < at → at < length ss → xs ≡ swap ss (at - 1) at → m ≡ get_or (slice_set xs (at - 1) ce) at m → at < m.size
+swapped-room width at ss xs ce m states above lt swapped is = up-room width at ss m states above lt (swapped-before ss xs at ce m above lt swapped is)
+
 -- Check 2 has held at the first step.
 
 begun-is : (p : ScanPlan) (s : ScanStep) (t : Grid) (i at : ℕ) (m : Machine) (h : Option Held) (line : List Value) (all : List (List Value)) → at ≡ 0 → is_some (if comes_true p s t i h then renewed p s t i (at + 1) m h else None) ≡ true → line ≡ new_record s t i (records_of (length p.steps) h)
@@ -435,7 +499,7 @@ pub ruleset check_facts = (records-sound, within-run, state-there)
 
 pub ruleset move_facts = (records-sound, new-width, step-within, within-run, state-there)
 
-pub ruleset up_facts = (up-held, up-room)
+pub ruleset up_facts = (swapped-held, swapped-room, swapped-moved)
 
 pub ruleset begin_facts = (records-sound, new-width, step-within, within-run, state-there)
 

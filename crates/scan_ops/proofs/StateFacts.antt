@@ -1,7 +1,9 @@
 -- The records of a state, as expressions read them.
-use Rattle.std.proofs.Common.{◌≡◌, ◌<◌, ◌≤◌, ◌+◌, ◌-◌, ◌++◌, ℕ, zero, suc, true, false, List, [], ◌∷◌, map, length, replicate, take, get_or, refl, sym, ap, ◌∙◌, arith, length-append}
-use Rattle.std.specs.Prelude.{IfSome, None, Option, Some, is_some, option_map, slice_set}
-use Rattle.std.proofs.lemmas.List.{get_or-replicate, length-map, length-replicate}
+use Rattle.std.proofs.Common.{◌≡◌, ◌≢◌, ◌<◌, ◌≤◌, ◌+◌, ◌-◌, ◌++◌, ℕ, zero, suc, true, false, List, [], ◌∷◌, map, length, replicate, take, get_or, refl, sym, ap, ap₂, ◌∙◌, arith, inl, inr, length-append}
+use Rattle.std.specs.Prelude.{◌==◌, IfSome, None, Option, Some, is_some, option_map, slice_set}
+use Rattle.std.proofs.lemmas.Bool.{cases_Bool}
+use Rattle.std.proofs.lemmas.Bool.Decides.{nat_tests}
+use Rattle.std.proofs.lemmas.List.{get_or-replicate, get_or-set_other, get_or-set_same, length-map, length-replicate}
 use Rattle.kql_cells.specs.declared.value.Value.{Value}
 use Rattle.kql_meaning.specs.Readings.{Records}
 use Rattle.kql_meaning.specs.Scan.{Held, records_of}
@@ -156,5 +158,36 @@ begun-form old id rs new row h held lt e = (begun old id rs new row h held lt e)
 
 pub begun-seen : (old : Option ℕ) (id : ℕ) (rs new : Records) (row : List Value) → rs ≡ records_of (length rs) (held_of old rs) → IfSome (held_of old rs) (λ h. length h.records ≤ 1) → 0 < length rs → new ≡ slice_set rs 0 (Some row) → seen (Some id) new ≡ record { size = length rs; held = Some (begun_with id row) }
 begun-seen old id rs new row h held lt e = (begun old id rs new row h held lt e).1
+
+-- Records that are let go of, the first ones first.
+pub record AreNone (n : ℕ) (rs : Records) : Type 0 where
+  pub each : (k : ℕ) (d : Option (List Value)) → k < n → get_or rs k d ≡ None
+
+pub none-start : (n : ℕ) (rs : Records) → n ≡ 0 → AreNone n rs
+none-start n rs none = record { each = λ k d lt. absurd (omega (arith, lt, none)) }
+
+pub none-more : (n : ℕ) (rs new : Records) → n < length rs → AreNone n rs → new ≡ slice_set rs n None → AreNone (n + 1) new
+none-more n rs new inside h e = record {
+  each = λ k d lt. ap (λ (xs : Records). get_or xs k d) e ∙ elim (cases_Bool (k == n)) [
+    | inl y ↦
+        let same : k ≡ n = grind (arith, y, nat_tests) in
+        ap (λ j. get_or (slice_set rs n None) j d) same ∙ get_or-set_same rs n None d inside
+    | inr f ↦
+        let other : k ≢ n = grind (arith, f, nat_tests) in
+        get_or-set_other rs n k None d other ∙ h.each k d (omega (arith, lt, other))
+  ];
+}
+
+none-all : (rs : Records) → ((k : ℕ) (d : Option (List Value)) → k < length rs → get_or rs k d ≡ None) → rs ≡ replicate (length rs) None
+none-all [] h = refl
+none-all (r ∷ rs) h = ap₂ (λ (x : Option (List Value)) (xs : Records). x ∷ xs) (h 0 r (omega arith)) (none-all rs (λ k d lt. h (suc k) d (omega (arith, lt))))
+
+pub none-whole : (n : ℕ) (rs old : Records) → length rs ≡ length old → length old ≤ n → AreNone n rs → rs ≡ replicate (length old) None
+none-whole n rs old size le h = none-all rs (λ k d lt. h.each k d (omega (arith, lt, size, le))) ∙ ap (λ m. replicate m None) size
+
+pub none-size : (n m : ℕ) (rs new : Records) → length rs ≡ m → new ≡ slice_set rs n None → length new ≡ m
+none-size n m rs new size e = ap length e ∙ (length-set-of rs n None ∙ size)
+
+pub ruleset clear_facts = (none-start, none-more, none-whole, none-size)
 
 pub ruleset state_facts = (empty-form, empty-seen, id-seen)

@@ -2,3 +2,4 @@ pub mod Extended
 pub mod Steps
 pub mod States
 pub mod Runs
+pub mod Scans

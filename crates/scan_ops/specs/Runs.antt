@@ -1,6 +1,5 @@
 -- What a machine holds while rows go through it.
 use Rattle.std.specs.Prelude.{◌≡◌, ℕ, ◌+◌, ◌-◌, ◌<◌, List, [], ◌++◌, Option, None, Some, All, IfSome, length, map, option_map, slice_get, slice_index_or, slice_set}
-use Rattle.kql_cells.specs.Table.{Grid}
 use Rattle.kql_cells.specs.declared.schema.Column.{Column}
 use Rattle.kql_cells.specs.declared.value.Value.{Value}
 use Rattle.kql_scalar_fns.specs.Arguments.{AreWellFormed}
@@ -67,8 +66,8 @@ emitted_with p step line (Some h) = emitted_at_once p step line h.id
 unfoldable pub emitted_by_move : ScanPlan → ScanStep → ℕ → List Value → Option Held → Option Held → List (List Value)
 emitted_by_move p step at line before old = held_rows p (at + 1) old ++ (held_rows p at before ++ emitted_with p step line before)
 
--- What contracts see of a machine: the scan, the rows with the declared columns that it goes over, and the turn.
-pub record Running : Type 0 where
+-- What contracts see of a machine: the scan, the columns of the tables that it goes over, and the machine.
+pub record Scanning : Type 0 where
   pub plan : ScanPlan
-  pub rows : Grid
-  pub turn : Turn
+  pub columns : List Column
+  pub machine : Machine

@@ -201,6 +201,7 @@ pub(crate) fn emit_ends(
     requires states { AreStates (length plan.now.steps) width states.now }
     requires width { HaveLength (width_of plan.now width) emitted.old }
     ensures rows { OnOk result (emitted.new ≡ emitted.old ++ rows_at_end plan.now (machine_of states.now begun)) }
+    ensures width { OnOk result (HaveLength (width_of plan.now width) emitted.new) }
 {
     'each: for at in 0..states.len() {
         emit_held(alloc, plan, at, &states[at], emitted)?;

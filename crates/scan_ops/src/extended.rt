@@ -12,18 +12,29 @@ use kql_values::{Table, Vector};
 use std::alloc::{AllocError, Global};
 
 /// A copy of the rows, each with the defaults of the declared columns behind it.
-#[tactic(auto, using(crate::proofs::ExtendedFacts::extended_facts))]
+#[tactic(auto, using(crate::proofs::ExtendedFacts::copy_facts))]
 pub(crate) fn with_declared(alloc: Global, plan: &ScanPlan, t: &Table) -> Result<Table, AllocError>
     requires fits { IsTrue (defaults_fit plan.now.declared) }
     requires names { HasDistinctNames column_name (t.now.columns ++ declared_columns plan.now) }
     ensures rows { IfOk result (λ u. u ≡ with_declared plan.now t.now) }
 {
     let mut extended = t.copy(alloc)?;
+    declare(alloc, plan, &mut extended)?;
+    Ok(extended)
+}
+
+/// Puts the defaults of the declared columns behind each row.
+#[tactic(auto, using(crate::proofs::ExtendedFacts::extended_facts))]
+pub(crate) fn declare(alloc: Global, plan: &ScanPlan, t: &mut Table) -> Result<(), AllocError>
+    requires fits { IsTrue (defaults_fit plan.now.declared) }
+    requires names { HasDistinctNames column_name (t.old.columns ++ declared_columns plan.now) }
+    ensures rows { OnOk result (t.new ≡ with_declared plan.now t.old) }
+{
     let declared = plan.declared.as_slice();
     'each: for decl in declared {
-        push_declared(alloc, decl, &mut extended)?;
+        push_declared(alloc, decl, t)?;
     }
-    Ok(extended)
+    Ok(())
 }
 
 // Adds a declared column.

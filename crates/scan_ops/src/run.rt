@@ -1,7 +1,8 @@
 //! A row taken through the steps.
-ghost use Rattle.std.specs.Prelude.{◌≡◌, ◌<◌, ◌+◌, [], is_some, length, map, option_map, replicate, IfOk, IsTrue, None, OnErr, OnOk, Some};
+ghost use Rattle.std.specs.Prelude.{◌≡◌, ◌<◌, ◌+◌, is_some, length, map, option_map, replicate, IfOk, IsTrue, None, OnOk, Some};
 ghost use Rattle.kql_meaning.specs.Scan.{after, check_one, check_two, machine_at_start, row_after, state_before, tried};
-ghost use Rattle.scan_ops.specs.Runs.{AreStates, HasMovedUp, IsRun, IsStepOf, turn_of};
+ghost use Rattle.kql_values.specs.Grids.{HaveLength};
+ghost use Rattle.scan_ops.specs.Runs.{AreStates, HasMovedUp, IsRun, IsStepOf, turn_of, width_of};
 ghost use Rattle.scan_ops.specs.Steps.{placed_step};
 
 use crate::emit::{emit_at_once, emit_held, emit_move, emit_with};
@@ -10,7 +11,6 @@ use crate::step::Step;
 use kql_bound::ScanPlan;
 use kql_values::{Row, Rows, Table};
 use std::alloc::{AllocError, Global};
-use std::mem::replace;
 
 /// What a machine changes: the states of its steps, how many sequences have begun, and the rows that it emitted.
 #[derive(Drop)]
@@ -20,22 +20,28 @@ pub(crate) struct Run {
     pub(crate) emitted: Rows,
 }
 
-/// A run in which no row was taken yet.
+/// A run in which no row was taken yet, behind the rows of `out`.
 #[tactic(auto, using(crate::proofs::RunFacts::start_facts))]
-pub(crate) fn started(alloc: Global, plan: &ScanPlan, t: &Table) -> Result<Run, AllocError>
-    ensures turn { IfOk result (λ r. turn_of r ≡ record { machine = machine_at_start plan.now; emitted = [] }) }
+pub(crate) fn started(
+    alloc: Global,
+    plan: &ScanPlan,
+    t: &Table,
+    out: Rows,
+) -> Result<Run, AllocError>
+    requires width { HaveLength (width_of plan.now (length t.now.columns)) out }
+    ensures turn { IfOk result (λ r. turn_of r ≡ record { machine = machine_at_start plan.now; emitted = out }) }
     ensures run { IfOk result (IsRun plan.now t.now.columns) }
 {
     let states = empty_states(alloc, plan.steps.len())?;
     Ok(Run {
         states,
         begun: 0,
-        emitted: Rows::new(alloc),
+        emitted: out,
     })
 }
 
-// An empty state for each of so many steps.
-fn empty_states(alloc: Global, size: usize) -> Result<Vec<State>, AllocError>
+/// An empty state for each of so many steps.
+pub(crate) fn empty_states(alloc: Global, size: usize) -> Result<Vec<State>, AllocError>
     ensures states { IfOk result (λ ss. ss.items ≡ replicate size (record { size = size; held = None })) }
 {
     let mut states = Vec::with_capacity(alloc, size)?;
@@ -65,7 +71,8 @@ pub(crate) fn take_row(
     let mut left = steps.len();
     'each: while 0 < left {
         left -= 1;
-        try_step(alloc, plan, t, i, &steps[left], left, run)?;
+        let at = left;
+        try_step(alloc, plan, t, i, &steps[at], at, run)?;
     }
     Ok(())
 }
@@ -190,25 +197,21 @@ fn promote(
         &run.states.as_slice()[at],
         &mut run.emitted,
     )?;
-    move_up(alloc, at, line, &mut run.states)?;
+    move_up(at, line, &mut run.states);
     Ok(())
 }
 
-// Moves the state of the step before to a step, with a new record, and leaves an empty one.
+// Moves the state of the step before to a step, with a new record, and leaves an empty one. The two change places.
 #[tactic(auto, using(crate::proofs::RunFacts::up_facts))]
-fn move_up(alloc: Global, at: usize, line: Row, states: &mut Vec<State>) -> Result<(), AllocError>
+fn move_up(at: usize, line: Row, states: &mut Vec<State>)
     requires above { 0 < at }
     requires within { at < length states.old.items }
     requires states { AreStates (length states.old.items) (length line) states.old.items }
-    ensures moved { OnOk result (HasMovedUp at line states.old.items states.new.items) }
-    ensures kept { OnErr result (states.new.items ≡ states.old.items) }
+    ensures moved { HasMovedUp at line states.old.items states.new.items }
 {
-    let size = states[at - 1].size();
-    let empty = State::empty(alloc, size)?;
-    let mut state = replace(&mut states[at - 1], empty);
-    state.take(at, line);
-    states[at] = state;
-    Ok(())
+    states.swap(at - 1, at);
+    states[at - 1].clear();
+    states[at].take(at, line);
 }
 
 // Check 2 has held for the first step: a new sequence begins.

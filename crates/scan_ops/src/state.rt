@@ -88,6 +88,14 @@ impl State {
         }
     }
 
+    /// Lets go of all that is held.
+    pub(crate) fn clear(&mut self)
+        ensures after { self.new ≡ record { size = self.old.size; held = None } }
+    {
+        clear_records(&mut self.records);
+        self.id = None;
+    }
+
     /// Begins a sequence with a record for the first step, where no more than one is held.
     pub(crate) fn begin(&mut self, id: u64, row: Row)
         requires held { IfSome self.old.held (λ h. length h.records ≤ 1) }
@@ -108,4 +116,14 @@ fn no_records(alloc: Global, size: usize) -> Result<Items<Option<Row>>, AllocErr
         records.push(None)?;
     }
     Ok(records)
+}
+
+// Lets go of each record.
+#[tactic(auto, using(crate::proofs::StateFacts::clear_facts))]
+fn clear_records(records: &mut Items<Option<Row>>)
+    ensures none { records.new ≡ replicate (length records.old) None }
+{
+    'each: for at in 0..records.len() {
+        records.set(at, None);
+    }
 }

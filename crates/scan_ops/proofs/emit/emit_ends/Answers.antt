@@ -22,4 +22,7 @@ each-preserved c =
 pub returns : goal.returns
 returns c =
     let all : c.each.at ≡ length c.args.plan.now.steps = omega arith in
-    record { rows = ends-all c.args.plan.now (machine_of c.args.states.now c.args.begun) c.each.at c.args.emitted.now c.each.emitted all c.each.invariant.rows }
+    record {
+      rows = ends-all c.args.plan.now (machine_of c.args.states.now c.args.begun) c.each.at c.args.emitted.now c.each.emitted all c.each.invariant.rows;
+      width = c.each.invariant.width;
+    }

@@ -6,17 +6,6 @@ use Rattle.scan_ops.proofs.EmitFacts.{state-at, state-same, wide-line}
 use Rattle.scan_ops.proofs.RunFacts.{moved-count, moved-states, new-width, promoted-turn, within-run}
 use Rattle.scan_ops.proofs.run.promote.Goals as goal
 
-pub returns-in_err-move_up-clause-run : goal.returns-in_err-move_up-clause-run
-returns-in_err-move_up-clause-run c =
-    let p = c.args.plan.now in
-    let w = length c.args.t.now.columns in
-    let wide = new-width c.args.step.now.step c.args.t.now c.args.i c.records.result.now c.in_ok-line.line c.in_ok-line.ensures.line in
-    record {
-      count = ap length c.in_err-move_up.ensures.kept ∙ c.requires.run.count;
-      states = subst (AreStates (length p.steps) w) (sym c.in_err-move_up.ensures.kept) c.requires.run.states;
-      width = wide-line p w c.as_slice-2.result.now c.in_ok-line.line c.emit_move.new.emitted c.as_slice-2.ensures.items wide c.in_ok-emit_move.ensures.width;
-    }
-
 pub returns-clause-turn : goal.returns-clause-turn
 returns-clause-turn c =
     let p = c.args.plan.now in
@@ -39,7 +28,7 @@ returns-clause-turn c =
     ∙ (ap (λ (l : List Value). r.emitted ++ emitted_by_move p s at l b2.held o.held) c.as_slice-2.ensures.items
     ∙ ap (λ (x : StateSeen). r.emitted ++ emitted_by_move p s at line x.held o.held) same) in
     promoted-turn p s c.args.t.now c.args.i at (length c.args.t.now.columns) ss c.move_up.new.states.items r.begun r.emitted c.emit_move.new.emitted b o c.records.result.now line
-    c.requires.above inside before old c.requires.run.states c.requires.check c.records.ensures.records c.in_ok-line.ensures.line rows c.in_ok-move_up.ensures.moved
+    c.requires.above inside before old c.requires.run.states c.requires.check c.records.ensures.records c.in_ok-line.ensures.line rows c.move_up.ensures.moved
 
 pub returns-clause-run : goal.returns-clause-run
 returns-clause-run c =
@@ -55,7 +44,7 @@ returns-clause-run c =
     let b = c.index-as_slice-at.result in
     let before = state-at (at - 1) ss c.as_slice.result.now b c.as_slice.ensures.value c.index-as_slice-at.is in
     record {
-      count = moved-count at ss c.move_up.new.states.items line b below before c.in_ok-move_up.ensures.moved ∙ c.requires.run.count;
-      states = moved-states (length p.steps) w at ss c.move_up.new.states.items line b c.requires.run.states c.requires.above inside before wide c.in_ok-line.ensures.form c.in_ok-move_up.ensures.moved;
+      count = moved-count at ss c.move_up.new.states.items line b below before c.move_up.ensures.moved ∙ c.requires.run.count;
+      states = moved-states (length p.steps) w at ss c.move_up.new.states.items line b c.requires.run.states c.requires.above inside before wide c.in_ok-line.ensures.form c.move_up.ensures.moved;
       width = wide-line p w c.as_slice-2.result.now line c.emit_move.new.emitted c.as_slice-2.ensures.items wide c.in_ok-emit_move.ensures.width;
     }

@@ -12,17 +12,17 @@ each-init c = record {
 }
 
 pub try_step-requires-clause-step : goal.try_step-requires-clause-step
-try_step-requires-clause-step c = step-of c.args.plan.now c.args.t.now.columns c.args.steps.now (c.each.left - 1) c.index-steps-left.result c.requires.steps (omega arith) c.index-steps-left.is
+try_step-requires-clause-step c = step-of c.args.plan.now c.args.t.now.columns c.args.steps.now (c.each.left - 1) c.index-steps-at.result c.requires.steps (omega arith) c.index-steps-at.is
 
 pub each-preserved : goal.each-preserved
 each-preserved c =
     let p = c.args.plan.now in
     let cs = c.args.t.now.columns in
-    let x = c.index-steps-left.result in
+    let x = c.index-steps-at.result in
     let k = c.each.left - 1 in
     let lt : k < length p.steps = omega (arith, steps-count p cs c.args.steps.now c.requires.steps) in
     let next : c.each.left ≡ k + 1 = omega arith in
-    let here = step-of p cs c.args.steps.now k x c.requires.steps (omega arith) c.index-steps-left.is in
+    let here = step-of p cs c.args.steps.now k x c.requires.steps (omega arith) c.index-steps-at.is in
     record {
       run = c.try_step.ensures.run;
       left = omega arith;
