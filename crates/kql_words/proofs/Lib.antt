@@ -1,0 +1,4 @@
+pub mod AskedFacts
+pub mod CommandFacts
+pub mod TrialFacts
+pub mod UnlessFacts
