@@ -14,7 +14,7 @@ use Rattle.kql_words.specs.Command.{query_path, table_words, texts}
 use Rattle.kql_words.specs.Refusals.{Answer}
 use Rattle.kql_words.specs.declared.command.Asked.{Asked}
 use Rattle.kql_words.specs.declared.refusal.Refusal.TheVariants as refusal
-use Rattle.kql_words.proofs.AskedFacts.{texts-rest}
+use Rattle.kql_words.proofs.AskedLaws.{texts-rest}
 use Rattle.kql_program.specs.Files.{Files, file_tokens, query_tokens, tables_from}
 use Rattle.kql_program.specs.Queries.{AreRows, AreRowsAsked, query_rows, rows_over, rows_with}
 use Rattle.kql_program.specs.Refusals.{Computes, Finds, Gives, Reaches}

@@ -20,8 +20,8 @@ use Rattle.kql_words.specs.declared.refusal.Refusal.{Refusal}
 use Rattle.kql_program.specs.declared.refusal.Stop.{Stop}
 use Rattle.kql_program.specs.declared.refusal.Stop.TheVariants as stop
 use Rattle.kql_program.proofs.AnswerFacts.{after-first}
-use Rattle.kql_words.proofs.CommandFacts.{words-at}
-use Rattle.kql_words.proofs.AskedFacts.{both-empty}
+use Rattle.kql_words.proofs.CommandLaws.{words-at}
+use Rattle.kql_words.proofs.AskedLaws.{both-empty}
 
 -- words without faults: the word of a place has none behind those before it
 clean-at : (number : ℕ) (names words : List (List ℕ)) (i : ℕ) → tables_faults number names words ≡ [] → i < length words

@@ -1,4 +1,4 @@
-pub mod AskedFacts
-pub mod CommandFacts
+pub mod AskedLaws
+pub mod CommandLaws
 pub mod TrialFacts
 pub mod UnlessFacts

@@ -2,7 +2,7 @@ use Rattle.std.proofs.Common.{◌<◌, ◌∙◌, ap, arith, length, sym}
 use Rattle.std.proofs.lemmas.Grind.{common_steps}
 use Rattle.std.specs.Prelude.{string_bytes}
 use Rattle.kql_words.proofs.UnlessFacts.{raised-refusal}
-use Rattle.kql_words.proofs.CommandFacts.{check-fault, check-next}
+use Rattle.kql_words.proofs.CommandLaws.{check-fault, check-next}
 use Rattle.kql_words.proofs.command.check_tables.Goals as goal
 
 pub returns-in_err-check_table : goal.returns-in_err-check_table

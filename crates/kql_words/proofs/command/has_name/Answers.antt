@@ -5,7 +5,7 @@ use Rattle.std.proofs.lemmas.List.Folds.{list_any_at}
 use Rattle.std.specs.Prelude.{string_bytes}
 use Rattle.std.specs.Str.{bytes_eq}
 use Rattle.kql_words.specs.Command.{name_in, texts}
-use Rattle.kql_words.proofs.CommandFacts.{name-at}
+use Rattle.kql_words.proofs.CommandLaws.{name-at}
 use Rattle.kql_words.proofs.command.has_name.Goals as goal
 
 pub returns-then-eq : goal.returns-then-eq

@@ -1,6 +1,6 @@
 use Rattle.std.proofs.Common.{refl}
 use Rattle.kql_words.proofs.UnlessFacts.{raised-refusal}
-use Rattle.kql_words.proofs.AskedFacts.{asked-err, asked-ok, asked-tables}
+use Rattle.kql_words.proofs.AskedLaws.{asked-err, asked-ok, asked-tables}
 use Rattle.kql_words.proofs.command.read_asked.Goals as goal
 
 pub returns-in_err-check_tables-clause-read : goal.returns-in_err-check_tables-clause-read
