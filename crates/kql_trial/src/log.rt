@@ -24,7 +24,7 @@ pub fn log_catalogue(alloc: Global, rows: u32, seed: u64) -> Result<Catalogue, A
     Ok(catalogue)
 }
 
-#[tactic(auto, unfolding(crate::specs::Log::log_table))]
+#[tactic(auto, using(crate::proofs::LogFacts::log_facts))]
 fn log_table(alloc: Global, rows: u32, seed: u64) -> Result<Table, AllocError>
     ensures table { IfOk result (λ t. t ≡ log_table rows seed) }
 {
@@ -38,6 +38,7 @@ fn log_table(alloc: Global, rows: u32, seed: u64) -> Result<Table, AllocError>
     Ok(log)
 }
 
+#[tactic(auto, using(crate::proofs::LogFacts::log_facts))]
 fn log_schema(alloc: Global) -> Result<Schema, AllocError>
     ensures columns { IfOk result (λ s. s ≡ log_columns) }
 {
