@@ -2,13 +2,15 @@
 //!
 //! A line of the input is a row: a query, a tab, and its plan text, or the code of its first fault and the place. `⏎` stands for the
 //! end of a line in both. A line that begins with `# ` is a heading: it names the tables over which the queries under it stand, and
-//! tells what they show. The rows are written by hand from the reference of the language. The output tells the rows that are wrong,
-//! and how many there are.
+//! tells what they show. The rows are written by hand from the reference of the language. Of a query that parses each start that ends
+//! before a token parses too, or is refused at its end. The output tells the rows that are wrong, and how many there are.
 #![tactic(auto)]
 
+mod cuts;
 mod shown;
 mod tables;
 
+use crate::cuts::first_wrong_cut;
 use crate::shown::shown;
 use crate::tables::{At, at_named};
 use std::io;
@@ -31,14 +33,18 @@ fn heading(line: &str) -> Option<At> {
 fn check(rt: &HostRuntime, counts: Counts, at: At, text: &str, wanted: &str) -> io::Result<Counts> {
     let query = text.replace(rt.alloc(), "⏎", "\n")?;
     let found = shown(rt.alloc(), query.as_str(), at)?;
+    let cut = first_wrong_cut(rt.alloc(), query.as_str())?;
     let rows = counts.rows.saturating_add(1);
-    if found.as_str() == wanted {
+    if found.as_str() == wanted && cut.is_none() {
         return Ok(Counts {
             rows,
             wrong: counts.wrong,
         });
     }
     println!(rt; "{text}: {found}, not {wanted}")?;
+    if let Some(end) = cut {
+        println!(rt; "and its first {end} bytes are refused before their end")?;
+    }
     Ok(Counts {
         rows,
         wrong: counts.wrong.saturating_add(1),

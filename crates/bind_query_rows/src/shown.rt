@@ -4,6 +4,7 @@ use bind_expr::BindFault;
 use bind_query::bind;
 use kql_bound::{Program, clone_program};
 use kql_cells::KText;
+use kql_fits::fits;
 use kql_lexer::{LexFault, Place, lex};
 use kql_parser::parse;
 use kql_plan_text::plan_text;
@@ -31,12 +32,27 @@ fn program_text(alloc: Global, program: &Program) -> Result<String, AllocError> 
     text.replace(alloc, "\n", "⏎")
 }
 
+/// Whether a program fits these tables.
+fn fits_at(alloc: Global, program: &Program, at: At) -> Result<bool, AllocError> {
+    let schemas = schemas(alloc, at)?;
+    fits(alloc, program, &schemas)
+}
+
+/// The same, where the program fits the tables over which it was bound, and no tables at all only where it names none.
+fn fitting_text(alloc: Global, program: &Program, at: At) -> Result<String, AllocError> {
+    let names_none = program.tables.schemas().is_empty();
+    if fits_at(alloc, program, at)? && fits_at(alloc, program, At::Bare)? == names_none {
+        return program_text(alloc, program);
+    }
+    format!(in alloc; "it fits other tables than these")
+}
+
 /// What a query is bound to over these tables.
 fn bound_text(alloc: Global, query: &Query, at: At) -> Result<String, AllocError> {
     let schemas = schemas(alloc, at)?;
     match bind(alloc, query, schemas, moment(at)) {
         Ok(program) => {
-            let text = program_text(alloc, program.get());
+            let text = fitting_text(alloc, program.get(), at);
             drop(program);
             text
         }
@@ -46,7 +62,7 @@ fn bound_text(alloc: Global, query: &Query, at: At) -> Result<String, AllocError
 }
 
 /// The query that a text is.
-fn parsed(alloc: Global, text: &str) -> Result<Query, SyntaxFault> {
+pub(crate) fn parsed(alloc: Global, text: &str) -> Result<Query, SyntaxFault> {
     match lex(alloc, text.as_bytes()) {
         Ok(tokens) => parse(alloc, &tokens),
         Err(LexFault::Refused { code, place }) => Err(SyntaxFault::Refused { code, place }),

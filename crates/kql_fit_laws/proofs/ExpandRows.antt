@@ -4,7 +4,7 @@ use Rattle.std.specs.Prelude.{IfSome, None, Option, Some, ℤ, bytes_eq, not, op
 use Rattle.std.specs.List.{flat_map, list_all}
 use Rattle.std.proofs.lemmas.Bool.{and_from, and_parts}
 use Rattle.kql_cells.specs.Named.{HasDistinctNames, column_name}
-use Rattle.kql_cells.specs.Table.{CellFits, Grid, RowFits}
+use Rattle.kql_cells.specs.Table.{CellFits, Grid, IsGrid, RowFits}
 use Rattle.kql_cells.specs.Values.{IsMoment}
 use Rattle.kql_cells.specs.declared.dynamic.Dyn.{Dyn, out-Dyn}
 use Rattle.kql_cells.specs.declared.dynamic.Dyn.TheOpen.{Dyn-F}
@@ -156,18 +156,21 @@ module _ (x : Expand) (t : Grid) (i k : ℕ) (h : IsTable t) (lt : i < length t.
       (replaced-row t.columns (λ c m. m))
       (new-row (new_items x.items t.columns) (λ item m. (member-of-filter (λ (b : ExpandItem). not (has_column b.name t.columns)) x.items item m).0))
 
-expand-table-of : (x : Expand) (t : Grid) (cs : List Column) → IsTable t → expand_fits x t.columns ≡ true → expand_columns x t.columns ≡ cs → HasDistinctNames column_name cs → IsTableOf cs (expand_table x t)
+pub expand-grid : (x : Expand) (t : Grid) → IsTable t → expand_fits x t.columns ≡ true → IsGrid (expand_table x t)
 unfolding expand_table expand_fits
-expand-table-of x t cs h fits e names =
+expand-grid x t h fits =
     let fit = (and_parts (list_all (expand_item_fits t.columns) x.items) (are_distinct (expand_names x.items)) fits).0 in
     let columns = expand_columns x t.columns in
     let lines = λ (i : ℕ). map (expanded_row x t i) (places_below (rows_given x t i)) in
-    let all = all-members (RowFits columns) (flat_map lines (places t))
+    all-members (RowFits columns) (flat_map lines (places t))
     (λ row m.
     let q = member-of-flat lines (places t) row m in
     let r = member-of-map (expanded_row x t q.0) (places_below (rows_given x t q.0)) row q.2 in
-    subst (RowFits columns) r.2 (expanded-row x t q.0 r.0 h (place-below t q.0 q.1) fit)) in
-    (e, (subst (HasDistinctNames column_name) (sym e) names, all))
+    subst (RowFits columns) r.2 (expanded-row x t q.0 r.0 h (place-below t q.0 q.1) fit))
+
+expand-table-of : (x : Expand) (t : Grid) (cs : List Column) → IsTable t → expand_fits x t.columns ≡ true → expand_columns x t.columns ≡ cs → HasDistinctNames column_name cs → IsTableOf cs (expand_table x t)
+unfolding expand_table
+expand-table-of x t cs h fits e names = (e, (subst (HasDistinctNames column_name) (sym e) names, expand-grid x t h fits))
 
 pub each_expand_keeps : EachExpandKeeps
 each_expand_keeps k w x inside t cs h fits =

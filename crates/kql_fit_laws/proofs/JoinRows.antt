@@ -6,7 +6,7 @@ use Rattle.std.proofs.lemmas.Bool.{and_parts, cases_Bool}
 use Rattle.std.proofs.lemmas.List.Elements.{All-filter}
 use Rattle.kql_cells.specs.Named.{HasDistinctNames, column_name, place_of}
 use Rattle.kql_cells.specs.Seen.{row_at}
-use Rattle.kql_cells.specs.Table.{CellFits, Grid, RowFits}
+use Rattle.kql_cells.specs.Table.{CellFits, Grid, IsGrid, RowFits}
 use Rattle.kql_cells.specs.declared.schema.Column.{Column}
 use Rattle.kql_cells.specs.declared.value.Kind.{Kind}
 use Rattle.kql_cells.specs.declared.value.Kind.TheVariants as kind
@@ -178,16 +178,16 @@ kind-of-found c d cs e t =
     let same : same_kind c.kind d.kind ≡ true = rw (has, e) at t in
     same-kind c.kind d.kind same
 
-cell-fits : (t : Grid) (i : ℕ) → IsTable t → i < length t.lines → (c : Column) → is_of_type_in c t.columns ≡ true → (o : Option ℕ) → place_of column_name c.name t.columns ≡ o → CellFits c (cell_or_absent t i c o)
+cell-fits : (t : Grid) (i : ℕ) → IsGrid t → i < length t.lines → (c : Column) → is_of_type_in c t.columns ≡ true → (o : Option ℕ) → place_of column_name c.name t.columns ≡ o → CellFits c (cell_or_absent t i c o)
 unfolding cell_or_absent
 cell-fits t i h lt c typed None e = absent-fits c.kind
 cell-fits t i h lt c typed (Some j) e =
     let q = found-place t.columns c.name j e in
-    let fits = cell-at-fits t i j q.0 h.1 lt q.1 in
+    let fits = cell-at-fits t i j q.0 h lt q.1 in
     let same = kind-of-found c q.0 t.columns q.2 typed in
     (rw same fits.0, fits.1)
 
-union-row : (t : Grid) (i : ℕ) → IsTable t → i < length t.lines → (cs : List Column) → ((c : Column) → Member c cs → is_of_type_in c t.columns ≡ true) → RowFits cs (map (λ (c : Column). cell_or_absent t i c (place_of column_name c.name t.columns)) cs)
+union-row : (t : Grid) (i : ℕ) → IsGrid t → i < length t.lines → (cs : List Column) → ((c : Column) → Member c cs → is_of_type_in c t.columns ≡ true) → RowFits cs (map (λ (c : Column). cell_or_absent t i c (place_of column_name c.name t.columns)) cs)
 unfolding RowFits
 union-row t i h lt [] typed = tt
 union-row t i h lt (c ∷ cs) typed =
@@ -210,7 +210,8 @@ typed-in : (cs : List Column) (tables : List (List Column)) (c : Column) (table 
 unfolding union_fits
 typed-in cs tables c table e m n = all-of (is_of_type_in c) tables table (all-of (λ (d : Column). list_all (is_of_type_in d) tables) cs c e m) n
 
-rows-of-table : (t : Grid) (cs : List Column) → IsTable t → ((c : Column) → Member c cs → is_of_type_in c t.columns ≡ true) → (row : List Value) → Member row (rows_in_columns cs t) → RowFits cs row
+-- The rows of a table in the columns of a union fit these.
+pub rows-of-table : (t : Grid) (cs : List Column) → IsGrid t → ((c : Column) → Member c cs → is_of_type_in c t.columns ≡ true) → (row : List Value) → Member row (rows_in_columns cs t) → RowFits cs row
 unfolding rows_in_columns
 rows-of-table t cs h typed row m =
     let q = member-of-map (λ i. map (λ (c : Column). cell_or_absent t i c (place_of column_name c.name t.columns)) cs) (places t) row m in
@@ -227,6 +228,6 @@ union-table-of inner a others cs ha hs e names fits =
     let all = all-members (RowFits columns) (flat_map (rows_in_columns columns) (a ∷ others))
     (λ row m.
     let q = member-of-flat (rows_in_columns columns) (a ∷ others) row m in
-    rows-of-table q.0 columns (each-table a others ha hs q.0 q.1)
+    rows-of-table q.0 columns (each-table a others ha hs q.0 q.1).1
     (λ c n. typed-in columns (a.columns ∷ map columns_of others) c q.0.columns fits n (member-map columns_of (a ∷ others) q.0 q.1)) row q.2) in
     (e, (subst (HasDistinctNames column_name) (sym e) names, all))

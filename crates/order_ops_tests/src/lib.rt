@@ -1,8 +1,6 @@
-//! Tests of order_ops, on its public calls.
+//! A test of order_ops, on its public calls: without keys, which no query can ask for.
 #![tactic(auto)]
 
-#[cfg(test)]
-mod keys;
 #[cfg(test)]
 mod table;
 #[cfg(test)]

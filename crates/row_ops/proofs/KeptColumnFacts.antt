@@ -25,7 +25,7 @@ use Rattle.row_ops.proofs.ItemColumnFacts.{map-range-same}
 
 -- The numbers of a range that pass a test lie below its end, and no two are one.
 
-filter-below : (p : ℕ → Bool) (a n : ℕ) → AllByRecursion (λ j. j < a + n) (filter p (range_with_len a n))
+pub filter-below : (p : ℕ → Bool) (a n : ℕ) → AllByRecursion (λ j. j < a + n) (filter p (range_with_len a n))
 filter-below p a zero = tt
 filter-below p a (suc n) =
     let e : a + 1 + n ≡ a + suc n = omega arith in

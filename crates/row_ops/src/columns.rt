@@ -9,7 +9,7 @@ use std::alloc::{AllocError, Global};
 
 /// The places of the columns that have none of these names, rising.
 #[tactic(auto, unfolding(crate::specs::ItemColumns::places_without, kql_meaning::specs::Tables::places_below))]
-pub(crate) fn places_without(
+pub fn places_without(
     alloc: Global,
     names: &[KText],
     columns: &[Column],

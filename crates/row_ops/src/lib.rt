@@ -12,6 +12,7 @@ mod source;
 mod terms;
 mod values;
 
+pub use columns::places_without;
 pub use extend::{computed_rows, extend_rows, project_rows};
 pub use filter::{count_rows, take_rows, where_rows};
 pub use source::{print_rows, range_rows};

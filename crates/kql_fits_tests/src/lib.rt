@@ -1,5 +1,0 @@
-//! Tests of kql_fits, on its public calls.
-#![tactic(auto)]
-
-#[cfg(test)]
-mod tests;
