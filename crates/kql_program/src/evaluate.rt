@@ -11,7 +11,6 @@ ghost use Rattle.kql_program.specs.Refusals.{Gives};
 ghost use Rattle.kql_words.specs.declared.refusal.Refusal.TheVariants as refusal;
 
 use crate::refusal::Stop;
-use kql_words::Refusal;
 use bind_query::bind;
 use bind_query_laws::law_of_binding_queries;
 use kql_bound::Program;
@@ -21,6 +20,7 @@ use kql_lexer::Place;
 use kql_plain::{PlainFault, plain};
 use kql_syntax::Query;
 use kql_values::{Catalogue, Table};
+use kql_words::Refusal;
 use std::alloc::Global;
 
 /// The rows of a query over the tables of a catalogue, at a moment.

@@ -67,12 +67,7 @@ fn stored_rows(alloc: Global, catalogue: &Catalogue, text: &str) -> Result<Table
 }
 
 // The line that tells how many rows and bytes there are.
-fn counted_line(
-    alloc: Global,
-    number: u32,
-    rows: usize,
-    bytes: usize,
-) -> Result<String, AllocError>
+fn counted_line(alloc: Global, number: u32, rows: usize, bytes: usize) -> Result<String, AllocError>
     ensures { IfOk result (λ line. string_bytes line ≡ counted_line number rows bytes) }
 {
     format!(in alloc; "Q{number} rows {rows} bytes {bytes}\n")

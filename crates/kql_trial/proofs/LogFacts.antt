@@ -37,9 +37,9 @@ pub columns-differ : HasDistinctNames column_name log_columns
 columns-differ =
     let R : Column → Column → Type 0 = λ c d. column_name c ≢ column_name d in
     AllPairs-cons R _ _ (All-cons (R _) _ _ (λ e. absurd (omega (arith, first-letter _ _ e))) (All-cons (R _) _ _ (λ e. absurd (omega (arith, first-letter _ _ e)))
-      (All-cons (R _) _ _ (λ e. absurd (omega (arith, first-letter _ _ e))) (All-cons (R _) _ _ (λ e. absurd (omega (arith, first-letter _ _ e))) (All-nil (R _))))))
+    (All-cons (R _) _ _ (λ e. absurd (omega (arith, first-letter _ _ e))) (All-cons (R _) _ _ (λ e. absurd (omega (arith, first-letter _ _ e))) (All-nil (R _))))))
     (AllPairs-cons R _ _ (All-cons (R _) _ _ (λ e. absurd (omega (arith, first-letter _ _ e))) (All-cons (R _) _ _ (λ e. absurd (omega (arith, first-letter _ _ e)))
-      (All-cons (R _) _ _ (λ e. absurd (omega (arith, first-letter _ _ e))) (All-nil (R _)))))
+    (All-cons (R _) _ _ (λ e. absurd (omega (arith, first-letter _ _ e))) (All-nil (R _)))))
     (AllPairs-cons R _ _ (All-cons (R _) _ _ (λ e. absurd (omega (arith, first-letter _ _ e))) (All-cons (R _) _ _ (λ e. absurd (omega (arith, first-letter _ _ e))) (All-nil (R _))))
     (AllPairs-cons R _ _ (All-cons (R _) _ _ (λ e. absurd (omega (arith, first-letter _ _ e))) (All-nil (R _)))
     (AllPairs-cons R _ [] (All-nil (R _)) (λ i j d lt le. absurd (omega (arith, lt, le)))))))

@@ -128,11 +128,7 @@ fn rows_in(word: &str) -> Option<u32>
     ensures { result ≡ rows_in word.now }
 {
     let n = count_in(word)?;
-    if n <= ROWS_TOP {
-        Some(n as u32)
-    } else {
-        None
-    }
+    if n <= ROWS_TOP { Some(n as u32) } else { None }
 }
 
 // The number that a word writes in digits.
