@@ -1,5 +1,5 @@
 -- The lines of the stored queries, one after another.
-use Rattle.std.proofs.Common.{◌≡◌, ◌<◌, ◌≤◌, ◌+◌, ◌∙◌, ℕ, suc, List, [], ◌∷◌, ◌++◌, drop, get_or, length, refl, ap, sym, subst, arith, append_assoc, drop-cons}
+use Rattle.std.proofs.Common.{◌≡◌, ◌<◌, ◌≤◌, ◌+◌, ◌∙◌, ℕ, suc, List, [], ◌∷◌, ◌++◌, drop, length, refl, ap, sym, subst, arith, append_assoc}
 use Rattle.std.specs.Prelude.{None, Result, Ok, Err, IsErrAnd, String, string_bytes}
 use Rattle.std.specs.Global.{Global}
 use Rattle.std.proofs.lemmas.List.{append-nil, drop_all}
@@ -32,11 +32,12 @@ unfolding LeadsTo
 leads-first tables k text z e a h = rw (z, e) (rw (after-nothing a) (rw z at h))
 
 next-query : (k : ℕ) → k < 5 → drop k stored_queries ≡ stored_query k ∷ drop (k + 1) stored_queries
-unfolding stored_query
-next-query k lt =
-    let within : k < length stored_queries = lt in
-    let next : suc k ≡ k + 1 = omega arith in
-    rw (drop-cons stored_queries k [] within, next) refl
+next-query 0 lt = refl
+next-query 1 lt = refl
+next-query 2 lt = refl
+next-query 3 lt = refl
+next-query 4 lt = refl
+next-query (suc (suc (suc (suc (suc k))))) lt = absurd (omega (arith, lt))
 
 pub leads-on : (tables : List Named) (k : ℕ) (text line : List ℕ) → k < 5 → LeadsTo tables k text → IsLine tables (k + 1) (stored_query k) (Ok line) → LeadsTo tables (k + 1) (text ++ line)
 unfolding LeadsTo AreLines

@@ -1,5 +1,6 @@
 //! The log: a table of made-up lines, one a second.
-ghost use Rattle.std.specs.Prelude.{◌≡◌, ◌++◌, ◌∷◌, [], ◌/◌, ◌%◌, ◌^◌, IfOk, OnOk, string_bytes};
+ghost use Rattle.std.specs.Prelude.{◌≡◌, ◌++◌, ◌∷◌, [], ◌/◌, ◌%◌, ◌^◌, IfOk, OnOk, map, string_bytes};
+ghost use Rattle.kql_cells.specs.Seen.{seen};
 ghost use Rattle.kql_trial.specs.Log.{host_of, level_of, log_columns, log_row_of, log_table, log_tables, message_of, next_state};
 
 use kql_cells::{CellRef, Column, KText, Kind, Schema};
@@ -69,20 +70,37 @@ fn next_state(state: u64) -> u64
 }
 
 // Adds the row of this number, from 0, whose draw is `draw`.
+#[tactic(auto, using(crate::proofs::LogFacts::log_facts))]
 fn push_row(alloc: Global, log: &mut Table, i: u32, draw: u64) -> Result<(), AllocError>
     requires columns { log.old.columns ≡ log_columns }
     ensures added { OnOk result (log.new ≡ record { columns = log_columns; lines = log.old.lines ++ log_row_of i draw ∷ [] }) }
 {
     let host = host_of(alloc, draw)?;
     let message = message_of(alloc, draw)?;
-    let row = [
+    let cells = cells_of(i, draw, host.as_str(), level_of(draw), message.as_str());
+    log.push_cells(cells.as_slice())
+}
+
+// The cells of a row with these texts.
+fn cells_of<'a>(
+    i: u32,
+    draw: u64,
+    host: &'a str,
+    level: &'a str,
+    message: &'a str,
+) -> [CellRef<'a>; 5]
+    requires host { host.now ≡ host_of draw }
+    requires level { level.now ≡ level_of draw }
+    requires message { message.now ≡ message_of draw }
+    ensures cells { map seen result ≡ log_row_of i draw }
+{
+    [
         CellRef::Moment(FIRST_MOMENT + i as i64 * SECOND),
-        CellRef::Text(host.as_str()),
-        CellRef::Text(level_of(draw)),
-        CellRef::Text(message.as_str()),
+        CellRef::Text(host),
+        CellRef::Text(level),
+        CellRef::Text(message),
         CellRef::Long((draw / 170 % 10_000) as i64),
-    ];
-    log.push_cells(row.as_slice())
+    ]
 }
 
 fn host_of(alloc: Global, draw: u64) -> Result<String, AllocError>
