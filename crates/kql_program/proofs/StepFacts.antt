@@ -119,15 +119,17 @@ tokens-find tokens tables moment (stop.Refused q) h = record { verdict = Err q; 
 tokens-find tokens tables moment stop.ReadFault h = absurd h
 tokens-find tokens tables moment stop.OutOfMemory h = tt
 
-pub stored-tokens : (text : List ℕ) (tables : List Named) (r : Result Grid Stop) (s : Stop) → Gives (query_tokens text) (Err s) → IsErrAnd r (λ e. e ≡ s) → Finds (AreRows (query_tokens text) (Ok tables) None) r
-stored-tokens text tables r s h i = raised-finds (AreRows (query_tokens text) (Ok tables) None) r s i (tokens-find (query_tokens text) (Ok tables) None s h)
+pub stored-tokens : (text bytes : List ℕ) (tables : List Named) (r : Result Grid Stop) (s : Stop) → bytes ≡ text → Gives (query_tokens bytes) (Err s) → IsErrAnd r (λ e. e ≡ s) → Finds (AreRows (query_tokens text) (Ok tables) None) r
+stored-tokens text bytes tables r s b h i =
+    let there : Gives (query_tokens text) (Err s) = subst (λ (t : List ℕ). Gives (query_tokens t) (Err s)) b h in
+    raised-finds (AreRows (query_tokens text) (Ok tables) None) r s i (tokens-find (query_tokens text) (Ok tables) None s there)
 
 -- its syntax is refused
-pub stored-fault : (text : List ℕ) (tokens : List Token) (tables : List Named) (fault : SyntaxFault) (r : Result Grid Stop) → query_tokens text ≡ Ok tokens → Parses tokens (Err fault) → IsErrAnd r (λ e. e ≡ syntax_stop fault)
+pub stored-fault : (text bytes : List ℕ) (tokens : List Token) (tables : List Named) (fault : SyntaxFault) (r : Result Grid Stop) → bytes ≡ text → query_tokens bytes ≡ Ok tokens → Parses tokens (Err fault) → IsErrAnd r (λ e. e ≡ syntax_stop fault)
     → Finds (AreRows (query_tokens text) (Ok tables) None) r
-stored-fault text tokens tables fault r e h i =
+stored-fault text bytes tokens tables fault r b e h i =
     raised-finds (AreRows (query_tokens text) (Ok tables) None) r (syntax_stop fault) i
-    (subst (λ (ts : Answer (List Token)). Finds (AreRows ts (Ok tables) None) (Err (syntax_stop fault))) (sym e) (fault-rows (Ok tables) tokens None fault h))
+    (subst (λ (ts : Answer (List Token)). Finds (AreRows ts (Ok tables) None) (Err (syntax_stop fault))) (sym (sym (ap query_tokens b) ∙ e)) (fault-rows (Ok tables) tokens None fault h))
 
 query-finds : (tables : List Named) (tokens : List Token) (query : Query) (r : Result Grid Stop) → Parsed tokens query → Gives (rows_over query None tables) r → Finds (AreRows (Ok tokens) (Ok tables) None) r
 unfolding query_rows rows_with
@@ -137,7 +139,7 @@ query-finds tables tokens query (Err stop.ReadFault) p h = absurd h
 query-finds tables tokens query (Err stop.OutOfMemory) p h = tt
 
 -- its rows
-pub stored-rows : (text : List ℕ) (tokens : List Token) (tables : List Named) (query : Query) (r : Result Grid Stop) → query_tokens text ≡ Ok tokens → Parsed tokens query → Gives (rows_over query None tables) r
+pub stored-rows : (text bytes : List ℕ) (tokens : List Token) (tables : List Named) (query : Query) (r : Result Grid Stop) → bytes ≡ text → query_tokens bytes ≡ Ok tokens → Parsed tokens query → Gives (rows_over query None tables) r
     → Finds (AreRows (query_tokens text) (Ok tables) None) r
-stored-rows text tokens tables query r e p g =
-    subst (λ (ts : Answer (List Token)). Finds (AreRows ts (Ok tables) None) r) (sym e) (query-finds tables tokens query r p g)
+stored-rows text bytes tokens tables query r b e p g =
+    subst (λ (ts : Answer (List Token)). Finds (AreRows ts (Ok tables) None) r) (sym (sym (ap query_tokens b) ∙ e)) (query-finds tables tokens query r p g)
