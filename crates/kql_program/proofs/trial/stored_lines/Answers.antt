@@ -1,0 +1,27 @@
+use Rattle.std.proofs.Common.{◌≤◌, ◌<◌, arith, refl, rules}
+use Rattle.std.proofs.lemmas.Grind.{common_steps}
+use Rattle.std.specs.Prelude.{string_bytes}
+use Rattle.kql_program.proofs.TrialFacts.{leads-end, leads-first, leads-next, lines-raised}
+use Rattle.kql_program.proofs.WordFacts.{raised-words, stopped-words}
+use Rattle.kql_program.proofs.trial.stored_lines.Goals as goal
+
+pub loop-k-init : goal.loop-k-init
+loop-k-init c = leads-first c.args.catalogue.now 0 c.new-text.result.items refl (search rules)
+
+pub returns-in_err-line-clause-lines : goal.returns-in_err-line-clause-lines
+returns-in_err-line-clause-lines c =
+    let few : c.loop-k.k < 5 = grind (arith, common_steps) in
+    lines-raised c.args.catalogue.now c.loop-k.k c.loop-k.text.items _ _ few c.loop-k.invariant c.in_err-line.ensures.line c.from_residual.ensures.1
+
+pub loop-k-preserved : goal.loop-k-preserved
+loop-k-preserved c =
+    let few : c.loop-k.k < 5 = grind (arith, common_steps) in
+    leads-next c.args.catalogue.now c.loop-k.k c.loop-k.text.items (string_bytes c.in_ok-line.line) _ few c.loop-k.invariant c.in_ok-line.ensures.line (search rules)
+
+pub returns-clause-lines : goal.returns-clause-lines
+returns-clause-lines c =
+    let over : 5 ≤ c.loop-k.k = grind (arith, common_steps) in
+    leads-end c.args.catalogue.now c.loop-k.k c.loop-k.text.items c.from_vec.result over c.loop-k.invariant c.from_vec.ensures.items
+
+pub returns-in_err-line-clause-words : goal.returns-in_err-line-clause-words
+returns-in_err-line-clause-words c = raised-words _ _ c.from_residual.ensures.1 (stopped-words _ c.in_err-line.ensures.words)

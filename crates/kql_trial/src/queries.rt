@@ -1,0 +1,25 @@
+//! The stored queries, which are asked of the log one after another.
+ghost use Rattle.std.specs.Prelude.{◌≡◌, ◌<◌};
+ghost use Rattle.kql_trial.specs.Queries.{stored_query};
+
+/// How many stored queries there are.
+pub const STORED_QUERIES: u32 = 5;
+
+/// The text of a stored query, numbered from 0.
+#[tactic(auto, unfolding(crate::specs::Queries::stored_query))]
+pub fn stored_query(number: u32) -> &'static str
+    requires within { number < 5 }
+    ensures text { result.now ≡ stored_query number }
+{
+    if number == 0 {
+        "Log | where Level == \"Error\" | summarize Errors=count(), Total=sum(Bytes) by Host | sort by Host asc"
+    } else if number == 1 {
+        "Log | summarize count() by bin(Ts, 1h), Level"
+    } else if number == 2 {
+        "Log | serialize | extend Run = row_cumsum(Bytes, Host != prev(Host)) | top 10 by Run"
+    } else if number == 3 {
+        "Log | partition by Host (sort by Ts asc | scan with (step a: Level == \"Error\"; step b: Level == \"Info\" and Ts - a.Ts < 1m;) | count)"
+    } else {
+        "Log | join kind=inner (Log | where Bytes == 0) on Host | count"
+    }
+}
