@@ -12,10 +12,14 @@ const HELP: &str = "\
 kql: answers a query of the Kusto Query Language over tables in CSV files.
 
     kql run [--workers N] [--now T] QUERY NAME=PATH ..
+    kql plain [--workers N] [--now T] QUERY NAME=PATH ..
+    kql trial ROWS SEED [--workers N]
 
 QUERY is the path of a file with the query, and each NAME=PATH gives the CSV file
 of a table. The answer is CSV on standard output. A query or file that is refused
-is told in one line on standard error, with its place.
+is told in one line on standard error, with its place. plain answers as run, one
+operator after another on one thread. trial answers five stored queries over a
+log of ROWS lines that SEED makes up, with a line for each.
 
     --now T           the datetime that now() is, as 2024-03-01 or 2024-03-01T10:00
     --workers N       how many workers share the work, 1 to 64; without effect yet

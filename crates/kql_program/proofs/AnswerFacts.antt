@@ -1,20 +1,11 @@
 -- How answers follow one another.
 use Rattle.std.proofs.Common.{◌≡◌, List, [], ◌∷◌, ◌++◌, ap, append_assoc, refl, subst, sym}
 use Rattle.std.specs.Prelude.{Result, Ok, Err, IsErrAnd}
-use Rattle.kql_program.specs.Refusals.{Answer, Computes, Gives, Reaches, ◌>>=◌, after, unless, with_first}
-use Rattle.kql_program.specs.declared.refusal.Refusal.{Refusal}
+use Rattle.kql_program.specs.Refusals.{Computes, Finds, Gives, Reaches, after, with_first}
+use Rattle.kql_words.specs.Refusals.{Answer, ◌>>=◌}
+use Rattle.kql_words.specs.declared.refusal.Refusal.{Refusal}
 use Rattle.kql_program.specs.declared.refusal.Stop.{Stop}
 use Rattle.kql_program.specs.declared.refusal.Stop.TheVariants as stop
-
--- no fault leaves the value, whatever it is
-pub unless-ok : {X Y : Type 0} (faults : List Refusal) (x : X) (y : Y) → Ok y ≡ unless faults y → unless faults x ≡ Ok x
-unless-ok [] x y e = refl
-unless-ok (r ∷ rs) x y e = cc
-
--- a fault leaves no value
-pub unless-err : {X Y : Type 0} (faults : List Refusal) (x : X) (y : Y) (r : Refusal) → Err r ≡ unless faults y → unless faults x ≡ Err r
-unless-err [] x y r e = cc
-unless-err (q ∷ qs) x y r e = cc
 
 -- what gives an answer gives an equal one
 pub gives-along : {X : Type 0} (a b : Answer X) (r : Result X Stop) → a ≡ b → Gives a r → Gives b r
@@ -56,11 +47,6 @@ pub raised : {X : Type 0} (a : Answer X) (r : Result X Stop) (s : Stop) → IsEr
 raised a (Ok x) s i h = absurd i
 raised a (Err e) s i h = rw i h
 
--- a refusal that `?` passed on
-pub raised-refusal : {X : Type 0} (a : Answer X) (r : Result X Refusal) (q : Refusal) → IsErrAnd r (λ e. e ≡ q) → a ≡ Err q → r ≡ a
-raised-refusal a (Ok x) q i h = absurd i
-raised-refusal a (Err e) q i h = rw i (sym h)
-
 -- the same of a pure step
 pub raised-gives : {X : Type 0} (a : Answer X) (r : Result X Stop) (s : Stop) → IsErrAnd r (λ e. e ≡ s) → Gives a (Err s) → Gives a r
 raised-gives a (Ok x) s i h = absurd i
@@ -70,6 +56,24 @@ raised-gives a (Err e) s i h = rw i h
 pub raised-reaches : {X : Type 0} (Is : Answer X → Type 0) (r : Result X Stop) (s : Stop) → IsErrAnd r (λ e. e ≡ s) → Reaches Is (Err s) → Reaches Is r
 raised-reaches Is (Ok x) s i h = absurd i
 raised-reaches Is (Err e) s i h = rw i h
+
+pub raised-finds : {X : Type 0} (Is : Answer X → Type 0) (r : Result X Stop) (s : Stop) → IsErrAnd r (λ e. e ≡ s) → Finds Is (Err s) → Finds Is r
+raised-finds Is (Ok x) s i h = absurd i
+raised-finds Is (Err e) s i h = rw i h
+
+-- what is found without files is reached
+pub reached : {X : Type 0} (Is : Answer X → Type 0) (r : Result X Stop) → Finds Is r → Reaches Is r
+reached Is (Ok x) h = h
+reached Is (Err (stop.Refused q)) h = h
+reached Is (Err stop.ReadFault) h = absurd h
+reached Is (Err stop.OutOfMemory) h = tt
+
+-- without a fault of the shelf
+pub found-no_fault : {X : Type 0} (Is : Answer X → Type 0) (P : Type 0) (r : Result X Stop) → Finds Is r → r ≡ Err stop.ReadFault → P
+found-no_fault Is P (Ok x) h e = cc
+found-no_fault Is P (Err (stop.Refused q)) h e = cc
+found-no_fault Is P (Err stop.ReadFault) h e = absurd h
+found-no_fault Is P (Err stop.OutOfMemory) h e = cc
 
 -- one more value, behind those before it
 pub after-first : {X : Type 0} (before : List X) (x : X) (rest : Answer (List X)) → after before (with_first x rest) ≡ after (before ++ x ∷ []) rest

@@ -16,10 +16,11 @@ use Rattle.kql_lexer.specs.declared.token.Token.{Token}
 use Rattle.kql_outside.specs.Told.{file_of}
 use Rattle.kql_cells.specs.Table.{Grid}
 use Rattle.kql_program.specs.Files.{Files, ReadsFront, ReadsTable, bytes_top, file_bytes, file_tokens, found_as, lexed_as, loaded_as, query_tokens, table_in, table_of}
-use Rattle.kql_program.specs.Refusals.{Answer, Computes, Gives, ◌>>=◌}
+use Rattle.kql_program.specs.Refusals.{Computes, Gives}
+use Rattle.kql_words.specs.Refusals.{Answer, ◌>>=◌}
 use Rattle.kql_program.specs.Stops.{lex_stop}
 use Rattle.kql_program.proofs.AnswerFacts.{computes, gives-along, goes_on, raised, stops}
-use Rattle.kql_program.specs.declared.refusal.Refusal.TheVariants as refusal
+use Rattle.kql_words.specs.declared.refusal.Refusal.TheVariants as refusal
 use Rattle.kql_program.specs.declared.refusal.Stop.{Stop}
 use Rattle.kql_program.specs.declared.refusal.Stop.TheVariants as stop
 

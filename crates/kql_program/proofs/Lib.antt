@@ -1,12 +1,11 @@
 pub mod AnswerFacts
 pub mod BoundFacts
-pub mod CommandFacts
 pub mod FileFacts
 pub mod MemoryFacts
 pub mod OutcomeFacts
-pub mod RunFacts
 pub mod StepFacts
 pub mod TableFacts
 pub mod TopFacts
+pub mod TrialFacts
 pub mod VerdictFacts
 pub mod WordFacts

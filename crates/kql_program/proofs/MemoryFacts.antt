@@ -9,11 +9,11 @@ use Rattle.kql_program.specs.Endings.{ending_of}
 use Rattle.kql_program.specs.Files.{Files}
 use Rattle.kql_program.specs.InMemory.{Answered, HaveRoomFor, RunsOut, in_memory}
 use Rattle.kql_program.specs.Lines.{line_of, memory_line}
-use Rattle.kql_program.specs.Outcomes.{Ends, IsErrorLine, Outside, outside}
+use Rattle.kql_program.specs.Outcomes.{Ends, IsErrorLine, IsText, Outside, outside}
 use Rattle.kql_program.specs.declared.ended.Ended.{Ended}
 use Rattle.kql_program.specs.declared.ended.Ended.TheVariants as ended
-use Rattle.kql_program.specs.declared.refusal.Refusal.{Refusal}
-use Rattle.kql_program.specs.declared.refusal.Refusal.TheVariants as refusal
+use Rattle.kql_words.specs.declared.refusal.Refusal.{Refusal}
+use Rattle.kql_words.specs.declared.refusal.Refusal.TheVariants as refusal
 
 pub files-of : (x y : Files) → Some x ≡ Some y → x ≡ y
 files-of x y e = cc
@@ -25,7 +25,7 @@ never h = absurd (omega arith)
 bytes-of : (x y : List ℕ) → Some x ≡ Some y → x ≡ y
 bytes-of x y e = cc
 
-refused-answers : (words : List (List ℕ)) (files : Files) (o p e f : SinkState) (r : Refusal) (d : Ended) → Answers words files (Err r) → d ≡ ending_of (Err r) → Some p.bytes ≡ Some o.bytes → Some f.bytes ≡ Some (e.bytes ++ line_of r)
+refused-answers : (words : List (List ℕ)) (files : Files) (o p e f : SinkState) (r : Refusal) (d : Ended) → Answers words files (Err r) → d ≡ ending_of words (Err r) → Some p.bytes ≡ Some o.bytes → Some f.bytes ≡ Some (e.bytes ++ line_of r)
     → Answered words files o p e f d
 refused-answers words files o p e f r d i n q l = record {
   to = Err r;
@@ -35,25 +35,30 @@ refused-answers words files o p e f r d i n q l = record {
   error = bytes-of f.bytes (e.bytes ++ line_of r) l;
 }
 
-long-line : (words : List (List ℕ)) (files : Files) (line : List ℕ) (b n : Outside) (o e : SinkState) → b.shelf_faults ≡ 0 → n.shelf_faults ≡ 0 → IsErrorLine (Answers words files) b n line → HaveRoomFor words files o e → length line ≤ room_left e
-long-line words files line b n o e z y (inl (r, i, l)) h = rw l (h.answer (Err r) i).error
-long-line words files line b n o e z y (inr (inl l)) h = rw l h.memory
-long-line words files line b n o e z y (inr (inr (l, rose))) h = absurd (never (rw (z, y) at rose))
-
-pub clean-ends : (words : List (List ℕ)) (files : Files) (o p e f : SinkState) (d : Ended) → Ends (Answers words files) (outside 0 (in_memory o) (in_memory e)) (outside 0 (in_memory p) (in_memory f)) d → HaveRoomFor words files o e
-    → Answered words files o p e f d ⊎ RunsOut o p e f d
-clean-ends words files o p e f ended.Table h room = inl (record {
+text-answers : (words : List (List ℕ)) (files : Files) (o p e f : SinkState) (d : Ended) → IsText words (Answers words files) (outside 0 (in_memory o) (in_memory e)) (outside 0 (in_memory p) (in_memory f)) d → Answered words files o p e f d
+text-answers words files o p e f d h = record {
   to = Ok h.text;
   is = h.is;
-  ending = refl;
+  ending = sym h.done;
   output = bytes-of p.bytes (o.bytes ++ h.text) h.whole;
   error = bytes-of f.bytes e.bytes h.quiet ∙ sym (append-nil e.bytes);
-})
+}
+
+long-line : (words : List (List ℕ)) (files : Files) (line : List ℕ) (b n : Outside) (o e : SinkState) → b.shelf_faults ≡ 0 → n.shelf_faults ≡ 0 → IsErrorLine words (Answers words files) b n line → HaveRoomFor words files o e → length line ≤ room_left e
+long-line words files line b n o e z y (inl (r, i, l)) h = rw l (h.answer (Err r) i).error
+long-line words files line b n o e z y (inr (inl l)) h = rw l h.memory
+long-line words files line b n o e z y (inr (inr (l, fails))) h = absurd (never (rw (z, y) at fails.cause))
+
+pub clean-ends : (words : List (List ℕ)) (files : Files) (o p e f : SinkState) (d : Ended) → Ends words (Answers words files) (outside 0 (in_memory o) (in_memory e)) (outside 0 (in_memory p) (in_memory f)) d → HaveRoomFor words files o e
+    → Answered words files o p e f d ⊎ RunsOut o p e f d
+clean-ends words files o p e f ended.Table h room = inl (text-answers words files o p e f ended.Table h)
+clean-ends words files o p e f ended.PlainTable h room = inl (text-answers words files o p e f ended.PlainTable h)
+clean-ends words files o p e f ended.Trial h room = inl (text-answers words files o p e f ended.Trial h)
 clean-ends words files o p e f (ended.QueryRefused code place) h room = inl (refused-answers words files o p e f (refusal.Query code place) (ended.QueryRefused code place) h.is refl h.quiet h.line)
 clean-ends words files o p e f (ended.Usage word code) h room = inl (refused-answers words files o p e f (refusal.Usage word code) (ended.Usage word code) h.is refl h.quiet h.line)
 clean-ends words files o p e f (ended.DataRefused file code row column) h room =
     inl (refused-answers words files o p e f (refusal.Data file code row column) (ended.DataRefused file code row column) h.is refl h.quiet h.line)
-clean-ends words files o p e f ended.ReadFault h room = absurd (never h.cause)
+clean-ends words files o p e f ended.ReadFault h room = absurd (never h.fails.cause)
 clean-ends words files o p e f ended.OutOfMemory h room = inr (record {
   ending = refl;
   output = bytes-of p.bytes o.bytes h.quiet;

@@ -12,15 +12,16 @@ use Rattle.std.proofs.lemmas.Slice.Eq.{bytes_eq-Decides}
 use Rattle.kql_cells.specs.Catalogues.{table_name}
 use Rattle.kql_cells.specs.Named.{IsAbsent}
 use Rattle.kql_cells.specs.Catalogues.{Named}
-use Rattle.kql_program.specs.Command.{AreTables, name_in, names_table, path_in, table_faults, tables_faults, texts}
+use Rattle.kql_words.specs.Command.{AreTables, name_in, names_table, path_in, table_faults, tables_faults, texts}
 use Rattle.kql_program.specs.Files.{AddsTable, Files, file_bytes, named_as, table_in, tables_from}
-use Rattle.kql_program.specs.Refusals.{Answer, Computes, ◌>>=◌, after, with_first}
-use Rattle.kql_program.specs.declared.refusal.Refusal.{Refusal}
+use Rattle.kql_program.specs.Refusals.{Computes, after, with_first}
+use Rattle.kql_words.specs.Refusals.{Answer, ◌>>=◌}
+use Rattle.kql_words.specs.declared.refusal.Refusal.{Refusal}
 use Rattle.kql_program.specs.declared.refusal.Stop.{Stop}
 use Rattle.kql_program.specs.declared.refusal.Stop.TheVariants as stop
 use Rattle.kql_program.proofs.AnswerFacts.{after-first}
-use Rattle.kql_program.proofs.CommandFacts.{words-at}
-use Rattle.kql_program.proofs.RunFacts.{both-empty}
+use Rattle.kql_words.proofs.CommandLaws.{words-at}
+use Rattle.kql_words.proofs.AskedLaws.{both-empty}
 
 -- words without faults: the word of a place has none behind those before it
 clean-at : (number : ℕ) (names words : List (List ℕ)) (i : ℕ) → tables_faults number names words ≡ [] → i < length words

@@ -1,78 +1,38 @@
--- The text of the rows, and the words that are refused.
-use Rattle.std.proofs.Common.{◌≡◌, ◌∙◌, ℕ, List, refl, ap, sym}
+-- The text of the rows, and the command.
+use Rattle.std.proofs.Common.{◌≡◌, ℕ, List, refl, ap, sym}
 use Rattle.std.specs.Prelude.{Option, Some, None, IfSome, IsErrAnd, Result, Ok, Err}
 use Rattle.csv_io.specs.Text.{table_text}
 use Rattle.kql_cells.specs.Table.{Grid}
-use Rattle.kql_program.specs.Answer.{Answers, AreRows, answer}
-use Rattle.kql_program.specs.Command.{command_of}
+use Rattle.kql_words.specs.declared.command.Asked.{Asked}
+use Rattle.kql_words.specs.declared.trial.Trial.{Trial}
+use Rattle.kql_words.specs.declared.command.Command.TheVariants as command
+use Rattle.kql_program.specs.Answer.{AnswersCommand}
 use Rattle.kql_program.specs.Files.{Files}
-use Rattle.kql_program.specs.Outcomes.{MeetsFaults, RefusesNoWord}
-use Rattle.kql_program.specs.Refusals.{Answer, Reaches}
-use Rattle.kql_program.specs.declared.command.Command.{Command}
-use Rattle.kql_program.specs.declared.refusal.Refusal.{Refusal}
-use Rattle.kql_program.specs.declared.refusal.Refusal.TheVariants as refusal
+use Rattle.kql_program.specs.Queries.{AnswersQuery, AreRowsAsked}
+use Rattle.kql_program.specs.Refusals.{Finds, Reaches}
+use Rattle.kql_program.specs.Trials.{AnswersTrial}
 use Rattle.kql_program.specs.declared.refusal.Stop.{Stop}
 use Rattle.kql_program.specs.declared.refusal.Stop.TheVariants as stop
-use Rattle.kql_program.proofs.AnswerFacts.{raised-reaches}
+use Rattle.kql_program.proofs.AnswerFacts.{raised-reaches, reached}
 
 -- the text can't be had
-text-refused : (words : List (List ℕ)) (files : Files) (s : Stop) → Reaches (AreRows words files) (Err s) → Reaches (Answers words files) (Err s)
-unfolding answer
-text-refused words files (stop.Refused q) h = record { verdict = h.verdict; judged = h.judged; is = rw (← h.is) refl }
-text-refused words files stop.ReadFault h = tt
-text-refused words files stop.OutOfMemory h = tt
+text-refused : (words : List (List ℕ)) (files : Files) (asked : Asked) (s : Stop) → Reaches (AreRowsAsked words files asked) (Err s) → Reaches (AnswersQuery words files asked) (Err s)
+text-refused words files asked (stop.Refused q) h = record { rows = Err q; are = h; is = refl }
+text-refused words files asked stop.ReadFault h = tt
+text-refused words files asked stop.OutOfMemory h = tt
 
-pub text-stop : (told : Option Files) (words : List (List ℕ)) (r : Result (List ℕ) Stop) (s : Stop) → IfSome told (λ files. Reaches (AreRows words files) (Err s)) → IsErrAnd r (λ e. e ≡ s)
-    → IfSome told (λ files. Reaches (Answers words files) r)
-text-stop None words r s h i = tt
-text-stop (Some files) words r s h i = raised-reaches (Answers words files) r s i (text-refused words files s h)
+pub text-stop : (told : Option Files) (words : List (List ℕ)) (asked : Asked) (r : Result (List ℕ) Stop) (s : Stop) → IfSome told (λ files. Reaches (AreRowsAsked words files asked) (Err s)) → IsErrAnd r (λ e. e ≡ s)
+    → IfSome told (λ files. Reaches (AnswersQuery words files asked) r)
+text-stop None words asked r s h i = tt
+text-stop (Some files) words asked r s h i = raised-reaches (AnswersQuery words files asked) r s i (text-refused words files asked s h)
 
 -- the text of the rows
-pub text-ok : (told : Option Files) (words : List (List ℕ)) (rows : Grid) (text : List ℕ) → IfSome told (λ files. AreRows words files (Ok rows)) → text ≡ table_text rows
-    → IfSome told (λ files. Answers words files (Ok text))
-unfolding answer
-text-ok None words rows text h e = tt
-text-ok (Some files) words rows text h e = record { verdict = h.verdict; judged = h.judged; is = rw (← h.is) (ap Ok e) }
+pub text-ok : (told : Option Files) (words : List (List ℕ)) (asked : Asked) (rows : Grid) (text : List ℕ) → IfSome told (λ files. AreRowsAsked words files asked (Ok rows)) → text ≡ table_text rows
+    → IfSome told (λ files. AnswersQuery words files asked (Ok text))
+text-ok None words asked rows text h e = tt
+text-ok (Some files) words asked rows text h e = record { rows = Ok rows; are = h; is = ap Ok e }
 
--- a refusal, and a stop, in their places
-abbrev refused : Refusal → Answer Command
-refused r = Err r
-
-abbrev halted : {X : Type 0} → Stop → Result X Stop
-halted s = Err s
-
-abbrev made : {X : Type 0} → X → Result X Stop
-made x = Ok x
-
-refused-same : (p q : Refusal) → refused p ≡ refused q → p ≡ q
-refused-same p q e = cc
-
-stopped-same : (p q : Refusal) → stop.Refused p ≡ stop.Refused q → p ≡ q
-stopped-same p q e = cc
-
-halted-same : {X : Type 0} (s t : Stop) → halted {X = X} s ≡ halted {X = X} t → s ≡ t
-halted-same s t e = cc
-
--- no fault of the words
-pub meets-none : {X : Type 0} (words : List (List ℕ)) (c : Command) (r : Result X Stop) → Ok c ≡ command_of words → RefusesNoWord r → MeetsFaults words r
-meets-none words c r e n = record { first = λ f q. cc (e ∙ q); no_other = λ word code q. absurd (n word code q) }
-
--- the fault of the words
-pub meets-first : {X : Type 0} (words : List (List ℕ)) (f : Refusal) (r : Result X Stop) → Err f ≡ command_of words → IsErrAnd r (λ e. e ≡ stop.Refused f) → MeetsFaults words r
-meets-first words f (Ok x) e i = absurd i
-meets-first {X = X} words f (Err s) e i = record {
-  first = λ q p. ap Err (i ∙ ap stop.Refused (refused-same f q (e ∙ p)));
-  no_other = λ word code p. sym e ∙ ap Err (stopped-same f (refusal.Usage word code) (sym i ∙ halted-same {X = X} s (stop.Refused (refusal.Usage word code)) p));
-}
-
--- a step that stopped
-pub meets-on : {X Y : Type 0} (words : List (List ℕ)) (s : Stop) (r : Result Y Stop) → MeetsFaults words (halted {X = X} s) → IsErrAnd r (λ e. e ≡ s) → MeetsFaults words r
-meets-on words s (Ok y) u i = absurd i
-meets-on {Y = Y} words s (Err t) u i = record {
-  first = λ f e. ap Err (i ∙ halted-same s (stop.Refused f) (u.first f e));
-  no_other = λ word code p. u.no_other word code (ap Err (sym i ∙ halted-same {X = Y} t (stop.Refused (refusal.Usage word code)) p));
-}
-
--- a step that went on
-pub meets-past : {X Y : Type 0} (words : List (List ℕ)) (x : X) (y : Y) → MeetsFaults words (made x) → MeetsFaults words (made y)
-meets-past words x y u = record { first = λ f e. cc (u.first f e); no_other = λ word code e. cc e }
+-- a trial is answered whatever the files are
+pub trial-told : (told : Option Files) (words : List (List ℕ)) (trial : Trial) (r : Result (List ℕ) Stop) → Finds (AnswersTrial trial) r → IfSome told (λ files. Reaches (AnswersCommand words files (Ok (command.Trial trial))) r)
+trial-told None words trial r h = tt
+trial-told (Some files) words trial r h = reached (AnswersTrial trial) r h

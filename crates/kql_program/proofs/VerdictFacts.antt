@@ -1,15 +1,25 @@
--- The verdict on the tokens of a query, of which there is one.
-use Rattle.std.proofs.Common.{◌≡◌, ◌∙◌, ℕ, List, ap, refl, sym}
-use Rattle.std.specs.Prelude.{Option, Some, None, IfSome, IfOk, Ok, Err}
+-- The verdict on the tokens of a query, of which there is one, and so the answer.
+use Rattle.std.proofs.Common.{◌≡◌, ◌∙◌, ◌+◌, ℕ, List, [], ◌∷◌, ap, refl, subst, sym}
+use Rattle.std.specs.Prelude.{ℤ, Option, Some, None, IfSome, Ok, Err}
+use Rattle.kql_cells.specs.Catalogues.{Named}
+use Rattle.kql_cells.specs.Table.{Grid}
 use Rattle.kql_lexer.specs.declared.token.Token.{Token}
 use Rattle.kql_parser.proofs.ResultLaws.{not-refused, one-refusal}
 use Rattle.kql_parser.proofs.TreeLaws.{one_parsed}
-use Rattle.kql_program.specs.Answer.{HasOneAnswer, answer, tokens_read}
-use Rattle.kql_program.specs.Files.{Files}
-use Rattle.kql_program.specs.Refusals.{Answer}
+use Rattle.kql_trial.specs.Log.{log_tables}
+use Rattle.kql_trial.specs.Queries.{stored_queries}
+use Rattle.kql_words.specs.Command.{command_of, query_path, table_words}
+use Rattle.kql_words.specs.Refusals.{Answer}
+use Rattle.kql_words.specs.declared.command.Asked.{Asked}
+use Rattle.kql_words.specs.declared.command.Command.{Command}
+use Rattle.kql_words.specs.declared.command.Command.TheVariants as command
+use Rattle.kql_words.specs.declared.refusal.Refusal.TheVariants as refusal
+use Rattle.kql_program.specs.Answer.{AnswersCommand, HasOneAnswer}
+use Rattle.kql_program.specs.Files.{Files, file_tokens, query_tokens, tables_from}
+use Rattle.kql_program.specs.Queries.{AnswersQuery, AreRows, query_rows, text_of}
+use Rattle.kql_program.specs.Refusals.{after}
 use Rattle.kql_program.specs.Syntax.{IsVerdict, Verdict}
-use Rattle.kql_program.specs.declared.refusal.Refusal.TheVariants as refusal
-use Rattle.kql_program.proofs.StepFacts.{rows-untokened}
+use Rattle.kql_program.specs.Trials.{AreLines, IsLine, LinesFrom, line_as}
 
 -- there is one verdict on tokens
 pub one-verdict : (s : List Token) (u v : Verdict) → IsVerdict s u → IsVerdict s v → u ≡ v
@@ -26,16 +36,40 @@ one-verdict s (Err (refusal.Query code place)) (Err (refusal.Data file d row col
 one-verdict s (Err (refusal.Usage word code)) v h k = absurd h
 one-verdict s (Err (refusal.Data file code row column)) v h k = absurd h
 
--- of what follows from the verdict on these tokens
-one-of : (words : List (List ℕ)) (files : Files) (read : Answer (List Token)) (u v : Verdict) → tokens_read words files ≡ read → IfOk read (λ tokens. IsVerdict tokens u) → IfOk read (λ tokens. IsVerdict tokens v)
-    → answer words files u ≡ answer words files v
-unfolding answer
-one-of words files (Ok tokens) u v e h k = ap (answer words files) (one-verdict tokens u v h k)
-one-of words files (Err r) u v e h k = rw (rows-untokened words files u r e, rows-untokened words files v r e) refl
+-- there are one table's rows
+pub one-rows : (tokens : Answer (List Token)) (tables : Answer (List Named)) (moment : Option ℤ) (a b : Answer Grid) → AreRows tokens tables moment a → AreRows tokens tables moment b → a ≡ b
+unfolding query_rows
+one-rows (Ok read) tables moment a b h k = h.is ∙ (ap (query_rows (Ok read) tables moment) (one-verdict read h.verdict k.verdict h.judged k.judged) ∙ sym k.is)
+one-rows (Err q) tables moment a b h k = h.is ∙ sym k.is
+
+one-text : (words : List (List ℕ)) (files : Files) (asked : Asked) (a b : Answer (List ℕ)) → AnswersQuery words files asked a → AnswersQuery words files asked b → a ≡ b
+one-text words files asked a b h k =
+    h.is ∙ (ap text_of (one-rows (file_tokens files (query_path words asked)) (tables_from files 1 0 (table_words words asked)) asked.moment h.rows k.rows h.are k.are) ∙ sym k.is)
+
+one-line : (tables : List Named) (number : ℕ) (text : List ℕ) (a b : Answer (List ℕ)) → IsLine tables number text a → IsLine tables number text b → a ≡ b
+one-line tables number text a b h k = h.is ∙ (ap (line_as number) (one-rows (query_tokens text) (Ok tables) None h.rows k.rows h.are k.are) ∙ sym k.is)
+
+one-from : (Behind : Answer (List ℕ) → Type 0) (line a b : Answer (List ℕ)) → ((x y : Answer (List ℕ)) → Behind x → Behind y → x ≡ y) → LinesFrom Behind line a → LinesFrom Behind line b → a ≡ b
+one-from Behind (Ok line) a b one (x, p, e) (y, q, f) = e ∙ (ap (after line) (one x y p q) ∙ sym f)
+one-from Behind (Err r) a b one h k = h ∙ sym k
+
+one-lines : (tables : List Named) (number : ℕ) (texts : List (List ℕ)) (a b : Answer (List ℕ)) → AreLines tables number texts a → AreLines tables number texts b → a ≡ b
+unfolding AreLines
+one-lines tables number [] a b h k = h ∙ sym k
+one-lines tables number (text ∷ texts) a b (x, p, h) (y, q, k) =
+    let same : y ≡ x = one-line tables number text y x q p in
+    one-from (AreLines tables (number + 1) texts) x a b (one-lines tables (number + 1) texts) h
+    (subst (λ (line : Answer (List ℕ)). LinesFrom (AreLines tables (number + 1) texts) line b) same k)
+
+one-command : (words : List (List ℕ)) (files : Files) (c : Answer Command) (a b : Answer (List ℕ)) → AnswersCommand words files c a → AnswersCommand words files c b → a ≡ b
+one-command words files (Err r) a b h k = h ∙ sym k
+one-command words files (Ok (command.Run asked)) a b h k = one-text words files asked a b h k
+one-command words files (Ok (command.Plain asked)) a b h k = one-text words files asked a b h k
+one-command words files (Ok (command.Trial trial)) a b h k = one-lines (log_tables trial.rows trial.seed) 1 stored_queries a b h k
 
 -- there is one answer to words and files
 pub one-answer : (words : List (List ℕ)) (files : Files) → HasOneAnswer words files
-one-answer words files a b h k = h.is ∙ (one-of words files (tokens_read words files) h.verdict k.verdict refl h.judged k.judged ∙ sym k.is)
+one-answer words files a b h k = one-command words files (command_of words) a b h k
 
 pub one-told : (told : Option Files) (words : List (List ℕ)) → IfSome told (λ files. HasOneAnswer words files)
 one-told None words = tt

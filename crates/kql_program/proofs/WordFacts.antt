@@ -15,13 +15,14 @@ use Rattle.kql_plain.specs.Built.{is_built}
 use Rattle.kql_syntax.specs.declared.parse.SyntaxFault.{SyntaxFault}
 use Rattle.kql_syntax.specs.declared.parse.SyntaxFault.TheVariants as syntax
 use Rattle.kql_syntax.specs.declared.query.Query.{Query}
-use Rattle.kql_program.specs.Answer.{bound_as, program_of, rows_over, start_place, unless_unbuilt}
+use Rattle.kql_program.specs.Queries.{bound_as, program_of, rows_over, start_place, unless_unbuilt}
 use Rattle.kql_program.specs.Files.{lexed_as, query_tokens}
 use Rattle.kql_program.specs.Outcomes.{RefusesNoWord}
-use Rattle.kql_program.specs.Refusals.{Answer, Gives, ◌>>=◌}
+use Rattle.kql_program.specs.Refusals.{Gives}
+use Rattle.kql_words.specs.Refusals.{Answer, ◌>>=◌}
 use Rattle.kql_program.specs.Stops.{syntax_stop}
-use Rattle.kql_program.specs.declared.refusal.Refusal.{Refusal}
-use Rattle.kql_program.specs.declared.refusal.Refusal.TheVariants as refusal
+use Rattle.kql_words.specs.declared.refusal.Refusal.{Refusal}
+use Rattle.kql_words.specs.declared.refusal.Refusal.TheVariants as refusal
 use Rattle.kql_program.specs.declared.refusal.Stop.{Stop}
 use Rattle.kql_program.specs.declared.refusal.Stop.TheVariants as stop
 

@@ -8,10 +8,11 @@ use Rattle.kql_lexer.specs.declared.token.Token.{Token}
 use Rattle.kql_outside.specs.Told.{file_of}
 use Rattle.kql_cells.specs.Table.{Grid}
 use Rattle.kql_cells.specs.Catalogues.{Named}
-use Rattle.kql_program.specs.Command.{name_in, path_in}
-use Rattle.kql_program.specs.declared.refusal.Refusal.TheVariants.{Data, Query}
+use Rattle.kql_words.specs.Command.{name_in, path_in}
+use Rattle.kql_words.specs.declared.refusal.Refusal.TheVariants.{Data, Query}
 use Rattle.kql_program.specs.declared.refusal.Stop.{Stop}
-use Rattle.kql_program.specs.Refusals.{Answer, Computes, with_first, ◌>>=◌}
+use Rattle.kql_program.specs.Refusals.{Computes, with_first}
+use Rattle.kql_words.specs.Refusals.{Answer, ◌>>=◌}
 
 -- files by their path: the first of a path counts
 abbrev pub Files : Type 0

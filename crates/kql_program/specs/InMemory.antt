@@ -8,7 +8,7 @@ use Rattle.kql_program.specs.Endings.{ending_of}
 use Rattle.kql_program.specs.Files.{Files}
 use Rattle.kql_program.specs.Lines.{line_of, memory_line}
 use Rattle.kql_program.specs.Outcomes.{SinkNow, sink_now}
-use Rattle.kql_program.specs.Refusals.{Answer}
+use Rattle.kql_words.specs.Refusals.{Answer}
 
 -- a sink in memory, as the top call sees a sink
 abbrev pub in_memory : SinkState → SinkNow
@@ -38,7 +38,7 @@ pub record HaveRoomFor (words : List (List ℕ)) (files : Files) (out err : Sink
 pub record Answered (words : List (List ℕ)) (files : Files) (out out_new err err_new : SinkState) (e : Ended) : Type 0 where
   pub to : Answer (List ℕ)
   pub is : Answers words files to
-  pub ending : e ≡ ending_of to
+  pub ending : e ≡ ending_of words to
   pub output : out_new.bytes ≡ out.bytes ++ output_text to
   pub error : err_new.bytes ≡ err.bytes ++ error_text to
 

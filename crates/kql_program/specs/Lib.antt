@@ -1,12 +1,11 @@
 pub mod Answer
-pub mod Command
 pub mod Endings
 pub mod Files
 pub mod InMemory
 pub mod Lines
-pub mod Options
 pub mod Outcomes
+pub mod Queries
 pub mod Refusals
-pub mod Steps
 pub mod Stops
 pub mod Syntax
+pub mod Trials

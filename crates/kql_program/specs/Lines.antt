@@ -1,8 +1,8 @@
 -- The line that an ending writes for errors.
 use Rattle.std.specs.Prelude.{ℕ, ◌==◌, nat_lt, List, [], ◌∷◌, ◌++◌, codes, if◌then◌else◌}
 use Rattle.std.specs.Fmt.{decimal}
-use Rattle.kql_program.specs.declared.refusal.Refusal.{Refusal}
-use Rattle.kql_program.specs.declared.refusal.Refusal.TheVariants.{Query, Usage, Data}
+use Rattle.kql_words.specs.declared.refusal.Refusal.{Refusal}
+use Rattle.kql_words.specs.declared.refusal.Refusal.TheVariants.{Query, Usage, Data}
 
 -- the name of a code of tokens and syntax
 abbrev pub text_name : ℕ → List ℕ
@@ -62,6 +62,7 @@ usage_name code =
     else if code == 606 then codes "NoQuery"
     else if code == 607 then codes "BadTable"
     else if code == 608 then codes "TableTwice"
+    else if code == 609 then codes "BadCount"
     else if code == 610 then codes "TooManyTables"
     else []
 

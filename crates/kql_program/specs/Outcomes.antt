@@ -1,43 +1,66 @@
 -- What a call of the program leaves, at each ending.
-use Rattle.std.specs.Prelude.{◌≡◌, ◌⊎◌, ◌<◌, ℕ, List, length, Option, Some, None, IfSome, Result, Ok, Err}
+use Rattle.std.specs.Prelude.{◌≡◌, ◌⊎◌, ◌<◌, ℕ, List, length, Option, Some, None, IfSome, IsSome, Result, Ok, Err}
 use Rattle.kql_outside.specs.Causes.{Rose}
 use Rattle.kql_outside.specs.Told.{IsCutShort, appended}
 use Rattle.kql_program.specs.declared.ended.Ended.{Ended}
 use Rattle.kql_program.specs.declared.ended.Ended.TheVariants as ended
-use Rattle.kql_program.specs.declared.refusal.Refusal.{Refusal}
-use Rattle.kql_program.specs.declared.refusal.Refusal.TheVariants as refusal
+use Rattle.kql_words.specs.declared.refusal.Refusal.{Refusal}
+use Rattle.kql_words.specs.declared.refusal.Refusal.TheVariants as refusal
 use Rattle.kql_program.specs.declared.refusal.Stop.{Stop}
 use Rattle.kql_program.specs.declared.refusal.Stop.TheVariants as stop
+use Rattle.kql_words.specs.declared.command.Asked.{Asked}
+use Rattle.kql_words.specs.declared.command.Command.{Command}
+use Rattle.kql_words.specs.declared.command.Command.TheVariants as command
+use Rattle.kql_words.specs.declared.trial.Trial.{Trial}
 use Rattle.kql_program.specs.Answer.{Answers}
-use Rattle.kql_program.specs.Command.{command_of}
-use Rattle.kql_program.specs.Endings.{IsQuiet, ending_of, refused_as}
+use Rattle.kql_program.specs.Trials.{AnswersTrial}
+use Rattle.kql_words.specs.Command.{command_of}
+use Rattle.kql_program.specs.Endings.{IsQuiet, done_as, ending_of, refused_as}
 use Rattle.kql_program.specs.Files.{Files}
 use Rattle.kql_program.specs.Lines.{line_of, memory_line, read_fault_line}
-use Rattle.kql_program.specs.Refusals.{Answer}
+use Rattle.kql_program.specs.Refusals.{Finds}
+use Rattle.kql_words.specs.Refusals.{Answer}
 
--- the answer refuses a word exactly where it is the first fault of the words
-pub record RefusesWords (words : List (List ℕ)) (a : Answer (List ℕ)) : Type 0 where
+-- This may be the answer where no files are told: a word is refused exactly where it is the first fault of the words, and a trial, which
+-- reads no file, is answered.
+pub record IsUntold (words : List (List ℕ)) (a : Answer (List ℕ)) : Type 0 where
   pub first : (r : Refusal) → command_of words ≡ Err r → a ≡ Err r
   pub no_other : (word code : ℕ) → a ≡ Err (refusal.Usage word code) → command_of words ≡ Err (refusal.Usage word code)
+  pub trial : (t : Trial) → command_of words ≡ Ok (command.Trial t) → AnswersTrial t a
 
 -- what an answer is
 abbrev pub OfAnswers : Type 1
 OfAnswers = Answer (List ℕ) → Type 0
 
--- this is what the program answers to the words, where the shelf tells its files; where it does not, still a word is
--- refused exactly where it is the first fault of the words
+-- this is what the program answers to the words, where the shelf tells its files or not
 abbrev pub IsAnswer : List (List ℕ) → Option Files → OfAnswers
-IsAnswer words None a = RefusesWords words a
+IsAnswer words None a = IsUntold words a
 IsAnswer words (Some files) a = Answers words files a
 
 -- no word is refused
 abbrev pub RefusesNoWord : {X : Type 0} → Result X Stop → Type 0
 RefusesNoWord result = (word code : ℕ) → result ≡ Err (stop.Refused (refusal.Usage word code)) → ⊥
 
--- the work stops at a word exactly where it is the first fault of the words
-pub record MeetsFaults {X : Type 0} (words : List (List ℕ)) (result : Result X Stop) : Type 0 where
-  pub first : (r : Refusal) → command_of words ≡ Err r → result ≡ Err (stop.Refused r)
-  pub no_other : (word code : ℕ) → result ≡ Err (stop.Refused (refusal.Usage word code)) → command_of words ≡ Err (refusal.Usage word code)
+-- what a query's command asks for
+abbrev pub asked_in : Answer Command → Option Asked
+asked_in (Ok (command.Run asked)) = Some asked
+asked_in (Ok (command.Plain asked)) = Some asked
+asked_in (Ok (command.Trial trial)) = None
+asked_in (Err refusal) = None
+
+-- a command reads files
+abbrev pub ReadsFor : Command → Type 0
+ReadsFor c = IsSome (asked_in (Ok c))
+
+-- a call gave what a trial is answered, where the command is one
+abbrev pub TriesFor : Command → Result (List ℕ) Stop → Type 0
+TriesFor (command.Run asked) result = Unit {0}
+TriesFor (command.Plain asked) result = Unit {0}
+TriesFor (command.Trial trial) result = Finds (AnswersTrial trial) result
+
+-- the words have no fault, and their command reads files
+abbrev pub ReadsFiles : List (List ℕ) → Type 0
+ReadsFiles words = IsSome (asked_in (command_of words))
 
 -- a sink at one moment: what it holds and how much more it takes, where that is told, and its count of faults
 pub record SinkNow : Type 0 where
@@ -76,16 +99,22 @@ pub record IsRefused (Is : OfAnswers) (before now : Outside) (r : Refusal) : Typ
   pub quiet : IsSame before.out now.out
   pub line : Adds before.err now.err (line_of r)
 
--- the text of the table, and nothing for errors
-pub record IsTable (Is : OfAnswers) (before now : Outside) : Type 0 where
+-- the text of the answer, and nothing for errors; the ending is that of the command
+pub record IsText (words : List (List ℕ)) (Is : OfAnswers) (before now : Outside) (e : Ended) : Type 0 where
   pub text : List ℕ
   pub is : Is (Ok text)
+  pub done : done_as (command_of words) ≡ e
   pub whole : Adds before.out now.out text
   pub quiet : IsSame before.err now.err
 
--- a fault of the shelf: its line, and nothing on the output
-pub record IsReadFault (before now : Outside) : Type 0 where
+-- a fault of the shelf may be answered: its count rose, and it was asked for files
+pub record FailsToRead (words : List (List ℕ)) (before now : Outside) : Type 0 where
   pub cause : Rose before.shelf_faults now.shelf_faults
+  pub turn : ReadsFiles words
+
+-- a fault of the shelf: its line, and nothing on the output
+pub record IsReadFault (words : List (List ℕ)) (before now : Outside) : Type 0 where
+  pub fails : FailsToRead words before now
   pub quiet : IsSame before.out now.out
   pub line : Adds before.err now.err read_fault_line
 
@@ -94,35 +123,36 @@ pub record IsOutOfMemory (before now : Outside) : Type 0 where
   pub quiet : IsSame before.out now.out
   pub line : Adds before.err now.err memory_line
 
--- the table's text was left unfinished, and nothing was written for errors
+-- the text was left unfinished, and nothing was written for errors
 pub record IsCutText (Is : OfAnswers) (before now : Outside) : Type 0 where
   pub text : List ℕ
   pub is : Is (Ok text)
   pub cut : IsUnfinished before.out now.out text
   pub quiet : IsSame before.err now.err
 
--- a line that may be written for errors: that of the refusal, of want of memory, or, where the shelf's count of faults
--- rose, of a read fault
-abbrev pub IsErrorLine : OfAnswers → Outside → Outside → List ℕ → Type 0
-IsErrorLine Is before now line =
-    ((r : Refusal) × Is (Err r) × (line ≡ line_of r)) ⊎ (line ≡ memory_line) ⊎ ((line ≡ read_fault_line) × Rose before.shelf_faults now.shelf_faults)
+-- a line that may be written for errors: that of the refusal, of want of memory, or of a read fault where the shelf failed
+abbrev pub IsErrorLine : List (List ℕ) → OfAnswers → Outside → Outside → List ℕ → Type 0
+IsErrorLine words Is before now line =
+    ((r : Refusal) × Is (Err r) × (line ≡ line_of r)) ⊎ (line ≡ memory_line) ⊎ ((line ≡ read_fault_line) × FailsToRead words before now)
 
 -- a line for errors was left unfinished, and nothing was written to the output
-pub record IsCutLine (Is : OfAnswers) (before now : Outside) : Type 0 where
+pub record IsCutLine (words : List (List ℕ)) (Is : OfAnswers) (before now : Outside) : Type 0 where
   pub text : List ℕ
-  pub is : IsErrorLine Is before now text
+  pub is : IsErrorLine words Is before now text
   pub cut : IsUnfinished before.err now.err text
   pub quiet : IsSame before.out now.out
 
 -- what each ending says of the answer and of the outside
-abbrev pub Ends : OfAnswers → Outside → Outside → Ended → Type 0
-Ends Is before now ended.Table = IsTable Is before now
-Ends Is before now (ended.QueryRefused code place) = IsRefused Is before now (refusal.Query code place)
-Ends Is before now (ended.Usage word code) = IsRefused Is before now (refusal.Usage word code)
-Ends Is before now (ended.DataRefused file code row column) = IsRefused Is before now (refusal.Data file code row column)
-Ends Is before now ended.ReadFault = IsReadFault before now
-Ends Is before now ended.OutOfMemory = IsOutOfMemory before now
-Ends Is before now ended.WriteFault = IsCutText Is before now ⊎ IsCutLine Is before now
+abbrev pub Ends : List (List ℕ) → OfAnswers → Outside → Outside → Ended → Type 0
+Ends words Is before now ended.Table = IsText words Is before now ended.Table
+Ends words Is before now ended.PlainTable = IsText words Is before now ended.PlainTable
+Ends words Is before now ended.Trial = IsText words Is before now ended.Trial
+Ends words Is before now (ended.QueryRefused code place) = IsRefused Is before now (refusal.Query code place)
+Ends words Is before now (ended.Usage word code) = IsRefused Is before now (refusal.Usage word code)
+Ends words Is before now (ended.DataRefused file code row column) = IsRefused Is before now (refusal.Data file code row column)
+Ends words Is before now ended.ReadFault = IsReadFault words before now
+Ends words Is before now ended.OutOfMemory = IsOutOfMemory before now
+Ends words Is before now ended.WriteFault = IsCutText Is before now ⊎ IsCutLine words Is before now
 
 -- a text was written to its end, and the call ends so, or it was left unfinished
 abbrev pub Writes : SinkNow → SinkNow → List ℕ → Ended → Ended → Type 0
@@ -151,13 +181,15 @@ pub record IsFaultless (before now : Outside) : Type 0 where
 pub record EndsAsAnswered (words : List (List ℕ)) (files : Files) (e : Ended) : Type 0 where
   pub to : Answer (List ℕ)
   pub is : Answers words files to
-  pub ending : e ≡ ending_of to
+  pub ending : e ≡ ending_of words to
 
 -- The outcome of a call: what its ending says of the answer and of what was written, and what follows from it.
 pub record HasOutcome (words : List (List ℕ)) (files : Option Files) (before now : Outside) (e : Ended) : Type 0 where
-  pub ends : Ends (IsAnswer words files) before now e
+  pub ends : Ends words (IsAnswer words files) before now e
   -- a read or write fault is answered only where the count of an object that was handed in rose in this call
   pub read : e ≡ ended.ReadFault → Rose before.shelf_faults now.shelf_faults
+  -- and a read fault only of a command that reads files, whose words have no fault
+  pub turn : e ≡ ended.ReadFault → ReadsFiles words
   pub write : e ≡ ended.WriteFault → Rose before.out.faults now.out.faults ⊎ Rose before.err.faults now.err.faults
   -- after a refusal, a read fault or want of memory nothing was written to the output
   pub quiet : IsQuiet e → IsSame before.out now.out

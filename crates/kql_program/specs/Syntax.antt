@@ -3,8 +3,8 @@ use Rattle.std.specs.Prelude.{List, Ok, Err}
 use Rattle.kql_lexer.specs.declared.token.Token.{Token}
 use Rattle.kql_parser.specs.Parsing.{Parsed, Refuses}
 use Rattle.kql_syntax.specs.declared.query.Query.{Query}
-use Rattle.kql_program.specs.declared.refusal.Refusal.TheVariants as refusal
-use Rattle.kql_program.specs.Refusals.{Answer}
+use Rattle.kql_words.specs.declared.refusal.Refusal.TheVariants as refusal
+use Rattle.kql_words.specs.Refusals.{Answer}
 
 -- a query, or a fault of the syntax
 abbrev pub Verdict : Type 0

@@ -1,14 +1,18 @@
 ghost use Rattle.std.specs.Prelude.{◌≡◌};
-ghost use Rattle.kql_program.specs.Endings.{refused_as, status_of};
+ghost use Rattle.kql_program.specs.Endings.{done_of, refused_as, status_of};
 
-use crate::refusal::Refusal;
 use kql_lexer::Place;
+use kql_words::{Command, Refusal};
 
 /// How a call of `kql` ended.
 #[derive(Clone, Copy, Debug, PartialEq, Eq)]
 pub enum Ended {
-    /// The table's text was written.
+    /// The table's text was written, as `run` asks.
     Table,
+    /// The table's text was written, as `plain` asks.
+    PlainTable,
+    /// The lines of the stored queries were written, as `trial` asks.
+    Trial,
     /// The query is refused at a place of its text.
     QueryRefused {
         code: u32,
@@ -34,6 +38,17 @@ pub enum Ended {
     OutOfMemory,
 }
 
+/// The ending after the text that a command asks for was written.
+pub(crate) fn done_of(command: Command) -> Ended
+    ensures { result ≡ done_of command }
+{
+    match command {
+        Command::Run(_) => Ended::Table,
+        Command::Plain(_) => Ended::PlainTable,
+        Command::Trial(_) => Ended::Trial,
+    }
+}
+
 /// The ending of a refusal.
 pub(crate) fn ending_of(refusal: Refusal) -> Ended
     ensures { result ≡ refused_as refusal }
@@ -55,13 +70,15 @@ pub(crate) fn ending_of(refusal: Refusal) -> Ended
     }
 }
 
-/// The exit status of an ending: 0 for a table, 1 for a refused query, 2 for a refused word, 3 for a refused file,
+/// The exit status of an ending: 0 for a text, 1 for a refused query, 2 for a refused word, 3 for a refused file,
 /// 4 for a read fault, 5 for a write fault and 6 for want of memory.
 pub fn status(ended: &Ended) -> u8
     ensures status { result ≡ status_of ended.now }
 {
     match ended {
         Ended::Table => 0,
+        Ended::PlainTable => 0,
+        Ended::Trial => 0,
         Ended::QueryRefused { .. } => 1,
         Ended::Usage { .. } => 2,
         Ended::DataRefused { .. } => 3,

@@ -6,11 +6,12 @@ ghost use Rattle.kql_cells.specs.declared.schemas.NamedSchema.{NamedSchema};
 ghost use Rattle.kql_meaning.specs.Fits.{fits};
 ghost use Rattle.kql_parser_laws.specs.Patterns.{has_patterns};
 ghost use Rattle.bind_query_laws.specs.Sound.{AreColumns};
-ghost use Rattle.kql_program.specs.Answer.{program_of, rows_over, start_place, unless_unbuilt};
+ghost use Rattle.kql_program.specs.Queries.{program_of, rows_over, start_place, unless_unbuilt};
 ghost use Rattle.kql_program.specs.Refusals.{Gives};
-ghost use Rattle.kql_program.specs.declared.refusal.Refusal.TheVariants as refusal;
+ghost use Rattle.kql_words.specs.declared.refusal.Refusal.TheVariants as refusal;
 
-use crate::refusal::{Refusal, Stop};
+use crate::refusal::Stop;
+use kql_words::Refusal;
 use bind_query::bind;
 use bind_query_laws::law_of_binding_queries;
 use kql_bound::Program;
@@ -23,7 +24,7 @@ use kql_values::{Catalogue, Table};
 use std::alloc::Global;
 
 /// The rows of a query over the tables of a catalogue, at a moment.
-#[tactic(auto, unfolding(crate::specs::Answer::rows_over))]
+#[tactic(auto, unfolding(crate::specs::Queries::rows_over))]
 pub(crate) fn rows_over(
     alloc: Global,
     query: &Query,
@@ -48,7 +49,7 @@ fn columns_differ(schemas: &[NamedSchema])
 }
 
 // The program that the query is bound to, which fits the tables.
-#[tactic(auto, using(crate::proofs::BoundFacts::bound_facts), unfolding(crate::specs::Answer::program_of))]
+#[tactic(auto, using(crate::proofs::BoundFacts::bound_facts), unfolding(crate::specs::Queries::program_of))]
 fn program_of(
     alloc: Global,
     query: &Query,
@@ -68,7 +69,7 @@ fn program_of(
 }
 
 // The rows of a program that fits the tables, or 204 where it is not built.
-#[tactic(auto, unfolding(crate::specs::Answer::unless_unbuilt))]
+#[tactic(auto, unfolding(crate::specs::Queries::unless_unbuilt))]
 fn unless_unbuilt(alloc: Global, program: &Program, catalogue: &Catalogue) -> Result<Table, Stop>
     requires fits { IsTrue (fits program.now (schemas_of catalogue.now)) }
     ensures rows { Gives (unless_unbuilt program.now catalogue.now) result }

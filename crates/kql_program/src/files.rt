@@ -2,21 +2,21 @@ ghost use Rattle.std.specs.Prelude.{◌≡◌, ◌≤◌, ◌+◌, ◌++◌, ◌
 ghost use Rattle.kql_outside.specs.Causes.{Rose};
 ghost use Rattle.kql_cells.specs.Named.{IsAbsent};
 ghost use Rattle.kql_cells.specs.Catalogues.{table_name};
-ghost use Rattle.kql_program.specs.Command.{AreTables, name_in, names_table, texts};
+ghost use Rattle.kql_words.specs.Command.{AreTables, name_in, names_table, texts};
 ghost use Rattle.kql_program.specs.Files.{AddsTable, ReadsFront, ReadsTable, bytes_top, file_bytes, file_tokens, loaded_as, query_tokens, tables_from};
 ghost use Rattle.kql_program.specs.Outcomes.{RefusesNoWord};
 ghost use Rattle.kql_program.specs.Refusals.{Computes, Gives};
 ghost use Rattle.csv_io.specs.Load.{loaded};
 ghost use Rattle.kql_program.specs.declared.refusal.Stop.TheVariants as stop;
 
-use crate::command::table_parts;
-use crate::refusal::{Refusal, Stop};
+use crate::refusal::Stop;
 use csv_io::{DataFault, load};
 use kql_cells::{Bytes, KText};
 use kql_items::Items;
 use kql_lexer::{MAX_BYTES, Tokens, lex};
 use kql_outside::{Shelf, read_up_to};
 use kql_values::{Catalogue, Named, Table};
+use kql_words::{Refusal, table_parts};
 use std::alloc::Global;
 
 /// How many bytes the table files may have together.
@@ -61,7 +61,8 @@ pub(crate) fn read_query<F: Shelf>(alloc: Global, shelf: &mut F, path: &str) -> 
     read_tokens(alloc, bytes.as_slice())
 }
 
-fn read_tokens(alloc: Global, text: &[u8]) -> Result<Tokens, Stop>
+/// The tokens of a text.
+pub(crate) fn read_tokens(alloc: Global, text: &[u8]) -> Result<Tokens, Stop>
     ensures tokens { Gives (query_tokens text.now) result }
 {
     Ok(lex(alloc, text)?)

@@ -1,7 +1,7 @@
 ghost use Rattle.std.specs.Prelude.{◌≡◌, IfOk, string_bytes};
 ghost use Rattle.kql_program.specs.Lines.{data_line, data_name, line_of, bind_name, operator_name, query_line, query_name, text_name, usage_line, usage_name};
 
-use crate::refusal::Refusal;
+use kql_words::Refusal;
 use std::alloc::{AllocError, Global};
 
 /// The line of a refusal, with its line feed.
@@ -124,6 +124,7 @@ fn usage_name(code: u32) -> &'static str
         606 => "NoQuery",
         607 => "BadTable",
         608 => "TableTwice",
+        609 => "BadCount",
         610 => "TooManyTables",
         _ => "",
     }

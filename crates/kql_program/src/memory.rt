@@ -1,6 +1,6 @@
 ghost use Rattle.std.specs.Prelude.{◌≡◌, ◌⊎◌, Some};
 ghost use Rattle.kql_program.specs.Answer.{HasOneAnswer};
-ghost use Rattle.kql_program.specs.Command.{texts};
+ghost use Rattle.kql_words.specs.Command.{texts};
 ghost use Rattle.kql_program.specs.InMemory.{Answered, HaveRoomFor, RunsOut, in_memory};
 ghost use Rattle.kql_program.specs.Outcomes.{HasOutcome, outside};
 

@@ -1,30 +1,9 @@
 use bind_expr::BindFault;
-use kql_lexer::{LexFault, Place};
+use kql_lexer::LexFault;
 use kql_outside::{Failed, ReadError};
 use kql_syntax::SyntaxFault;
+use kql_words::Refusal;
 use std::alloc::AllocError;
-
-/// Why there is no table: a numbered refusal, with its place.
-#[derive(Clone, Copy, Debug, PartialEq, Eq)]
-pub enum Refusal {
-    /// The query is refused at a place of its text.
-    Query {
-        code: u32,
-        place: Place,
-    },
-    /// A word of the command is refused. Words are numbered from 0.
-    Usage {
-        word: u32,
-        code: u32,
-    },
-    /// A file is refused: 0 is the query file, and k the file of the k-th table. The row 0 is the header.
-    Data {
-        file: u32,
-        code: u32,
-        row: u64,
-        column: u64,
-    },
-}
 
 /// Why the work stops before there is a text.
 #[derive(Clone, Copy, Debug, PartialEq, Eq)]

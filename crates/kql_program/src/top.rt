@@ -1,14 +1,16 @@
-ghost use Rattle.std.specs.Prelude.{◌≡◌, IfSome};
+ghost use Rattle.std.specs.Prelude.{◌≡◌, ◌<◌, ◌+◌, IfSome, Ok, drop, length};
+ghost use Rattle.kql_cells.specs.Values.{IsMoment};
 ghost use Rattle.kql_program.specs.Answer.{HasOneAnswer};
-ghost use Rattle.kql_program.specs.Command.{texts};
+ghost use Rattle.kql_words.specs.Command.{AreTables, IfAsks, command_of, texts};
 ghost use Rattle.kql_program.specs.Outcomes.{HasOutcome, SinkNow, Writes, WritesStop, outside, sink_now};
 ghost use Rattle.kql_program.specs.declared.refusal.Stop.TheVariants as stop;
 
-use crate::ended::{Ended, ending_of};
+use crate::ended::{Ended, done_of, ending_of};
 use crate::lines::line_of;
-use crate::refusal::{Refusal, Stop};
-use crate::steps::query_text;
+use crate::refusal::Stop;
+use crate::steps::command_text;
 use kql_outside::{Gate, Shelf, Sink, write_all};
+use kql_words::{Command, Refusal, read_command};
 use std::alloc::Global;
 use std::thread::Threads;
 
@@ -19,8 +21,10 @@ const MEMORY_LINE: &str = "kql: out of memory\n";
 /// Answers the words of a command: reads the query file and the table files from `shelf`, evaluates the query, and
 /// writes the text of its table to `out`, or one line for a refusal to `err`.
 ///
-/// The words, without the program's name, are `run`, then `--workers N` and `--now T` in any order, each at most once, then QUERY,
-/// the path of the query file, and then up to 64 words NAME=PATH. N is 1 to 64 in digits, and T the datetime that `now()` stands for.
+/// The words, without the program's name, are `run` or `plain`, then `--workers N` and `--now T` in any order, each at most once, then QUERY,
+/// the path of the query file, and then up to 64 words NAME=PATH. N is 1 to 64 in digits, and T the datetime that `now()` stands for. Or they
+/// are `trial`, ROWS, up to 1,000,000, SEED, up to 18,446,744,073,709,551,615, and then `--workers N` or nothing: the stored queries are
+/// answered over a log of so many rows that the seed makes up, a line for each.
 ///
 /// The text is made whole before its first byte is written. No result depends on the runtime, on N or on `gate`: no worker is started
 /// yet, and no gate entered.
@@ -43,8 +47,32 @@ pub fn kql<R: Threads + Sync, F: Shelf, O: Sink, E: Sink, G: Gate + Sync>(
     // Where the files are told there is one answer.
     ensures one { IfSome (F.files shelf.old) (λ files. HasOneAnswer (texts words.now) files) }
 {
-    match query_text(alloc, words, shelf) {
-        Ok(text) => write_ending(out, text.as_slice(), Ended::Table),
+    match read_command(words) {
+        Ok(command) => answer_command(alloc, words, command, shelf, out, err),
+        Err(refusal) => write_refusal(alloc, err, refusal),
+    }
+}
+
+// Answers a command, which these words are.
+fn answer_command<F: Shelf, O: Sink, E: Sink>(
+    alloc: Global,
+    words: &[String],
+    command: Command,
+    shelf: &mut F,
+    out: &mut O,
+    err: &mut E,
+) -> Ended
+    requires read { Ok command ≡ command_of (texts words.now) }
+    requires within { IfAsks (λ a. a.query < length words.now) command }
+    requires tables { IfAsks (λ a. AreTables (texts (drop (a.query + 1) words.now))) command }
+    requires moment { IfAsks (λ a. IfSome a.moment IsMoment) command }
+    ensures files { F.files shelf.new ≡ F.files shelf.old }
+    ensures outcome { let out_at : O → SinkNow = λ o. sink_now (O.written o) (O.room o) (O.faults o) in
+        let err_at : E → SinkNow = λ e. sink_now (E.written e) (E.room e) (E.faults e) in
+        HasOutcome (texts words.now) (F.files shelf.old) (outside (F.faults shelf.old) (out_at out.old) (err_at err.old)) (outside (F.faults shelf.new) (out_at out.new) (err_at err.new)) result }
+{
+    match command_text(alloc, words, command, shelf) {
+        Ok(text) => write_ending(out, text.as_slice(), done_of(command)),
         Err(stop) => write_stop(alloc, err, stop),
     }
 }

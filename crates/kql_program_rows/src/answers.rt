@@ -1,7 +1,7 @@
 //! What the program answers.
-use crate::seat::{NamedText, Seat};
+use crate::seat::{NamedText, Seat, words_in};
 use kql_outside::{CleanShelf, CleanSink, OpenGate};
-use kql_program::{Ended, kql};
+use kql_program::{kql, status};
 use std::alloc::{AllocError, Global};
 use std::str;
 use std::thread::Threads;
@@ -15,14 +15,16 @@ fn file(alloc: Global, path: &str, text: &str) -> Result<(String, Vec<u8>), Allo
     Ok((path, bytes))
 }
 
-// The words of the command.
+// The words of a query's command.
 fn words_of(alloc: Global, seat: &Seat) -> Result<Vec<String>, AllocError> {
     let mut words = Vec::new(alloc);
-    words.push(String::from_str(alloc, "run")?)?;
+    if seat.words.is_empty() {
+        words.push(String::from_str(alloc, "run")?)?;
+    }
     for word in &seat.words {
         words.push(String::from_str(alloc, word.as_str())?)?;
     }
-    words.push(String::from_str(alloc, "query")?)?;
+    words.push(String::from_str(alloc, "q")?)?;
     for table in &seat.tables {
         words.push(format!(in alloc; "{}={}", table.name.as_str(), table.name.as_str())?)?;
     }
@@ -33,7 +35,7 @@ fn words_of(alloc: Global, seat: &Seat) -> Result<Vec<String>, AllocError> {
 fn shelf_of(alloc: Global, query: &str, tables: &[NamedText]) -> Result<CleanShelf, AllocError> {
     let mut files = Vec::new(alloc);
     let query = query.replace(alloc, "⏎", "\n")?;
-    files.push(file(alloc, "query", query.as_str())?)?;
+    files.push(file(alloc, "q", query.as_str())?)?;
     for table in tables {
         files.push(file(alloc, table.name.as_str(), table.text.as_str())?)?;
     }
@@ -48,19 +50,36 @@ fn shown(alloc: Global, before: &str, bytes: &[u8]) -> Result<String, AllocError
     format!(in alloc; "{before}{}", text.as_str())
 }
 
-/// What the program answers a query over the tables of the seat: the text, or the line of a refusal.
+// What the program answers to words.
+fn answer_to(
+    rt: &(impl Threads + Sync),
+    alloc: Global,
+    words: &[String],
+    shelf: &mut CleanShelf,
+) -> Result<String, AllocError> {
+    let mut out = CleanSink::new(alloc, 4096, ROOM)?;
+    let mut err = CleanSink::new(alloc, 4096, ROOM)?;
+    let ended = kql(rt, alloc, words, shelf, &mut out, &mut err, &OpenGate);
+    if status(&ended) == 0 {
+        shown(alloc, "", out.bytes())
+    } else {
+        shown(alloc, "! ", err.bytes())
+    }
+}
+
+/// What the program answers a query over the tables of the seat, or to all words where they begin with `$ `: the text, or the line of a refusal.
 pub(crate) fn answer(
     rt: &(impl Threads + Sync),
     alloc: Global,
     seat: &Seat,
-    query: &str,
+    asked: &str,
 ) -> Result<String, AllocError> {
-    let words = words_of(alloc, seat)?;
-    let mut shelf = shelf_of(alloc, query, &seat.tables)?;
-    let mut out = CleanSink::new(alloc, 4096, ROOM)?;
-    let mut err = CleanSink::new(alloc, 4096, ROOM)?;
-    match kql(rt, alloc, &words, &mut shelf, &mut out, &mut err, &OpenGate) {
-        Ended::Table => shown(alloc, "", out.bytes()),
-        _ => shown(alloc, "! ", err.bytes()),
+    if let Some(command) = asked.strip_prefix("$ ") {
+        let words = words_in(alloc, command)?;
+        let mut shelf = shelf_of(alloc, "print 1", &seat.tables)?;
+        return answer_to(rt, alloc, &words, &mut shelf);
     }
+    let words = words_of(alloc, seat)?;
+    let mut shelf = shelf_of(alloc, asked, &seat.tables)?;
+    answer_to(rt, alloc, &words, &mut shelf)
 }

@@ -1,9 +1,10 @@
 //! Queries over tables and what the program answers, checked by the top call.
 //!
 //! A line of the input that begins with `#` is a heading, which tells what the lines under it show and forgets the tables so far. A line
-//! `NAME=TEXT` gives the table NAME its text of CSV, and a line `> WORDS` the words of the command in front of the query's. Every other
-//! line is a row: a query, a tab, and the text that it is answered, or `! ` and the line of its refusal. `⏎` stands for the end of a line, and none
-//! stands at the end of a text. The rows are written by hand from the reference of the language. The output tells the rows that are
+//! `NAME=TEXT` gives the table NAME its text of CSV, and a line `> WORDS` the words in front of the query's, which are `run` where there is no such
+//! line. Every other line is a row: a query, a tab, and the text that it is answered, or `! ` and the line of its refusal. `⏎` stands for the end of
+//! a line, and none stands at the end of a text. A row that begins with `$ ` has all words of the command in place of a query, where the file `q` has
+//! the query `print 1`. The rows are written by hand from the reference of the language. The output tells the rows that are
 //! answered otherwise, and how many there are.
 #![tactic(auto)]
 
@@ -26,7 +27,7 @@ struct Counts {
 fn counted(
     rt: &HostRuntime,
     counts: Counts,
-    query: &str,
+    asked: &str,
     found: &str,
     wanted: &str,
 ) -> io::Result<Counts> {
@@ -37,7 +38,7 @@ fn counted(
             wrong: counts.wrong,
         });
     }
-    println!(rt; "{query}: {found}, not {wanted}")?;
+    println!(rt; "{asked}: {found}, not {wanted}")?;
     Ok(Counts {
         rows,
         wrong: counts.wrong.saturating_add(1),
@@ -53,9 +54,9 @@ fn main(rt: HostRuntime) -> io::Result<ExitCode> {
             seat = Seat::new(rt.alloc());
         } else if let Some(words) = line.strip_prefix("> ") {
             seat.set_words(rt.alloc(), words)?;
-        } else if let Some((query, wanted)) = line.split_once('\t') {
-            let found = answer(&rt, rt.alloc(), &seat, query)?;
-            counts = counted(&rt, counts, query, found.as_str(), wanted)?;
+        } else if let Some((asked, wanted)) = line.split_once('\t') {
+            let found = answer(&rt, rt.alloc(), &seat, asked)?;
+            counts = counted(&rt, counts, asked, found.as_str(), wanted)?;
         } else if let Some((name, text)) = line.split_once('=') {
             seat.add_table(rt.alloc(), name, text)?;
         } else {

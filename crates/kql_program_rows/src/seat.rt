@@ -21,6 +21,15 @@ fn lines_of(alloc: Global, text: &str) -> Result<String, AllocError> {
     Ok(lines)
 }
 
+/// The words of a text, which blanks part.
+pub(crate) fn words_in(alloc: Global, text: &str) -> Result<Vec<String>, AllocError> {
+    let mut words = Vec::new(alloc);
+    for word in text.split_whitespace() {
+        words.push(String::from_str(alloc, word)?)?;
+    }
+    Ok(words)
+}
+
 impl Seat {
     pub(crate) fn new(alloc: Global) -> Seat {
         Seat {
@@ -31,11 +40,7 @@ impl Seat {
 
     /// Sets the words in front of the query's.
     pub(crate) fn set_words(&mut self, alloc: Global, text: &str) -> Result<(), AllocError> {
-        let mut words = Vec::new(alloc);
-        for word in text.split_whitespace() {
-            words.push(String::from_str(alloc, word)?)?;
-        }
-        self.words = words;
+        self.words = words_in(alloc, text)?;
         Ok(())
     }
 

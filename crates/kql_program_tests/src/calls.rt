@@ -87,27 +87,7 @@ fn call_over(
     Ok((left, ended))
 }
 
-// Calls `kql` with these words, a file `q` of the query and files `t` and `u` of tables.
-pub(crate) fn call_with(
-    rt: &(impl Threads + Sync),
-    alloc: Global,
-    words: &[String],
-    query: &str,
-    table: &[u8],
-    faults: Faults,
-) -> Result<(Left, Ended), AllocError> {
-    let Faults {
-        shelf,
-        out,
-        err,
-        chunk,
-    } = faults;
-    let mut out = MemSink::new(alloc, chunk.max(1), 1_048_576, out)?;
-    let mut err = MemSink::new(alloc, 4096, 1_048_576, err)?;
-    let mut shelf = MemShelf::new(files(alloc, query, table)?, shelf);
-    call_over(rt, alloc, words, &mut shelf, &mut out, &mut err)
-}
-
+// Calls `kql` with the words of a command, a file `q` of the query and files `t` and `u` of tables.
 fn call_on_bytes(
     rt: &(impl Threads + Sync),
     alloc: Global,
@@ -117,7 +97,16 @@ fn call_on_bytes(
     faults: Faults,
 ) -> Result<(Left, Ended), AllocError> {
     let words = words_of(alloc, command)?;
-    call_with(rt, alloc, &words, query, table, faults)
+    let Faults {
+        shelf,
+        out,
+        err,
+        chunk,
+    } = faults;
+    let mut out = MemSink::new(alloc, chunk.max(1), 1_048_576, out)?;
+    let mut err = MemSink::new(alloc, 4096, 1_048_576, err)?;
+    let mut shelf = MemShelf::new(files(alloc, query, table)?, shelf);
+    call_over(rt, alloc, &words, &mut shelf, &mut out, &mut err)
 }
 
 pub(crate) fn call(
@@ -136,7 +125,7 @@ pub(crate) const QUERY: &str = "T | where x == 5";
 pub(crate) const NUMBERS: &str = "x:long\n5\n\"\"\n6\n5\n";
 
 // The status, the output, and behind a bar the errors.
-pub(crate) fn as_text(alloc: Global, left: &Left) -> Result<String, AllocError> {
+fn as_text(alloc: Global, left: &Left) -> Result<String, AllocError> {
     format!(in alloc;
         "{} {}|{}",
         left.status,

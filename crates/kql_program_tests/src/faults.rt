@@ -44,6 +44,21 @@ fn meets_faults_of_a_print(rt: HostRuntime) -> Result<(), Fail> {
     Ok(())
 }
 
+// A trial reads no file, and ends as the command that it is; so does `plain`.
+#[test]
+fn ends_as_the_command(rt: HostRuntime) -> Result<(), Fail> {
+    let alloc = rt.alloc();
+    let mut faults = no_faults(alloc);
+    faults.shelf.push(0)?;
+    let (left, ended) = call(&rt, alloc, "trial 1 0", "", "", faults)?;
+    assert_eq!(rt; ended, Ended::Trial);
+    assert_eq!(rt; left.status, 0);
+    let (left, ended) = call(&rt, alloc, "plain q T=t", QUERY, NUMBERS, no_faults(alloc))?;
+    assert_eq!(rt; ended, Ended::PlainTable);
+    assert_eq!(rt; left.out.as_str(), "x\n5\n5\n");
+    Ok(())
+}
+
 // An output with room for four bytes.
 #[test]
 fn fills_an_output(rt: HostRuntime) -> Result<(), Fail> {

@@ -7,5 +7,3 @@ mod calls;
 mod faults;
 #[cfg(test)]
 mod refusals;
-#[cfg(test)]
-mod words;

@@ -1,8 +1,8 @@
 use Rattle.std.proofs.Common.{◌≤◌, ◌<◌, ◌∙◌, [], ◌∷◌, ◌++◌, ap, arith, length, map, sym, take}
 use Rattle.std.proofs.lemmas.Grind.{common_steps}
 use Rattle.std.specs.Prelude.{string_bytes}
-use Rattle.kql_program.specs.Command.{name_in, texts}
-use Rattle.kql_program.proofs.CommandFacts.{names-more}
+use Rattle.kql_words.specs.Command.{name_in, texts}
+use Rattle.kql_words.proofs.CommandLaws.{names-more}
 use Rattle.kql_program.proofs.TableFacts.{absent, clean, few-words, told-end, told-next, told-stop}
 use Rattle.kql_program.proofs.files.read_tables.Goals as goal
 

@@ -1,7 +1,7 @@
 use Rattle.std.proofs.Common.{◌≡◌, ◌≤◌, ◌+◌, drop, map, take}
 use Rattle.std.specs.Prelude.{IfSome}
 use Rattle.kql_cells.specs.Catalogues.{table_name}
-use Rattle.kql_program.specs.Command.{name_in, texts}
+use Rattle.kql_words.specs.Command.{name_in, texts}
 use Rattle.kql_program.specs.Files.{bytes_top, tables_from}
 use Rattle.kql_program.specs.Refusals.{after}
 use Rattle.kql_program.proofs.files.read_tables.Given as goal

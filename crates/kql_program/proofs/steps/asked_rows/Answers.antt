@@ -1,4 +1,4 @@
-use Rattle.kql_program.specs.Command.{texts}
+use Rattle.kql_words.specs.Command.{texts}
 use Rattle.kql_program.proofs.StepFacts.{asked-rows, asked-stop}
 use Rattle.kql_program.proofs.WordFacts.{raised-words, row-words, stopped-words}
 use Rattle.kql_program.proofs.steps.asked_rows.Goals as goal

@@ -1,4 +1,4 @@
-use Rattle.kql_program.specs.Command.{texts}
+use Rattle.kql_words.specs.Command.{texts}
 use Rattle.kql_program.proofs.StepFacts.{parsed-fault, parsed-rows}
 use Rattle.kql_program.proofs.WordFacts.{raised-words, syntax-words}
 use Rattle.kql_program.proofs.steps.parsed_rows.Goals as goal

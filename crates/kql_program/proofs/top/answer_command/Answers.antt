@@ -1,0 +1,12 @@
+use Rattle.std.proofs.Common.{refl, ap}
+use Rattle.std.specs.Prelude.{Err}
+use Rattle.kql_program.proofs.OutcomeFacts.{outcome-stop, outcome-text}
+use Rattle.kql_program.proofs.top.answer_command.Goals as goal
+
+pub returns-in-Ok-clause-outcome : goal.returns-in-Ok-clause-outcome
+returns-in-Ok-clause-outcome g c =
+    outcome-text _ _ _ _ c.args.command _ _ c.requires.read c.in-Ok.ensures.text c.in-Ok.ensures.trial refl (rw (c.as_slice.ensures.items, c.done_of.ensures) at c.write_ending.ensures.written)
+
+pub returns-in-Err-clause-outcome : goal.returns-in-Err-clause-outcome
+returns-in-Err-clause-outcome g c =
+    outcome-stop _ _ _ _ c.args.command _ _ c.requires.read c.in-Err.ensures.text c.in-Err.ensures.trial c.in-Err.ensures.words (λ e. c.in-Err.ensures.failed (ap Err e)) (λ e. c.in-Err.ensures.turn (ap Err e)) refl c.write_stop.ensures.written

@@ -1,0 +1,76 @@
+-- What a query's command asks for: the text of a table, or the first refusal. In this order: the query file's fault, its tokens', its
+-- syntax's, the table files', binding's, and else the text of the table that the program means.
+use Rattle.std.specs.Prelude.{◌≡◌, ℕ, ℤ, List, Option, Ok, Err, IfOk, if◌then◌else◌}
+use Rattle.bind_expr.specs.Outcome.{Outcome}
+use Rattle.bind_expr.specs.declared.fault.BindFault.TheVariants as bind
+use Rattle.bind_query.specs.Bound.{bound}
+use Rattle.csv_io.specs.Text.{table_text}
+use Rattle.kql_bound.specs.declared.plan.Program.{Program}
+use Rattle.kql_cells.specs.Table.{Grid}
+use Rattle.kql_cells.specs.Catalogues.{Named, schemas_of}
+use Rattle.kql_lexer.specs.declared.place.Place.{Place}
+use Rattle.kql_lexer.specs.declared.token.Token.{Token}
+use Rattle.kql_meaning.specs.Plans.{means}
+use Rattle.kql_plain.specs.Built.{is_built}
+use Rattle.kql_syntax.specs.declared.query.Query.{Query}
+use Rattle.kql_words.specs.Command.{query_path, table_words}
+use Rattle.kql_words.specs.declared.command.Asked.{Asked}
+use Rattle.kql_program.specs.Files.{Files, file_tokens, tables_from}
+use Rattle.kql_words.specs.Refusals.{Answer, ◌>>=◌}
+use Rattle.kql_program.specs.Syntax.{IsVerdict, Verdict}
+use Rattle.kql_words.specs.declared.refusal.Refusal.TheVariants.{Query as Refused}
+
+-- where the text of a query starts
+abbrev pub start_place : Place
+start_place = record { line = 1; column = 1; byte = 0 }
+
+-- a program, or binding's refusal; binding is never defined to want memory
+abbrev pub bound_as : Outcome Program → Answer Program
+bound_as (Ok program) = Ok program
+bound_as (Err (bind.Refused code place)) = Err (Refused code place)
+bound_as (Err bind.OutOfMemory) = Err (Refused 0 start_place)
+
+-- the program of a query over tables, at a moment
+unfoldable pub program_of : Query → Option ℤ → List Named → Answer Program
+program_of query moment tables = bound_as (bound query (schemas_of tables) moment)
+
+-- The rows of a program over tables, or 204 at the query's start where one of its operators is not built. What is bound fits the schemas of
+-- these tables, so that it has rows.
+unfoldable pub unless_unbuilt : Program → List Named → Answer Grid
+unless_unbuilt program tables =
+    if is_built program then Ok (means program tables) else Err (Refused 204 start_place)
+
+-- the rows of a query over tables, at a moment
+unfoldable pub rows_over : Query → Option ℤ → List Named → Answer Grid
+rows_over query moment tables = do
+  program ← program_of query moment tables
+  unless_unbuilt program tables
+
+-- the rows of a query, at a moment, over tables that may be refused
+unfoldable pub rows_with : Answer (List Named) → Option ℤ → Query → Answer Grid
+rows_with tables moment query = tables >>= λ ts. rows_over query moment ts
+
+-- the rows of a query, where its syntax has this verdict: its tokens, its syntax, the tables, and then the rows, one after another
+unfoldable pub query_rows : Answer (List Token) → Answer (List Named) → Option ℤ → Verdict → Answer Grid
+query_rows tokens tables moment verdict = tokens >>= λ read. verdict >>= λ query. rows_with tables moment query
+
+-- these are the rows of the query that tokens are, over tables and at a moment, or the first refusal: they follow from the verdict on
+-- the tokens
+pub record AreRows (tokens : Answer (List Token)) (tables : Answer (List Named)) (moment : Option ℤ) (a : Answer Grid) : Type 0 where
+  pub verdict : Verdict
+  pub judged : IfOk tokens (λ read. IsVerdict read verdict)
+  pub is : a ≡ query_rows tokens tables moment verdict
+
+-- these are the rows that a query's command asks for, or the first refusal
+abbrev pub AreRowsAsked : List (List ℕ) → Files → Asked → Answer Grid → Type 0
+AreRowsAsked words files asked a = AreRows (file_tokens files (query_path words asked)) (tables_from files 1 0 (table_words words asked)) asked.moment a
+
+-- the text of rows as a table
+abbrev pub text_of : Answer Grid → Answer (List ℕ)
+text_of rows = rows >>= λ grid. Ok (table_text grid)
+
+-- this is the text that a query's command asks for, or the first refusal
+pub record AnswersQuery (words : List (List ℕ)) (files : Files) (asked : Asked) (a : Answer (List ℕ)) : Type 0 where
+  pub rows : Answer Grid
+  pub are : AreRowsAsked words files asked rows
+  pub is : a ≡ text_of rows

@@ -1,0 +1,4 @@
+pub mod AskedLaws
+pub mod CommandLaws
+pub mod TrialFacts
+pub mod UnlessFacts
