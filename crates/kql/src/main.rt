@@ -1,9 +1,15 @@
 //! The program `kql`: the top call over the files and the streams of the system. Its words are those of the command.
 #![tactic(auto)]
 
+mod caret;
+mod help;
+mod topics;
+
+use help::{Help, help_of};
 use kql_outside::{DirShelf, OpenGate, StreamSink};
 use kql_program::{Ended, kql, status};
-use std::io::ErrorKind;
+use kql_words::{Command, read_command};
+use std::io::{ErrorKind, IsTerminal};
 use std::process::ExitCode;
 use std::rt::Env;
 use std::{env, io};
@@ -25,6 +31,7 @@ log of ROWS lines that SEED makes up, with a line for each.
     --workers N       how many workers share the work, 1 to 64; without effect yet
     kql --help        this text
     kql --version     the version
+    kql help          the topics of help: each operator, function and refusal
 
 Exit status: 0 the answer was written, 1 the query is refused, 2 a word of the
 command is refused, 3 a file is refused, 4 a file could not be read, 5 the answer
@@ -43,14 +50,27 @@ fn words_of<R: Env + AllocGlobal>(rt: &R) -> io::Result<Vec<String>> {
 }
 
 // What is told of the program itself, if the words ask for it.
-fn told(words: &[String]) -> Option<&'static str> {
-    match words.first() {
-        Some(word) => match word.as_str() {
-            "--help" | "-h" | "help" => Some(HELP),
-            "--version" => Some(VERSION),
-            _ => None,
+fn told(words: &[String]) -> Option<Help> {
+    let (first, rest) = words.split_first()?;
+    match first.as_str() {
+        "--help" | "-h" => Some(Help::Text(HELP)),
+        "--version" => Some(Help::Text(VERSION)),
+        "help" => Some(help_of(rest)),
+        _ => None,
+    }
+}
+
+// Tells of the program, and answers the status.
+fn tell(rt: &HostRuntime, help: Help) -> io::Result<ExitCode> {
+    match help {
+        Help::Text(text) => match rt.print(text) {
+            Ok(()) => Ok(ExitCode::SUCCESS),
+            Err(_) => Ok(ExitCode::from(status(&Ended::WriteFault))),
         },
-        None => None,
+        Help::NoTopic => {
+            rt.eprint("kql: there is no help on that: kql help names the topics\n")?;
+            Ok(ExitCode::from(2))
+        }
     }
 }
 
@@ -64,14 +84,36 @@ fn wordless(rt: &HostRuntime, error: io::Error) -> io::Result<ExitCode> {
     Ok(ExitCode::from(2))
 }
 
+// The path of the query's file, where the words have one.
+fn query_path(words: &[String]) -> Option<&str> {
+    let asked = match read_command(words).ok()? {
+        Command::Run(asked) => asked,
+        Command::Plain(asked) => asked,
+        Command::Trial(_) => return None,
+    };
+    Some(words.get(asked.query)?.as_str())
+}
+
+// Shows a terminal more of a refused query than its line. What cannot be shown is left out.
+fn show_more(rt: &HostRuntime, words: &[String], ended: &Ended) {
+    let Ended::QueryRefused { code, place } = ended else {
+        return;
+    };
+    if !rt.stderr().is_terminal() {
+        return;
+    }
+    if let Some(path) = query_path(words) {
+        let _ = caret::show(rt, path, place.line, place.column, *code);
+    }
+}
+
 fn main(rt: HostRuntime) -> io::Result<ExitCode> {
     let words = match words_of(&rt) {
         Ok(words) => words,
         Err(error) => return wordless(&rt, error),
     };
-    if let Some(text) = told(&words) {
-        rt.print(text)?;
-        return Ok(ExitCode::SUCCESS);
+    if let Some(help) = told(&words) {
+        return tell(&rt, help);
     }
     let mut shelf = DirShelf::new(&rt);
     let mut out = StreamSink::new(rt.stdout());
@@ -85,5 +127,6 @@ fn main(rt: HostRuntime) -> io::Result<ExitCode> {
         &mut err,
         &OpenGate,
     );
+    show_more(&rt, &words, &ended);
     Ok(ExitCode::from(status(&ended)))
 }

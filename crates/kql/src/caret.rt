@@ -1,0 +1,87 @@
+//! What a terminal shows of a refused query: its line, a caret under the place, and a sentence.
+
+use crate::help::sentence;
+use std::alloc::{AllocError, Global};
+use std::rt::Files;
+use std::{fs, io};
+
+// A longer file has no line that is shown.
+const BYTES_TOP: u64 = 262_144;
+
+// How many characters of a line are shown, and how many of them stand before the caret at most.
+const SHOWN: u32 = 72;
+
+const BEFORE: u32 = 60;
+
+/// Shows the place of a refusal in the query's file, counted from 1, and what its code means. Only a plain file is read again.
+pub(crate) fn show<R: Files + Eprint + AllocGlobal>(
+    rt: &R,
+    path: &str,
+    line: u32,
+    column: u32,
+    code: u32,
+) -> io::Result<()> {
+    if let Some(text) = text_of(rt, path) {
+        show_line(rt, text.as_str(), line, column)?;
+    }
+    let meaning = sentence(code);
+    eprintln!(rt; "{meaning} More: kql help {code}")
+}
+
+// The text of a plain file that is no longer than a query.
+fn text_of<R: Files + AllocGlobal>(rt: &R, path: &str) -> Option<String> {
+    let about = fs::metadata(rt, path).ok()?;
+    if !about.is_file() || about.len() > BYTES_TOP {
+        return None;
+    }
+    let bytes = fs::read(rt, path).ok()?;
+    String::from_utf8_lossy(rt.alloc(), bytes.as_slice()).ok()
+}
+
+// Shows a line of a text with a caret under a column.
+fn show_line<R: Eprint + AllocGlobal>(
+    rt: &R,
+    text: &str,
+    line: u32,
+    column: u32,
+) -> io::Result<()> {
+    let Some(line) = text.split('\n').nth(line.saturating_sub(1) as usize) else {
+        return Ok(());
+    };
+    let (shown, blanks) = pointed(rt.alloc(), line, column)?;
+    eprintln!(rt; "    {shown}")?;
+    eprintln!(rt; "    {blanks}^")
+}
+
+// The part of a line that is shown, and the blanks before the caret under it.
+fn pointed(alloc: Global, line: &str, column: u32) -> Result<(String, String), AllocError> {
+    let first = first_shown(column);
+    let mut shown = String::new(alloc);
+    let mut blanks = String::new(alloc);
+    let mut at = 1u32;
+    for c in line.chars() {
+        if first <= at && at - first < SHOWN {
+            shown.push(shown_as(c))?;
+            if at < column {
+                blanks.push(blank_under(c))?;
+            }
+        }
+        at = at.saturating_add(1);
+    }
+    Ok((shown, blanks))
+}
+
+// The column from which on a line is shown.
+fn first_shown(column: u32) -> u32 {
+    if column <= BEFORE { 1 } else { column - BEFORE }
+}
+
+// A control character is shown as a blank, so that none reaches the terminal.
+fn shown_as(c: char) -> char {
+    if c.is_control() { blank_under(c) } else { c }
+}
+
+// A tab stands under a tab, so that the caret stands under its column.
+fn blank_under(c: char) -> char {
+    if c == '\t' { '\t' } else { ' ' }
+}

@@ -1,0 +1,12 @@
+//! What `kql help TOPIC` prints, a text for each topic and each code of a refusal.
+
+pub(crate) mod file_codes;
+pub(crate) mod functions;
+pub(crate) mod name_codes;
+pub(crate) mod operators;
+pub(crate) mod overview;
+pub(crate) mod queries;
+pub(crate) mod query_codes;
+pub(crate) mod rows;
+pub(crate) mod values;
+pub(crate) mod word_codes;

@@ -1,0 +1,84 @@
+//! The codes of files.
+
+const NOT_UTF8: &str = "\
+301 NotUtf8
+
+The table file is not UTF-8; the row is 0, and the column the number of bytes
+before the first that is not.
+
+Save the file in UTF-8.
+";
+
+const NO_HEADER: &str = "\
+302 NoHeader
+
+The table file has no record; the place is 0:0.
+
+Its first record is the header, as Ts:datetime,Host,Bytes:long.
+";
+
+const BAD_COLUMN: &str = "\
+303 BadColumn
+
+A field of the header has no name, or a type that the language leaves out (int,
+real, double, decimal, guid, date or time), or is the 257th; the row is 0.
+
+Give a name, and bool, long, string, datetime, timespan or dynamic.
+";
+
+const COLUMN_TWICE: &str = "\
+304 ColumnTwice
+
+A column name of the header stood before; the row is 0.
+
+Give one of them another name.
+";
+
+const BAD_LENGTH: &str = "\
+305 BadLength
+
+A row has another number of fields than the header; the column is the number of
+its fields.
+
+Put a cell that holds a comma or a line end between double quotes.
+";
+
+const BAD_CELL: &str = "\
+306 BadCell
+
+A cell does not read as its column's type.
+
+kql help tables has the forms; an empty cell is null.
+";
+
+const NO_FILE: &str = "\
+307 NoFile
+
+There is no file of this path; file 0 is the query file, and N that of the N-th
+word NAME=PATH.
+
+Look at the path.
+";
+
+const TOO_LONG: &str = "\
+308 TooLong
+
+The table files have more than 67,108,864 bytes together.
+
+Leave out rows or columns before.
+";
+
+/// The text of a code of these.
+pub(crate) fn code(number: u32) -> Option<&'static str> {
+    match number {
+        301 => Some(NOT_UTF8),
+        302 => Some(NO_HEADER),
+        303 => Some(BAD_COLUMN),
+        304 => Some(COLUMN_TWICE),
+        305 => Some(BAD_LENGTH),
+        306 => Some(BAD_CELL),
+        307 => Some(NO_FILE),
+        308 => Some(TOO_LONG),
+        _ => None,
+    }
+}

@@ -1,0 +1,232 @@
+//! The codes of a query that is refused for its names and types.
+
+const UNKNOWN_COLUMN: &str = "\
+401 UnknownColumn
+
+No column, constant or step column has that name.
+
+    T | extend y = x + nosuch                  at nosuch
+
+Look at the spelling: names are compared by bytes, so X is not x; a name that is no
+word is written ['a b'].
+";
+
+const UNKNOWN_FUNCTION: &str = "\
+402 UnknownFunction
+
+There is no function of that name, or none in this place: aggregates stand in
+summarize and make-series alone.
+
+    T | extend y = sum(x)                      at sum
+
+kql help functions has the functions; a sum over all rows is summarize.
+";
+
+const WRONG_ARGUMENTS: &str = "\
+403 WrongArguments
+
+The function takes another number of arguments, or no such argument: some must be a
+constant, a column alone or a known part word, and a * is for few.
+
+    T | extend y = abs(x, x)                   at abs
+    T | extend y = datetime_add(\"fortnight\", 1, t)    at datetime_add
+    T | summarize arg_max(x, s) + 1            at arg_max
+
+Give the arguments that the function takes; name the result of a call of several
+columns in an operator of its own.
+";
+
+const WRONG_TYPE: &str = "\
+404 WrongType
+
+The sign or function does not take operands or arguments of these types, or the
+expression has another type than its operator takes.
+
+    T | where s > \"a\"                          at >
+    T | extend y = abs(s)                      at abs
+    T | extend y = d == d                      at ==
+
+Convert, as with tolong(s); two dynamic values are compared when one of them is
+converted.
+";
+
+const UNSUPPORTED_TYPE: &str = "\
+405 UnsupportedType
+
+The language leaves out this type: int, real, double, decimal or guid.
+
+    T | where x > int(5)                       at int
+
+Write long(5), or 5.
+";
+
+const UNSUPPORTED_FUNCTION: &str = "\
+406 UnsupportedFunction
+
+The language leaves out this function, whose results are no whole numbers or of
+types that it leaves out.
+
+    T | summarize avg(x)                       at avg
+
+There are no fractions: sum(x) / count() is the whole part of the mean.
+";
+
+const NOT_SERIALISED: &str = "\
+407 NotSerialised
+
+A window function, or scan, stands over rows that have no order of their own.
+
+    T | extend y = prev(x)                     at prev
+
+Put sort by or serialize before it.
+";
+
+const WINDOW_HERE: &str = "\
+408 WindowHere
+
+No window function may stand here: in a key of sort, in summarize, in the arguments
+of prev, or in a running sum another running sum.
+
+    T | serialize | summarize sum(prev(x))     at prev
+
+Give it a column of its own by extend first.
+";
+
+const NO_MOMENT: &str = "\
+409 NoMoment
+
+now and ago need the moment, and the command gives none.
+
+    T | where t > ago(1h)                      at ago
+
+Give it: --now 2024-01-01
+";
+
+const UNKNOWN_TABLE: &str = "\
+410 UnknownTable
+
+No word of the command and no let gives a table of that name.
+
+    Nosuch | count                             at Nosuch
+
+Give the file: Nosuch=path.csv. The constant of a let hides the file of its name.
+";
+
+const COLUMN_TWICE: &str = "\
+411 ColumnTwice
+
+Two columns of one result have one name, or one column is renamed twice; the place
+is the second.
+
+    T | project x, y = x, y = s                at the second y
+
+Give one of them another name.
+";
+
+const TOO_MANY_COLUMNS: &str = "\
+412 TooManyColumns
+
+The operator gives a result of more than 256 columns.
+
+Leave columns out first, by project or project-away.
+";
+
+const BAD_STEP: &str = "\
+413 BadStep
+
+The column that scan assigns to is not declared, or is assigned to twice in one
+step; or here stands the 65th step.
+
+    T | serialize | scan with (step a: true => y = 1;)    at y
+
+Declare it: scan declare (y:long) with ..
+";
+
+const BAD_RANGE: &str = "\
+414 BadRange
+
+A range has more than 1,000,000 rows, a series more than 100,000 bins, a step is
+null or not positive, an end is null, or a count is null or negative.
+
+    range x from 1 to 9 step 0                 at range
+    T | summarize make_list(x, -1)             at summarize
+
+Give a step above 0 and a count of 0 or more.
+";
+
+const TYPE_CLASH: &str = "\
+415 TypeClash
+
+The columns of a key of join, or of one name in union, are of two types.
+
+    T | join (T | project s = x) on s          at the last s
+
+Convert one side, as by extend s = tostring(s).
+";
+
+const NOT_IN_PARTITION: &str = "\
+416 NotInPartition
+
+partition, join, lookup and union may not stand inside partition.
+
+    T | partition by x (union T)               at union
+
+Put it outside.
+";
+
+const NAME_TWICE: &str = "\
+417 NameTwice
+
+A let, or a step of scan, has a name that stands before.
+
+    let a = 1; let a = 2; print a              at the second a
+
+Give it another name.
+";
+
+const BAD_LITERAL: &str = "\
+418 BadLiteral
+
+The text of this literal does not read as its type.
+
+    T | where t > datetime(2024-02-30)         at datetime
+    T | where b == bool(TRUE)                  at bool
+
+kql help literals has the forms; true, false and null are in lower case.
+";
+
+const NO_COLUMNS: &str = "\
+419 NoColumns
+
+The operator gives a result without columns.
+
+    T | project x | project-away x             at project-away
+
+Keep a column.
+";
+
+/// The text of a code of these.
+pub(crate) fn code(number: u32) -> Option<&'static str> {
+    match number {
+        401 => Some(UNKNOWN_COLUMN),
+        402 => Some(UNKNOWN_FUNCTION),
+        403 => Some(WRONG_ARGUMENTS),
+        404 => Some(WRONG_TYPE),
+        405 => Some(UNSUPPORTED_TYPE),
+        406 => Some(UNSUPPORTED_FUNCTION),
+        407 => Some(NOT_SERIALISED),
+        408 => Some(WINDOW_HERE),
+        409 => Some(NO_MOMENT),
+        410 => Some(UNKNOWN_TABLE),
+        411 => Some(COLUMN_TWICE),
+        412 => Some(TOO_MANY_COLUMNS),
+        413 => Some(BAD_STEP),
+        414 => Some(BAD_RANGE),
+        415 => Some(TYPE_CLASH),
+        416 => Some(NOT_IN_PARTITION),
+        417 => Some(NAME_TWICE),
+        418 => Some(BAD_LITERAL),
+        419 => Some(NO_COLUMNS),
+        _ => None,
+    }
+}

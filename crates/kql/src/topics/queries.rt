@@ -1,0 +1,162 @@
+//! Commands, queries, sources and tables.
+
+const RUN: &str = "\
+kql run [--workers N] [--now T] QUERY NAME=PATH ..
+
+Answers the query of the file QUERY over the tables of the words NAME=PATH, each
+a CSV file, and writes its table as CSV to standard output. --now gives the
+datetime that now() stands for; --workers, from 1 to 64, has no effect yet. The
+options stand before QUERY, in any order. A path may be /dev/stdin.
+
+    kql run examples/errors.kql Requests=examples/requests.csv
+";
+
+const PLAIN: &str = "\
+kql plain [--workers N] [--now T] QUERY NAME=PATH ..
+
+Takes the words of run and answers the same: it evaluates one operator after
+another on one thread.
+";
+
+const TRIAL: &str = "\
+kql trial ROWS SEED [--workers N]
+
+Reads no file. Makes up a log of so many rows, up to 1,000,000, from the seed, up
+to 18,446,744,073,709,551,615, answers five stored queries over it, and writes a
+line for each: QN rows R bytes B, how many rows its table has, and how many bytes
+the table's text. The same words give the same lines on every machine.
+
+    kql trial 1000 1
+";
+
+const QUERY: &str = "\
+SOURCE | OPERATOR | OPERATOR ..
+
+A query is evaluated from left to right, each operator over the rows of the one
+before it, and its table is written as CSV, in the order that the last operator
+gives. let statements may stand before it, and a ; behind it. A comment goes from
+// to the end of its line. Names are compared by bytes, case and all.
+
+    Requests
+    | where status >= 500
+    | extend micros = ms * 1000
+    | project host, path, micros
+    | sort by micros desc, host asc
+
+See also: kql help literals, let, range, print, union, columns.
+";
+
+const LITERALS: &str = "\
+How names and values are written
+
+    name         an ASCII letter or _, then letters, digits and _: Host; any text
+                 as ['a b']; a reserved word so too, as ['by']
+    long         500, 0x1F4; up to 9223372036854775807
+    timespan     5m, 1.5h, 1tick; d, h, m, s, ms, microsecond or tick; whole ticks
+    string       \"say \\\"a\\\"\" or 'it\\'s', with \\\\ \\\" \\' \\n \\r \\t, on one line
+    verbatim     @\"C:\\logs\": a backslash is itself, and a doubled sign is one
+    bool         true, false
+    of a type    datetime(2024-03-01), timespan(1.00:00:00), dynamic({\"a\":1}) with
+                 JSON; long(null) and the like are null
+
+Numbers are whole: there is no real, double, decimal, int or guid.
+";
+
+const LET: &str = "\
+let NAME = SOURCE | OPERATOR ..;
+let NAME = E;
+
+The first names a table for all that follows, the second a constant. A name alone
+is a table. A let hides the file of its name; a second let of one name is refused
+(417).
+
+    let slow = Requests | where ms > 1000;
+    slow | count
+";
+
+const RANGE: &str = "\
+range NAME from A to B step S
+
+A source: the rows A, A + S and so on up to B, in a column of type long, datetime
+or timespan. The step is positive, and no end is null; at most 1,000,000 rows
+(414). The rows are serialised.
+
+    range x from 1 to 3 step 1
+";
+
+const PRINT: &str = "\
+print [n =] E, ..
+
+A source: one row of its items, which read no column. An item without a name is
+print_0, print_1 and so on, by its place.
+
+    print n = 2 + 3
+";
+
+const UNION: &str = "\
+union [kind=outer|inner] T, (SOURCE | ..), ..
+
+As a source the first table and then the others; as an operator the rows so far
+and then each other table's rows. outer, the default, has every column in order
+of first appearance, absent where a table lacks it; inner has the columns that
+all tables have, in the first table's order. Absent is null, and the empty string
+in a column of strings. Columns of one name have one type (415).
+
+    union U, V
+    U | union kind=inner V
+";
+
+const COLUMNS: &str = "\
+Names of columns
+
+An item n = E gives the column n. Without a name it gives
+
+    a column; bin, floor or bin_at of one     the column's name
+    an item of print                          print_0, print_1 and so on
+    count(), countif(p)                       count_, countif_
+    sum(x) and the like of a column           sum_x; of another expression sum_
+    make_list(x), make_list_if                list_x
+    make_set(x), make_set_if                  set_x
+    arg_max(e, c, ..), arg_min, take_any      the names of the columns, e's first
+    anything else                             Column1, Column2 and so on
+
+Two columns of one name in one answer are refused (411). An answer has 1 to 256
+columns.
+";
+
+const TABLES: &str = "\
+Tables
+
+A table is a CSV file in UTF-8, given by a word NAME=PATH. Its header's fields are
+names, or NAME:TYPE; a field without a type is a column of strings.
+
+    bool         true or false, in any case
+    long         -9223372036854775808 to 9223372036854775807
+    string       the text of the cell
+    datetime     2024-03-01, with T or a space and 10:04, :59, .9999999, and Z
+    timespan     [-][d.]hh:mm:ss[.fffffff], or a number with d, h, m, s, ms,
+                 microsecond or tick
+    dynamic      JSON; any other text is that text as a dynamic value
+
+An empty cell is null, and the empty string in a column of strings. The answer is
+CSV with a header without types; null is an empty cell. At most 64 tables, of
+67,108,864 bytes together.
+";
+
+/// The text of a topic of these.
+pub(crate) fn topic(name: &str) -> Option<&'static str> {
+    match name {
+        "run" => Some(RUN),
+        "plain" => Some(PLAIN),
+        "trial" => Some(TRIAL),
+        "query" => Some(QUERY),
+        "literals" | "words" => Some(LITERALS),
+        "let" => Some(LET),
+        "range" => Some(RANGE),
+        "print" => Some(PRINT),
+        "union" => Some(UNION),
+        "columns" | "names" => Some(COLUMNS),
+        "tables" => Some(TABLES),
+        _ => None,
+    }
+}

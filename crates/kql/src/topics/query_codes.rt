@@ -1,0 +1,104 @@
+//! The codes of a query that is refused for its text.
+
+const BAD_CHARACTER: &str = "\
+101 BadCharacter
+
+A byte here begins no token, or is not UTF-8, in a string or a comment too.
+
+    T | where x # 5                            at #
+
+Remove it, or save the query file in UTF-8. A name that is no word is written
+['a b'].
+";
+
+const OPEN_TEXT: &str = "\
+102 OpenText
+
+A string or a literal of a type begins here and is not closed.
+
+    T | where x == \"a                          at \"
+
+Close it on the same line; in a string a quote is written \\\".
+";
+
+const BAD_NUMBER: &str = "\
+103 BadNumber
+
+A number, a timespan or a string with an escape is not written as one can be.
+
+    5a, 1.5, \"a\\q\"
+
+Numbers are whole, up to 9223372036854775807, and end before a letter; a fraction
+needs a timespan's suffix, as 1.5h, and makes whole ticks; escapes are \\\\ \\\" \\' \\n
+\\r \\t.
+";
+
+const TEXT_TOO_LONG: &str = "\
+104 TextTooLong
+
+The query file has more than 262,144 bytes; the place is 1:1.
+
+Make it shorter; data belongs into table files.
+";
+
+const TOO_MANY_TOKENS: &str = "\
+105 TooManyTokens
+
+Here stands the 65,537th token of the query.
+
+Make the query shorter; data belongs into table files.
+";
+
+const UNEXPECTED: &str = "\
+201 Unexpected
+
+No query can go on with this token, or end here, as the text begins.
+
+    T T | count                                at the second T
+    T | where (a                               at 1:13, the end
+
+Look at the word before it: a | or a bracket may be missing, or a reserved word may
+stand where a name does, which is then written as ['by'].
+";
+
+const TOO_DEEP: &str = "\
+202 TooDeep
+
+Here stands the 65th ( or [ that is open at once.
+
+Name parts by let or by extend.
+";
+
+const TOO_MANY_OPERATORS: &str = "\
+203 TooManyOperators
+
+Here stands the name of the 257th operator; the sources range, print and union
+count too.
+
+Make the query shorter.
+";
+
+const NOT_BUILT: &str = "\
+204 NotBuilt
+
+The query has no other fault, but a part of the language that is not built yet; the
+place is 1:1.
+
+Write the query without it.
+";
+
+/// The text of a code of these.
+pub(crate) fn code(number: u32) -> Option<&'static str> {
+    match number {
+        101 => Some(BAD_CHARACTER),
+        102 => Some(OPEN_TEXT),
+        103 => Some(BAD_NUMBER),
+        104 => Some(TEXT_TOO_LONG),
+        105 => Some(TOO_MANY_TOKENS),
+        201 => Some(UNEXPECTED),
+        202 => Some(TOO_DEEP),
+        203 => Some(TOO_MANY_OPERATORS),
+        204 => Some(NOT_BUILT),
+        _ => None,
+    }
+}
