@@ -13,7 +13,7 @@ use Rattle.kql_plain.proofs.OperatorSteps as operators
 use Rattle.kql_plain.proofs.PartitionSteps as partition
 use Rattle.kql_plain.proofs.PlanSteps as plans
 use Rattle.kql_plain.proofs.plans.+plan_input.Goals as goal
-use Rattle.kql_plain.proofs.plans.+plan_input.Goals.{then-changes+in_ok-next, else-changes}
+use Rattle.kql_plain.proofs.plans.+plan_input.Goals.{ops_input-then-changes+in_ok-next, ops_input-else-changes}
 
 -- The plans in an operator.
 
@@ -58,12 +58,12 @@ ops_input-loop-op-preserved t c =
     let fits = subst (λ os. OpsFit os w before) left c.loop-op.invariant.fit in
     let built = operators.others-built c.op-item.result rest (subst (λ os. list_all op_is_built os ≡ true) left c.loop-op.invariant.built) in
     elim c.if-changes.branch [
-      | then-changes+in_ok-next s ↦ let made = ap input_table s.made-is ∙ s.in_ok-next.ensures.table in record {
+      | ops_input-then-changes+in_ok-next s ↦ let made = ap input_table s.made-is ∙ s.in_ok-next.ensures.table in record {
         built = built;
         fit = subst (λ u. OpsFit rest w u) (sym made) (operators.others-fit c.op-item.result rest w before fits);
         rest = operators.more-done c.op-item.result rest (drop c.loop-op.op-index c.args.ops.now) w before (input_table c.if-changes.made) _ left made c.loop-op.invariant.rest;
       }
-      | else-changes s ↦ let same = ap input_table s.made-is in let still = c.changes.ensures.unchanged s.if-changes.false in record {
+      | ops_input-else-changes s ↦ let same = ap input_table s.made-is in let still = c.changes.ensures.unchanged s.if-changes.false in record {
         built = built;
         fit = subst (λ u. OpsFit rest w u) (sym same) (operators.unchanged-fits c.op-item.result rest w before still fits);
         rest = operators.unchanged-done c.op-item.result rest (drop c.loop-op.op-index c.args.ops.now) w before (input_table c.if-changes.made) _ left still same c.loop-op.invariant.rest;
