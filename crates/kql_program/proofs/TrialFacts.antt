@@ -1,5 +1,5 @@
 -- The lines of the stored queries, one after another.
-use Rattle.std.proofs.Common.{◌≡◌, ◌<◌, ◌≤◌, ◌+◌, ◌∙◌, ℕ, suc, List, [], ◌∷◌, ◌++◌, drop, length, refl, ap, sym, subst, arith, append_assoc}
+use Rattle.std.proofs.Common.{◌≡◌, ◌<◌, ◌≤◌, ◌+◌, ◌∙◌, ℕ, suc, zero, List, [], ◌∷◌, ◌++◌, drop, length, refl, ap, sym, subst, arith, append_assoc}
 use Rattle.std.specs.Prelude.{None, Result, Ok, Err, IsErrAnd, String, string_bytes}
 use Rattle.std.specs.Global.{Global}
 use Rattle.std.proofs.lemmas.List.{append-nil, drop_all}
@@ -29,14 +29,17 @@ after-both x y (Err r) = refl
 
 pub leads-first : (tables : List Named) (k : ℕ) (text : List ℕ) → k ≡ 0 → text ≡ [] → LeadsTo tables k text
 unfolding LeadsTo
-leads-first tables k text z e a h = rw (z, e) (rw (after-nothing a) (rw z at h))
+leads-first tables k text z e a h =
+    subst (λ (t : List ℕ). AreLines tables 1 stored_queries (after t a)) (sym e)
+    (subst (λ (x : Answer (List ℕ)). AreLines tables 1 stored_queries x) (sym (after-nothing a))
+    (subst (λ (n : ℕ). AreLines tables (n + 1) (drop n stored_queries) a) z h))
 
 next-query : (k : ℕ) → k < 5 → drop k stored_queries ≡ stored_query k ∷ drop (k + 1) stored_queries
-next-query 0 lt = refl
-next-query 1 lt = refl
-next-query 2 lt = refl
-next-query 3 lt = refl
-next-query 4 lt = refl
+next-query zero lt = refl
+next-query (suc zero) lt = refl
+next-query (suc (suc zero)) lt = refl
+next-query (suc (suc (suc zero))) lt = refl
+next-query (suc (suc (suc (suc zero)))) lt = refl
 next-query (suc (suc (suc (suc (suc k))))) lt = absurd (omega (arith, lt))
 
 pub leads-on : (tables : List Named) (k : ℕ) (text line : List ℕ) → k < 5 → LeadsTo tables k text → IsLine tables (k + 1) (stored_query k) (Ok line) → LeadsTo tables (k + 1) (text ++ line)

@@ -9,7 +9,7 @@ returns-in_err-rows-clause-line c = line-raised c.args.catalogue.now (c.args.k +
 
 pub returns-clause-line : goal.returns-clause-line
 returns-clause-line c =
-    line-made c.args.catalogue.now (c.args.k + 1) c.len.result c.len-2.result c.stored_query.result.now (stored_query c.args.k) c.in_ok-text.text c.in_ok-rows.rows _
+    line-made c.args.catalogue.now (c.args.k + 1) c.len.result c.len-2.result c.stored_query.result.now (stored_query c.args.k) c.in_ok-text.text c.in_ok-rows.rows c.in_ok-counted_line.field-0
     c.stored_query.ensures.text c.in_ok-rows.ensures.rows c.len.ensures.count c.in_ok-text.ensures.text c.len-2.ensures.count c.in_ok-counted_line.ensures
 
 pub returns-in_err-rows-clause-words : goal.returns-in_err-rows-clause-words
