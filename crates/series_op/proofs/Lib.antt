@@ -1,0 +1,13 @@
+mod ArraySteps
+mod BinKeys
+mod BinRows
+mod BinSteps
+mod DistinctLaws
+mod FilledLaws
+mod FilledSteps
+mod GroupSteps
+mod InsideSteps
+mod SeriesSteps
+mod SlotLaws
+mod SlotSteps
+mod SummaryFits
