@@ -30,7 +30,7 @@ use Rattle.kql_meaning.specs.Summarize.{group_columns}
 use Rattle.kql_meaning.specs.Union.{union_columns}
 use Rattle.kql_meaning.proofs.OperatorFitLaws.{join-out, op-Extend, op-MakeSeries, op-MvExpand, op-Parse, op-Project, op-Scan, op-Sort, op-Summarize, op-Top, op-Where, union-out}
 use Rattle.kql_fit_laws.proofs.OperatorLaws.{each_plan_keeps}
-use Rattle.kql_fit_laws.proofs.RowFacts.{answer-some, columns-some}
+use Rattle.kql_fit_laws.proofs.RowFacts.{answer-some}
 use Rattle.scan_ops.specs.Steps.{scan_answers}
 use Rattle.kql_plain.specs.AtHand.{IsSo, OpFits, PlanFits, PlansFit, plans_mean}
 
@@ -93,14 +93,9 @@ pub answers-Summarize : (g : GroupPlan) (w : World) (t : Grid) → OpFits (V.Sum
 unfolding OpFits
 answers-Summarize g w t f = sym (ap is_some (op-Summarize g f.0 f.1 t.columns)) ∙ f.4
 
-series-fits : (p : SeriesPlan) (w : World) (t : Grid) → OpFits (V.MakeSeries p) w t → (series_fits p t.columns ≡ true) × HasDistinctNames column_name (series_columns p t.columns)
-series-fits p w t = answered (V.MakeSeries p) w t (series_fits p t.columns) (series_columns p t.columns) (λ k inside. op-MakeSeries p k inside t.columns)
-
-pub fits-MakeSeries : (p : SeriesPlan) (w : World) (t : Grid) → OpFits (V.MakeSeries p) w t → series_fits p t.columns ≡ true
-fits-MakeSeries p w t f = (series-fits p w t f).0
-
-pub names-MakeSeries : (p : SeriesPlan) (w : World) (t : Grid) → OpFits (V.MakeSeries p) w t → HasDistinctNames column_name (series_columns p t.columns)
-names-MakeSeries p w t f = (series-fits p w t f).1
+pub answers-MakeSeries : (p : SeriesPlan) (w : World) (t : Grid) → OpFits (V.MakeSeries p) w t → is_some (answer_if (series_fits p t.columns) (series_columns p t.columns)) ≡ true
+unfolding OpFits
+answers-MakeSeries p w t f = sym (ap is_some (op-MakeSeries p f.0 f.1 t.columns)) ∙ f.4
 
 expand-fits : (x : Expand) (w : World) (t : Grid) → OpFits (V.MvExpand x) w t → (expand_fits x t.columns ≡ true) × HasDistinctNames column_name (expand_columns x t.columns)
 expand-fits x w t = answered (V.MvExpand x) w t (expand_fits x t.columns) (expand_columns x t.columns) (λ k inside. op-MvExpand x k inside t.columns)
@@ -224,4 +219,4 @@ pub names-Union : (inner : Bool) (others : List Plan) (w : World) (t : Grid) →
 unfolding OthersFit
 names-Union inner others w t f = (union-fits inner others w t f).2
 
-pub ruleset fit_steps = (fits-Where, fits-Sort, fits-Top, fits-Extend, names-Extend, fits-Project, names-Project, answers-Summarize, fits-MakeSeries, names-MakeSeries, fits-MvExpand, names-MvExpand, fits-Parse, names-Parse, answers-Scan, plan-Join, fits-Join, names-Join, plans-Union, fits-Union, names-Union)
+pub ruleset fit_steps = (fits-Where, fits-Sort, fits-Top, fits-Extend, names-Extend, fits-Project, names-Project, answers-Summarize, answers-MakeSeries, fits-MvExpand, names-MvExpand, fits-Parse, names-Parse, answers-Scan, plan-Join, fits-Join, names-Join, plans-Union, fits-Union, names-Union)

@@ -3,16 +3,16 @@ use Rattle.std.proofs.Common.{◌≡◌, ◌<◌, ◌+◌, Bor, ℕ, suc, List, 
 use Rattle.std.specs.Prelude.{not}
 use Rattle.std.specs.List.{range_with_len}
 use Rattle.std.proofs.lemmas.List.{length-map}
-use Rattle.std.proofs.lemmas.List.FromFn.{get_or-map-range_with_len, length-map-range_with_len}
+use Rattle.std.proofs.lemmas.List.FromFn.{get_or-map-range_with_len}
 use Rattle.kql_cells.specs.Keys.{same_keys-decides, same_keys-equiv}
 use Rattle.kql_cells.specs.Seen.{value_at}
 use Rattle.kql_cells.specs.Table.{Grid}
 use Rattle.kql_cells.specs.declared.value.Value.{Value}
 use Rattle.kql_cells.specs.declared.value.Value.TheVariants as value
 use Rattle.kql_values.specs.Grids.{row_of, rows_of}
-use Rattle.kql_keys.specs.Numbers.{distinct, first_places, numbers_of}
+use Rattle.kql_keys.specs.Numbers.{distinct, numbers_of}
 use Rattle.kql_keys.specs.Places.{places_by, places_of}
-use Rattle.kql_keys.proofs.KeyLaws.{first-keys, group-rows}
+use Rattle.kql_keys.proofs.KeyLaws.{group-rows}
 use Rattle.kql_meaning.specs.Groups.{distinct_keys}
 use Rattle.kql_meaning.specs.Partition.{key_in_column}
 use Rattle.kql_meaning.specs.Tables.{cell, distinct_by, places, places_below}

@@ -1,5 +1,5 @@
 -- The tables of lets, one after another.
-use Rattle.std.proofs.Common.{◌≡◌, ℕ, true, List, [], ◌∷◌, ◌++◌, length, refl, sym, ap, ◌∙◌}
+use Rattle.std.proofs.Common.{◌≡◌, true, List, [], ◌∷◌, ◌++◌, length, refl, sym, ap, ◌∙◌}
 use Rattle.std.specs.Prelude.{None, Option, Some, fold, is_some, option_and_then, option_map}
 use Rattle.std.proofs.lemmas.List.{nil_from_length}
 use Rattle.kql_cells.specs.Catalogues.{Named}
@@ -12,7 +12,6 @@ use Rattle.kql_meaning.specs.Plans.{lets_mean, plan_means}
 use Rattle.kql_fit_laws.proofs.OperatorLaws.{each_plan_keeps}
 use Rattle.kql_fit_laws.proofs.ProgramRows.{lets-push}
 use Rattle.kql_plain.specs.AtHand.{IsSo, LetsFit, PlanFits, world_of}
-use Rattle.kql_plain.proofs.PlanSteps.{first-plan, other-plans}
 
 -- The tables of lets behind those that stand already.
 unfoldable pub with_lets : List Plan → List Named → List Grid → List Grid
@@ -60,7 +59,7 @@ let-fits p ps tables made f = (both-fit p ps tables made f).0
 pub others-fit : (p : Plan) (ps : List Plan) (tables : List Named) (made : List Grid) → LetsFit (p ∷ ps) tables made → LetsFit ps tables (made ++ plan_means p (world_of tables made) ∷ [])
 others-fit p ps tables made f = (both-fit p ps tables made f).1
 
-pub ruleset let_steps = (lets-start, one-let, first-plan, other-plans, let-fits, others-fit)
+pub ruleset let_steps = (lets-start, one-let, let-fits, others-fit)
 
 -- A plan behind lets fits where these are made.
 

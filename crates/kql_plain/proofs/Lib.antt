@@ -1,4 +1,3 @@
-pub mod BuiltSteps
 pub mod FitSteps
 pub mod KeySteps
 pub mod LetSteps

@@ -1,8 +1,6 @@
 -- What operators mean, variant by variant, and one after another.
 use Rattle.std.proofs.Common.{◌≡◌, ◌<◌, ◌≤◌, ◌+◌, ℕ, zero, suc, arith, drop, get_or, length, Bool, true, List, [], ◌∷◌, map, refl, sym, ap, ap₂, ◌∙◌, subst, rules}
 use Rattle.std.specs.Prelude.{None, Option, Some, fold, is_some}
-use Rattle.std.specs.List.{list_all}
-use Rattle.std.proofs.lemmas.Bool.{and_parts}
 use Rattle.kql_cells.specs.Named.{HasDistinctNames, column_name}
 use Rattle.kql_cells.specs.Table.{Grid}
 use Rattle.kql_cells.specs.declared.schema.Column.{Column}
@@ -40,8 +38,6 @@ use Rattle.kql_meaning.proofs.PlanLaws.{op_means-out}
 use Rattle.kql_fit_laws.proofs.OperatorLaws.{each_op_keeps}
 use Rattle.kql_fit_laws.specs.LawsOfRows.{IsTable}
 use Rattle.kql_plain.specs.AtHand.{IsSo, OpFits, OpsFit, PlanFits, PlansFit, plans_mean}
-use Rattle.kql_plain.specs.Built.{op_is_built, plan_is_built}
-use Rattle.kql_plain.proofs.BuiltSteps.{built-Join, built-Union, built_steps}
 use Rattle.kql_plain.proofs.FitSteps.{columns_of, fit_steps, fits-Join, fits-Union, means-each, names-Join, names-Union, plan-Join, plans-Union}
 
 -- What each means.
@@ -95,18 +91,12 @@ means-Union inner others w t =
 pub means-Scan : (p : ScanPlan) (w : World) (t : Grid) → op_means (V.Scan p) w t ≡ scan_table p t
 means-Scan p w t = step (V.Scan p) (Op-F.Scan p) (search (rules, the_lemmas)) w t
 
-pub ruleset op_steps = (built_steps, fit_steps, means-Where, means-Extend, means-Project, means-Take, means-Count, means-Sort, means-Top, means-Serialize, means-Summarize, means-MakeSeries, means-MvExpand, means-Parse, means-Join, means-Union, means-Scan)
+pub ruleset op_steps = (fit_steps, means-Where, means-Extend, means-Project, means-Take, means-Count, means-Sort, means-Top, means-Serialize, means-Summarize, means-MakeSeries, means-MvExpand, means-Parse, means-Join, means-Union, means-Scan)
 
--- The plans in an operator are built and fit.
-
-pub right-built : (o : Op) (j : JoinPlan) (right : Plan) → o ≡ V.Join j right → op_is_built o ≡ true → plan_is_built right ≡ true
-right-built o j right is b = sym (ap op_is_built is ∙ built-Join j right) ∙ b
+-- The plans in an operator fit.
 
 pub right-fits : (o : Op) (j : JoinPlan) (right : Plan) (w : World) (t : Grid) → o ≡ V.Join j right → OpFits o w t → PlanFits right w
 right-fits o j right w t is f = plan-Join j right w t (subst (λ (p : Op). OpFits p w t) is f)
-
-pub others-are-built : (o : Op) (inner : Bool) (others seen : List Plan) → o ≡ V.Union inner others → seen ≡ others → op_is_built o ≡ true → list_all plan_is_built seen ≡ true
-others-are-built o inner others seen is same b = ap (λ (ps : List Plan). list_all plan_is_built ps) same ∙ (sym (ap op_is_built is ∙ built-Union inner others) ∙ b)
 
 pub others-all-fit : (o : Op) (inner : Bool) (others seen : List Plan) (w : World) (t : Grid) → o ≡ V.Union inner others → seen ≡ others → OpFits o w t → PlansFit seen w
 others-all-fit o inner others seen w t is same f =
@@ -139,12 +129,6 @@ all-done left w t all none rest = sym (ap (λ (os : List Op). one_after_another 
 pub one-more : (o : Op) (os : List Op) (w : World) (t : Grid) → one_after_another (map op_means (o ∷ os)) w t ≡ one_after_another (map op_means os) w (op_means o w t)
 unfolding one_after_another
 one-more o os w t = refl
-
-pub first-built : (o : Op) (os : List Op) → list_all op_is_built (o ∷ os) ≡ true → op_is_built o ≡ true
-first-built o os b = (and_parts (op_is_built o) (list_all op_is_built os) b).0
-
-pub others-built : (o : Op) (os : List Op) → list_all op_is_built (o ∷ os) ≡ true → list_all op_is_built os ≡ true
-others-built o os b = (and_parts (op_is_built o) (list_all op_is_built os) b).1
 
 columns-more : (o : Op) (os : List Op) (k : Known) (inside : Bool) (cs : List Column) → ops_columns (o ∷ os) k inside cs ≡ fold (after k inside) (op_columns o k inside cs) os
 columns-more o os k inside cs = ops-fold (o ∷ os) k inside cs ∙ ap (λ (b : Option (List Column)). fold (after k inside) b os) (after-some k inside cs o)

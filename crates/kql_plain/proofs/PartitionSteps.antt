@@ -1,7 +1,7 @@
 -- Operators on the rows of each key.
-use Rattle.std.proofs.Common.{◌≡◌, ◌<◌, ◌≤◌, ◌+◌, ℕ, zero, suc, Bool, true, false, List, [], ◌∷◌, ◌++◌, map, filter, length, get_or, take, refl, ap, ap₂, sym, ◌∙◌, subst, arith, rules}
-use Rattle.std.specs.Prelude.{All, None, Option, Some, bytes_eq, find, fold, flat_map, is_some, option_map}
-use Rattle.std.specs.List.{list_all}
+use mathlib.Core.Path.{fun_ext}
+use Rattle.std.proofs.Common.{◌≡◌, ◌<◌, ◌≤◌, ◌+◌, ℕ, zero, suc, Bool, true, false, List, [], ◌∷◌, ◌++◌, map, length, get_or, take, refl, ap, ap₂, sym, ◌∙◌, subst, arith, rules}
+use Rattle.std.specs.Prelude.{All, None, Option, Some, bytes_eq, find, flat_map, is_some, option_map}
 use Rattle.std.proofs.lemmas.List.{append-nil, append_assoc, take_all, take_more}
 use Rattle.std.proofs.lemmas.List.Elements.{All-filter, All-nil}
 use Rattle.kql_cells.specs.Named.{column_name, place_of}
@@ -10,15 +10,17 @@ use Rattle.kql_cells.specs.declared.schema.Column.{Column}
 use Rattle.kql_cells.specs.declared.value.Kind.{Kind}
 use Rattle.kql_cells.specs.declared.value.Value.{Value}
 use Rattle.kql_values.specs.Moves.{kinds_of}
+use Rattle.kql_bound.specs.declared.parts.ScanPlan.{ScanPlan}
 use Rattle.kql_bound.specs.declared.plan.Op.{Op, the_lemmas}
 use Rattle.kql_bound.specs.declared.plan.Op.TheOpen.{Op-F}
 use Rattle.kql_bound.specs.declared.plan.Op.TheVariants as V
 use Rattle.kql_meaning.specs.Expressions.{column_kind}
-use Rattle.kql_meaning.specs.Fits.{Known, by_key, op_columns, ops_columns, outside_subqueries}
+use Rattle.kql_meaning.specs.Fits.{Known, by_key, ops_columns}
 use Rattle.kql_meaning.specs.FittingExpressions.{has_kind, is_key}
 use Rattle.kql_meaning.specs.Groups.{distinct_keys, group_of}
 use Rattle.kql_meaning.specs.Partition.{key_in_column, partition_table}
 use Rattle.kql_meaning.specs.Plans.{World, one_after_another, op_means}
+use Rattle.kql_meaning.specs.Scan.{scan_table}
 use Rattle.kql_meaning.specs.Tables.{emptied, places}
 use Rattle.kql_meaning.specs.Values.{same_keys}
 use Rattle.kql_meaning.proofs.OperatorFitLaws.{ops-fold, partition-out}
@@ -27,12 +29,11 @@ use Rattle.kql_fit_laws.proofs.OperatorLaws.{each_op_keeps}
 use Rattle.kql_fit_laws.proofs.PlanRows.{ops-keep}
 use Rattle.kql_fit_laws.proofs.RowFacts.{gathered-table, place-found, places-inside}
 use Rattle.kql_fit_laws.specs.LawsOfRows.{IsTable}
+use Rattle.scan_ops.specs.Steps.{scan_answers}
 use Rattle.kql_plain.specs.AtHand.{IsSo, OpFits, OpsFit}
-use Rattle.kql_plain.specs.Built.{op_is_built}
 use Rattle.kql_plain.specs.Keys.{rows_by_key, rows_of_key}
-use Rattle.kql_plain.proofs.BuiltSteps.{built-Partition}
-use Rattle.kql_plain.proofs.FitSteps.{outside-there}
-use Rattle.kql_plain.proofs.OperatorSteps.{step}
+use Rattle.kql_plain.proofs.FitSteps.{answers-Scan, outside-there}
+use Rattle.kql_plain.proofs.OperatorSteps.{first-fits, means-Scan, no-more, one-more, step}
 
 -- What the operators of a subquery make.
 abbrev pub made_of : List Op → World → Grid → Grid
@@ -73,9 +74,6 @@ key-there o c ops w t is f = (partition-fits c ops w t (subst (λ (p : Op). OpFi
 
 pub subquery-fits : (o : Op) (c : List ℕ) (ops : List Op) (w : World) (t : Grid) → o ≡ V.Partition c ops → OpFits o w t → OpsFit ops w t
 subquery-fits o c ops w t is f = (partition-fits c ops w t (subst (λ (p : Op). OpFits p w t) is f)).1
-
-pub subquery-built : (o : Op) (c : List ℕ) (ops : List Op) → o ≡ V.Partition c ops → op_is_built o ≡ true → list_all op_is_built ops ≡ true
-subquery-built o c ops is b = sym (ap op_is_built is ∙ built-Partition c ops) ∙ b
 
 -- Operators that fit a table fit any of its rows, and make the same columns of them.
 
@@ -160,3 +158,20 @@ all-means o c told ops w from t lists number made is same table rows end columns
     all-rows told ops w t lists made (emptied t) rows refl columns all
     ∙ (ap (λ (n : List ℕ). partition_table n (made_of ops w) t) same
     ∙ (ap (λ (u : Grid). partition_table c (made_of ops w) u) table ∙ sym (ap (λ (p : Op). op_means p w from) is ∙ means-Partition c ops w from)))
+
+-- The partition of a scan alone.
+
+alone : (s : ScanPlan) (w : World) (t : Grid) → made_of (V.Scan s ∷ []) w t ≡ scan_table s t
+alone s w t = one-more (V.Scan s) [] w t ∙ (no-more w (op_means (V.Scan s) w t) ∙ means-Scan s w t)
+
+pub scan-fits : (o : Op) (c : List ℕ) (ops told : List Op) (s : ScanPlan) (w : World) (from t : Grid) → o ≡ V.Partition c ops → told ≡ ops → told ≡ V.Scan s ∷ [] → t ≡ from → OpFits o w from → scan_answers s t.columns ≡ true
+scan-fits o c ops told s w from t is same one table f =
+    let fits = subst (λ (os : List Op). OpsFit os w from) (sym same ∙ one) (subquery-fits o c ops w from is f) in
+    ap (λ (g : Grid). scan_answers s g.columns) table ∙ answers-Scan s w from (first-fits (V.Scan s) [] w from fits)
+
+pub scan-means : (o : Op) (c name : List ℕ) (ops told : List Op) (s : ScanPlan) (w : World) (from t : Grid) → o ≡ V.Partition c ops → told ≡ ops → told ≡ V.Scan s ∷ [] → name ≡ c → t ≡ from → partition_table name (scan_table s) t ≡ op_means o w from
+scan-means o c name ops told s w from t is same one key table =
+    ap₂ (λ (n : List ℕ) (g : Grid). partition_table n (scan_table s) g) key table
+    ∙ (ap (λ (f : Grid → Grid). partition_table c f from) (fun_ext (λ g. sym (alone s w g)))
+    ∙ (ap (λ (os : List Op). partition_table c (made_of os w) from) (sym one ∙ same)
+    ∙ sym (ap (λ (p : Op). op_means p w from) is ∙ means-Partition c ops w from)))

@@ -1,8 +1,6 @@
 -- A plan: its source, and then its operators. Plans, one after another.
-use Rattle.std.proofs.Common.{◌≡◌, ℕ, true, false, List, [], ◌∷◌, ◌++◌, map, refl, sym, ap, ◌∙◌}
+use Rattle.std.proofs.Common.{◌≡◌, true, false, List, [], ◌∷◌, ◌++◌, map, refl, sym, ap, ◌∙◌}
 use Rattle.std.specs.Prelude.{None, Option, Some, is_some, option_and_then, option_map}
-use Rattle.std.specs.List.{list_all}
-use Rattle.std.proofs.lemmas.Bool.{and_parts}
 use Rattle.std.proofs.lemmas.List.{append_assoc}
 use Rattle.kql_cells.specs.Table.{Grid}
 use Rattle.kql_cells.specs.declared.schema.Column.{Column}
@@ -13,14 +11,9 @@ use Rattle.kql_meaning.proofs.OperatorFitLaws.{plan-out}
 use Rattle.kql_meaning.proofs.PlanLaws.{ops_mean-map, plan_means-out}
 use Rattle.kql_fit_laws.proofs.OperatorLaws.{each_source_keeps}
 use Rattle.kql_plain.specs.AtHand.{IsSo, OpsFit, PlanFits, PlansFit, SourceFits, plans_mean}
-use Rattle.kql_plain.specs.Built.{op_is_built, plan_is_built}
-use Rattle.kql_plain.proofs.BuiltSteps.{built-plan}
 
 pub plan-means : (p : Plan) (w : World) → plan_means p w ≡ one_after_another (map op_means p.ops) w (source_table p.source w)
 plan-means p w = plan_means-out p w ∙ sym (ops_mean-map p.ops w (source_table p.source w))
-
-pub ops-built : (p : Plan) → plan_is_built p ≡ true → list_all op_is_built p.ops ≡ true
-ops-built p b = sym (built-plan p) ∙ b
 
 -- Where a plan fits, its source does, and its operators fit the table of the source.
 
@@ -41,15 +34,9 @@ source-fits p w f = (both-fit p w f).0
 pub ops-fit : (p : Plan) (w : World) → PlanFits p w → OpsFit p.ops w (source_table p.source w)
 ops-fit p w f = (both-fit p w f).1
 
-pub ruleset plan_steps = (plan-means, ops-built, source-fits, ops-fit)
+pub ruleset plan_steps = (plan-means, source-fits, ops-fit)
 
 -- Plans.
-
-pub first-plan : (p : Plan) (ps : List Plan) → list_all plan_is_built (p ∷ ps) ≡ true → plan_is_built p ≡ true
-first-plan p ps b = (and_parts (plan_is_built p) (list_all plan_is_built ps) b).0
-
-pub other-plans : (p : Plan) (ps : List Plan) → list_all plan_is_built (p ∷ ps) ≡ true → list_all plan_is_built ps ≡ true
-other-plans p ps b = (and_parts (plan_is_built p) (list_all plan_is_built ps) b).1
 
 plans-parted : (p : Plan) (ps : List Plan) (w : World) (k : Known) → IsSo k w → (o : Option (List Column)) → plan_columns p k ≡ o → (r : Option (List (List Column))) → all_columns (map plan_columns ps) k ≡ r → is_some (option_and_then (λ one. option_map (λ more. one ∷ more) r) o) ≡ true → PlanFits p w × PlansFit ps w
 unfolding PlanFits PlansFit plans_columns

@@ -1,17 +1,15 @@
 -- A program that fits the schemas of a catalogue: its lets fit the tables there, and its plan these and the tables of the lets.
 use Rattle.std.proofs.Common.{◌≡◌, ℕ, true, List, [], ◌∷◌, length, refl, sym, ap, ◌∙◌, subst}
-use Rattle.std.specs.Prelude.{◌&&◌, All, None, Option, Some, bytes_eq, find, fold, is_some, option_and_then, option_map}
-use Rattle.std.specs.List.{list_all}
+use Rattle.std.specs.Prelude.{All, None, Option, Some, bytes_eq, find, fold, is_some, option_and_then, option_map}
 use Rattle.std.proofs.lemmas.Bool.{and_parts}
 use Rattle.std.proofs.lemmas.Slice.Eq.{bytes_eq-Decides}
 use Rattle.std.proofs.lemmas.List.{nil_from_length}
 use Rattle.std.proofs.lemmas.List.Elements.{All-cons, All-nil}
-use Rattle.kql_cells.specs.Catalogues.{Named, schema_name, schema_of, schemas_of}
+use Rattle.kql_cells.specs.Catalogues.{Named, schema_name, schemas_of}
 use Rattle.kql_cells.specs.declared.schema.Column.{Column}
 use Rattle.kql_cells.specs.declared.schemas.NamedSchema.{NamedSchema}
 use Rattle.kql_values.specs.Kept.{all_named, named_of}
 use Rattle.kql_values.specs.declared.catalogue.Named as kept
-use Rattle.kql_bound.specs.declared.plan.Plan.{Plan}
 use Rattle.kql_bound.specs.declared.plan.Program.{Program}
 use Rattle.kql_meaning.specs.Fits.{fits, has_columns, known_of, let_after, lets_columns, plan_columns, program_columns, table_columns, tables_stand}
 use Rattle.kql_meaning.specs.Plans.{lets_mean, means, plan_means}
@@ -23,8 +21,7 @@ use Rattle.kql_fit_laws.proofs.RowFacts.{of-all}
 use Rattle.kql_fit_laws.specs.LawsOfFitting.{AreTables}
 use Rattle.kql_fit_laws.specs.LawsOfRows.{IsTable}
 use Rattle.kql_plain.specs.AtHand.{AreAtHand, IsSo, LetsFit, PlanFits, world_of}
-use Rattle.kql_plain.specs.Built.{is_built, plan_is_built}
-use Rattle.kql_plain.proofs.LetSteps.{behind-lets, lets-start, with_lets}
+use Rattle.kql_plain.proofs.LetSteps.{behind-lets, lets-start}
 use Rattle.kql_plain.proofs.SourceSteps.{is-there, schema-columns, table_found}
 
 -- The tables of a catalogue are tables.
@@ -73,19 +70,11 @@ main-fits p catalogue tables f =
     let parts = and_parts (tables_stand p.tables (schemas_of catalogue)) (is_some (program_columns p)) f in
     subst (λ ts. PlanFits p.main (world_of catalogue ts)) (lets-start p.lets catalogue) (behind-lets p.lets p.main catalogue [] p.tables [] (is-so p.tables catalogue tables parts.0) parts.1)
 
-pub lets-built : (p : Program) → is_built p ≡ true → list_all plan_is_built p.lets ≡ true
-unfolding is_built
-lets-built p b = (and_parts (list_all plan_is_built p.lets) (plan_is_built p.main) b).0
-
-pub main-built : (p : Program) → is_built p ≡ true → plan_is_built p.main ≡ true
-unfolding is_built
-main-built p b = (and_parts (list_all plan_is_built p.lets) (plan_is_built p.main) b).1
-
 pub program-means : (p : Program) (catalogue : List Named) → means p catalogue ≡ plan_means p.main (world_of catalogue (lets_mean p.lets catalogue))
 unfolding means
 program-means p catalogue = refl
 
-pub ruleset program_steps = (lets-fit, main-fits, lets-built, main-built, program-means)
+pub ruleset program_steps = (lets-fit, main-fits, program-means)
 
 -- Where the first is a table and the others are, all are.
 pub all-tables : (left more : List kept.Named) (n : kept.Named) → left ≡ n ∷ more → IsTable n.table → All (λ (m : Named). IsTable m.table) (all_named more) → All (λ (m : Named). IsTable m.table) (all_named left)

@@ -1,6 +1,6 @@
 -- Sources: what they name is at hand where they fit, and what they mean.
 use Rattle.std.proofs.Common.{◌≡◌, ◌<◌, ℕ, zero, suc, true, List, [], ◌∷◌, length, get_or, refl, sym, ap, ◌∙◌, subst, inl, inr, arith}
-use Rattle.std.specs.Prelude.{None, Option, Some, bytes_eq, find, is_some, option_map, slice_get, slice_index_or}
+use Rattle.std.specs.Prelude.{None, Option, Some, bytes_eq, find, is_some, option_map, slice_get}
 use Rattle.std.proofs.lemmas.Bool.{cases_Bool}
 use Rattle.kql_cells.specs.Catalogues.{Named, schema_name, schema_of, schemas_of, table_name}
 use Rattle.kql_cells.specs.Named.{HasDistinctNames, column_name}
@@ -16,8 +16,7 @@ use Rattle.kql_meaning.specs.FittingOperators.{items_fit, range_fits}
 use Rattle.kql_meaning.specs.Items.{items_columns}
 use Rattle.kql_meaning.specs.Fits.{source_columns, table_columns}
 use Rattle.kql_meaning.specs.Plans.{World, source_table}
-use Rattle.kql_meaning.specs.Project.{project_table}
-use Rattle.kql_meaning.specs.Sources.{let_table, named_table, print_table, range_columns, range_table, table_of}
+use Rattle.kql_meaning.specs.Sources.{let_table, named_table, print_table, range_columns, range_table}
 use Rattle.kql_meaning.specs.Tables.{nothing}
 use Rattle.kql_fit_laws.specs.LawsOfPrograms.{LetsStand}
 use Rattle.kql_plain.specs.AtHand.{SourceFits}

@@ -1,4 +1,3 @@
 pub mod AtHand
-pub mod Built
 pub mod Inputs
 pub mod Keys

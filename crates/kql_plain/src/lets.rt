@@ -1,9 +1,7 @@
 //! The tables of lets.
-ghost use Rattle.std.specs.Prelude.{◌≡◌, [], IfOk, IsTrue};
-ghost use Rattle.std.specs.List.{list_all};
+ghost use Rattle.std.specs.Prelude.{◌≡◌, [], IfOk};
 ghost use Rattle.kql_meaning.specs.Plans.{lets_mean};
 ghost use Rattle.kql_plain.specs.AtHand.{LetsFit};
-ghost use Rattle.kql_plain.specs.Built.{plan_is_built};
 
 use crate::plans::plan_table;
 use kql_bound::Plan;
@@ -18,7 +16,6 @@ pub(crate) fn let_tables(
     lets: &[Plan],
     catalogue: &Catalogue,
 ) -> Result<Tables, AllocError>
-    requires built { IsTrue (list_all plan_is_built lets.now) }
     requires fits { LetsFit lets.now catalogue.now [] }
     ensures tables { IfOk result (λ ts. ts ≡ lets_mean lets.now catalogue.now) }
 {

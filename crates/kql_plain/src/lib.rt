@@ -1,11 +1,8 @@
 //! A whole program, operator by operator: the table that it means.
 //!
-//! Each source and operator is a call of the crate that has its body. A program with an operator that has none yet is told before
-//! anything is evaluated.
+//! Each source and operator is a call of the crate that has its body.
 #![tactic(auto)]
 
-mod building;
-mod fault;
 mod input;
 mod keys;
 mod lets;
@@ -13,5 +10,4 @@ mod plans;
 mod programs;
 mod sources;
 
-pub use fault::PlainFault;
 pub use programs::plain;

@@ -1,27 +1,29 @@
 //! Plans: a source, and operators one after another, each a call of the crate that has its body.
-ghost use Rattle.std.specs.Prelude.{◌≡◌, false, map, IfOk, IsTrue};
-ghost use Rattle.std.specs.List.{list_all};
+ghost use Rattle.std.specs.Prelude.{◌≡◌, ◌∷◌, [], false, is_some, map, IfOk, IfSome, IsTrue};
 ghost use Rattle.kql_bound.specs.declared.plan.Op.TheVariants as operator;
-ghost use Rattle.kql_cells.specs.Named.{HasDistinctNames, column_name};
+ghost use Rattle.kql_cells.specs.Named.{HasDistinctNames, column_name, place_of};
 ghost use Rattle.kql_meaning.specs.FittingOperators.{items_fit};
 ghost use Rattle.kql_meaning.specs.Items.{items_columns};
+ghost use Rattle.kql_meaning.specs.Partition.{partition_table};
 ghost use Rattle.kql_meaning.specs.Plans.{one_after_another, op_means, plan_means};
 ghost use Rattle.kql_meaning.specs.Project.{project_table};
+ghost use Rattle.kql_meaning.specs.Scan.{scan_table};
 ghost use Rattle.kql_meaning.specs.declared.position.Position.TheVariants as position;
+ghost use Rattle.scan_ops.specs.Steps.{scan_answers};
 ghost use Rattle.kql_plain.specs.AtHand.{OpFits, OpsFit, PlanFits, PlansFit, plans_mean, world_of};
-ghost use Rattle.kql_plain.specs.Built.{op_is_built, plan_is_built};
 ghost use Rattle.kql_plain.specs.Inputs.{input_table};
 
 use crate::input::{Input, lent_tables};
 use crate::keys::{emptied, rows_by_key};
 use crate::sources::source_table;
 use join_op::join_tables;
-use kql_bound::{BItem, Op, Plan};
+use kql_bound::{BItem, Op, Plan, ScanPlan};
 use kql_values::{Catalogue, Table};
 use order_ops::{sort_rows, top_rows};
 use parse_op::parse_rows;
 use row_ops::count_rows;
-use scan_ops::scan_rows;
+use scan_ops::{scan_keyed, scan_owned, scan_rows};
+use series_op::series_rows;
 use std::alloc::{AllocError, Global};
 use summarize_op::summarize_rows;
 use table_ops::{expand_rows, union_tables};
@@ -34,7 +36,6 @@ pub(crate) fn plan_table(
     catalogue: &Catalogue,
     lets: &[Table],
 ) -> Result<Table, AllocError>
-    requires built { IsTrue (plan_is_built plan.now) }
     requires fits { PlanFits plan.now (world_of catalogue.now lets.now) }
     ensures table { IfOk result (λ t. t ≡ plan_means plan.now (world_of catalogue.now lets.now)) }
 {
@@ -52,7 +53,6 @@ fn plan_input<'a>(
     catalogue: &'a Catalogue,
     lets: &'a [Table],
 ) -> Result<Input<'a>, AllocError>
-    requires built { IsTrue (plan_is_built plan.now) }
     requires fits { PlanFits plan.now (world_of catalogue.now lets.now) }
     ensures table { IfOk result (λ t. input_table t ≡ plan_means plan.now (world_of catalogue.now lets.now)) }
 {
@@ -70,7 +70,6 @@ fn plans_inputs<'a>(
     catalogue: &'a Catalogue,
     lets: &'a [Table],
 ) -> Result<Vec<Input<'a>>, AllocError>
-    requires built { IsTrue (list_all plan_is_built plans.now) }
     requires fits { PlansFit plans.now (world_of catalogue.now lets.now) }
     ensures tables { IfOk result (λ ts. map input_table ts.items ≡ plans_mean plans.now (world_of catalogue.now lets.now)) }
 {
@@ -91,7 +90,6 @@ fn ops_input<'a>(
     lets: &[Table],
     from: Input<'a>,
 ) -> Result<Input<'a>, AllocError>
-    requires built { IsTrue (list_all op_is_built ops.now) }
     requires fits { OpsFit ops.now (world_of catalogue.now lets.now) (input_table from) }
     ensures table { IfOk result (λ t. input_table t ≡ one_after_another (map op_means ops.now) (world_of catalogue.now lets.now) (input_table from.entry)) }
 {
@@ -125,7 +123,6 @@ fn op_table(
     lets: &[Table],
     from: Input<'_>,
 ) -> Result<Table, AllocError>
-    requires built { IsTrue (op_is_built op.now) }
     requires fits { OpFits op.now (world_of catalogue.now lets.now) (input_table from) }
     ensures table { IfOk result (λ t. t ≡ op_means op.now (world_of catalogue.now lets.now) (input_table from.entry)) }
 {
@@ -142,7 +139,7 @@ fn op_table(
         Op::Sort(keys) => sort_rows(alloc, from.as_table(), keys.as_slice()),
         Op::Top(n, keys) => top_rows(alloc, from.as_table(), *n, keys.as_slice()),
         Op::Summarize(group) => summarize_rows(alloc, from.as_table(), group),
-        Op::MakeSeries(_) => unreachable!(),
+        Op::MakeSeries(series) => series_rows(alloc, from.as_table(), series),
         Op::MvExpand(expand) => expand_rows(alloc, from.as_table(), expand),
         Op::Parse(parse) => {
             let table = from.into_table(alloc)?;
@@ -157,9 +154,12 @@ fn op_table(
             let tables = lent_tables(alloc, others.as_slice())?;
             union_tables(alloc, *inner, from.as_table(), tables.as_slice())
         }
-        Op::Scan(scan) => scan_rows(alloc, from.as_table(), scan),
+        Op::Scan(scan) => scanned(alloc, scan, from),
         Op::Partition(key, ops) => {
             let table = from.as_table();
+            if let Some(scan) = scan_alone(ops.as_slice()) {
+                return scanned_by_key(alloc, table, key.as_str(), scan);
+            }
             let none = emptied(alloc, table)?;
             let empty = ops_input(alloc, ops.as_slice(), catalogue, lets, Input::Owned(none))?;
             let mut made = empty.into_table(alloc)?;
@@ -186,5 +186,38 @@ fn projected(alloc: Global, items: &[BItem], from: Input<'_>) -> Result<Table, A
     match from {
         Input::Lent(t) => window_rows(alloc, t, items),
         Input::Owned(t) => project_rows(alloc, t, items),
+    }
+}
+
+// `scan`: a table that is lent is copied only where columns are declared, and one that is owned never.
+fn scanned(alloc: Global, scan: &ScanPlan, from: Input<'_>) -> Result<Table, AllocError>
+    requires fits { IsTrue (scan_answers scan.now (input_table from).columns) }
+    ensures table { IfOk result (λ t. t ≡ scan_table scan.now (input_table from.entry)) }
+{
+    match from {
+        Input::Lent(t) => scan_rows(alloc, t, scan),
+        Input::Owned(t) => scan_owned(alloc, t, scan),
+    }
+}
+
+// The scan that operators are, where they are one scan and nothing else.
+fn scan_alone(ops: &[Op]) -> Option<&ScanPlan>
+    ensures alone { IfSome result (λ s. ops.now ≡ operator.Scan s.now ∷ []) }
+{
+    match ops {
+        [Op::Scan(scan)] => Some(scan),
+        _ => None,
+    }
+}
+
+// The partition of a scan: one pass, with a machine for each key.
+fn scanned_by_key(alloc: Global, t: &Table, key: &str, scan: &ScanPlan) -> Result<Table, AllocError>
+    requires column { IsTrue (is_some (place_of column_name key.now t.now.columns)) }
+    requires fits { IsTrue (scan_answers scan.now t.now.columns) }
+    ensures table { IfOk result (λ r. r ≡ partition_table key.now (scan_table scan.now) t.now) }
+{
+    match t.schema().find(key) {
+        Some(place) => scan_keyed(alloc, t, place, scan),
+        None => unreachable!(),
     }
 }

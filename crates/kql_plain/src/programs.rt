@@ -1,40 +1,21 @@
 //! Whole programs.
-ghost use Rattle.std.specs.Prelude.{◌≡◌, ◌↔◌, false, All, IfOk, IsErrOf, IsTrue, OnOk};
+ghost use Rattle.std.specs.Prelude.{◌≡◌, All, IfOk, IsTrue};
 ghost use Rattle.kql_cells.specs.Catalogues.{Named as Seen, schemas_of};
 ghost use Rattle.kql_values.specs.Kept.{all_named};
 ghost use Rattle.kql_fit_laws.specs.LawsOfRows.{IsTable};
 ghost use Rattle.kql_meaning.specs.Fits.{fits};
 ghost use Rattle.kql_meaning.specs.Plans.{means};
-ghost use Rattle.kql_plain.specs.Built.{is_built};
-ghost use Rattle.kql_plain.specs.declared.fault.PlainFault.TheVariants.{NotBuilt};
 
-use crate::building::is_built;
-use crate::fault::PlainFault;
 use crate::lets::let_tables;
 use crate::plans::plan_table;
 use kql_bound::Program;
 use kql_values::{Catalogue, Named, Table};
 use std::alloc::{AllocError, Global};
 
-/// The table of a program that fits the schemas of a catalogue: its lets one after another, and then its plan.
-///
-/// Whether the program is built is told first, and that takes no memory.
-pub fn plain(alloc: Global, p: &Program, catalogue: &Catalogue) -> Result<Table, PlainFault>
-    requires fits { IsTrue (fits p.now (schemas_of catalogue.now)) }
-    ensures table { IfOk result (λ t. t ≡ means p.now catalogue.now) }
-    ensures built { OnOk result (IsTrue (is_built p.now)) }
-    ensures not_built { IsErrOf result NotBuilt ↔ (is_built p.now ≡ false) }
-{
-    if !is_built(p) {
-        return Err(PlainFault::NotBuilt);
-    }
-    let table = program_table(alloc, p, catalogue)?;
-    Ok(table)
-}
-
+/// The table of a program that fits the schemas of a catalogue: its lets one after another, and then its plan. Want of memory alone stands in
+/// its place.
 #[tactic(auto, using(crate::proofs::ProgramSteps::program_steps))]
-fn program_table(alloc: Global, p: &Program, catalogue: &Catalogue) -> Result<Table, AllocError>
-    requires built { IsTrue (is_built p.now) }
+pub fn plain(alloc: Global, p: &Program, catalogue: &Catalogue) -> Result<Table, AllocError>
     requires fits { IsTrue (fits p.now (schemas_of catalogue.now)) }
     ensures table { IfOk result (λ t. t ≡ means p.now catalogue.now) }
 {

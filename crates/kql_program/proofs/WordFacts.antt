@@ -11,11 +11,10 @@ use Rattle.kql_lexer.specs.Lexing as lexing
 use Rattle.kql_lexer.specs.Lexing.{lexed}
 use Rattle.kql_lexer.specs.declared.token.Token.{Token}
 use Rattle.kql_meaning.specs.Plans.{means}
-use Rattle.kql_plain.specs.Built.{is_built}
 use Rattle.kql_syntax.specs.declared.parse.SyntaxFault.{SyntaxFault}
 use Rattle.kql_syntax.specs.declared.parse.SyntaxFault.TheVariants as syntax
 use Rattle.kql_syntax.specs.declared.query.Query.{Query}
-use Rattle.kql_program.specs.Queries.{bound_as, program_of, rows_over, start_place, unless_unbuilt}
+use Rattle.kql_program.specs.Queries.{bound_as, program_of, rows_over, start_place}
 use Rattle.kql_program.specs.Files.{lexed_as, query_tokens}
 use Rattle.kql_program.specs.Outcomes.{RefusesNoWord}
 use Rattle.kql_program.specs.Refusals.{Gives}
@@ -92,16 +91,12 @@ bound-words (Ok program) word code e = cc e
 bound-words (Err (bind.Refused c place)) word code e = cc e
 bound-words (Err bind.OutOfMemory) word code e = cc e
 
-built-words : (program : Program) (tables : List Named) → NoWord (unless_unbuilt program tables)
-unfolding NoWord unless_unbuilt
-built-words program tables = by-test (is_built program)
-  where
-    by-test : (b : Bool) (word code : ℕ) → (if b then Ok (means program tables) else Err (refusal.Query 204 start_place)) ≡ Err (refusal.Usage word code) → ⊥
-    by-test true word code e = cc e
-    by-test false word code e = cc e
+rows-words : {X : Type 0} (x : X) → NoWord (Ok x)
+unfolding NoWord
+rows-words x word code e = cc e
 
 -- nor binding, nor the rows
 pub row-words : (query : Query) (moment : Option ℤ) (tables : List Named) (r : Result Grid Stop) → Gives (rows_over query moment tables) r → RefusesNoWord r
 unfolding rows_over program_of
 row-words query moment tables r g =
-    gives-words (rows_over query moment tables) r (then-words (program_of query moment tables) _ (bound-words (bound query (schemas_of tables) moment)) (λ program. built-words program tables)) g
+    gives-words (rows_over query moment tables) r (then-words (program_of query moment tables) _ (bound-words (bound query (schemas_of tables) moment)) (λ program. rows-words (means program tables))) g

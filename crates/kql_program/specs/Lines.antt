@@ -15,7 +15,6 @@ text_name code =
     else if code == 201 then codes "Unexpected"
     else if code == 202 then codes "TooDeep"
     else if code == 203 then codes "TooManyOperators"
-    else if code == 204 then codes "NotBuilt"
     else []
 
 -- the names of the codes of binding, 401 to 410

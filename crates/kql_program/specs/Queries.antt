@@ -1,6 +1,6 @@
 -- What a query's command asks for: the text of a table, or the first refusal. In this order: the query file's fault, its tokens', its
 -- syntax's, the table files', binding's, and else the text of the table that the program means.
-use Rattle.std.specs.Prelude.{◌≡◌, ℕ, ℤ, List, Option, Ok, Err, IfOk, if◌then◌else◌}
+use Rattle.std.specs.Prelude.{◌≡◌, ℕ, ℤ, List, Option, Ok, Err, IfOk}
 use Rattle.bind_expr.specs.Outcome.{Outcome}
 use Rattle.bind_expr.specs.declared.fault.BindFault.TheVariants as bind
 use Rattle.bind_query.specs.Bound.{bound}
@@ -11,7 +11,6 @@ use Rattle.kql_cells.specs.Catalogues.{Named, schemas_of}
 use Rattle.kql_lexer.specs.declared.place.Place.{Place}
 use Rattle.kql_lexer.specs.declared.token.Token.{Token}
 use Rattle.kql_meaning.specs.Plans.{means}
-use Rattle.kql_plain.specs.Built.{is_built}
 use Rattle.kql_syntax.specs.declared.query.Query.{Query}
 use Rattle.kql_words.specs.Command.{query_path, table_words}
 use Rattle.kql_words.specs.declared.command.Asked.{Asked}
@@ -34,17 +33,12 @@ bound_as (Err bind.OutOfMemory) = Err (Refused 0 start_place)
 unfoldable pub program_of : Query → Option ℤ → List Named → Answer Program
 program_of query moment tables = bound_as (bound query (schemas_of tables) moment)
 
--- The rows of a program over tables, or 204 at the query's start where one of its operators is not built. What is bound fits the schemas of
--- these tables, so that it has rows.
-unfoldable pub unless_unbuilt : Program → List Named → Answer Grid
-unless_unbuilt program tables =
-    if is_built program then Ok (means program tables) else Err (Refused 204 start_place)
-
--- the rows of a query over tables, at a moment
+-- The rows of a query over tables, at a moment: those that its program means. What is bound fits the schemas of these tables, so that it has
+-- rows.
 unfoldable pub rows_over : Query → Option ℤ → List Named → Answer Grid
 rows_over query moment tables = do
   program ← program_of query moment tables
-  unless_unbuilt program tables
+  Ok (means program tables)
 
 -- the rows of a query, at a moment, over tables that may be refused
 unfoldable pub rows_with : Answer (List Named) → Option ℤ → Query → Answer Grid

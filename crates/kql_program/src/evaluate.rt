@@ -6,9 +6,8 @@ ghost use Rattle.kql_cells.specs.declared.schemas.NamedSchema.{NamedSchema};
 ghost use Rattle.kql_meaning.specs.Fits.{fits};
 ghost use Rattle.kql_parser_laws.specs.Patterns.{has_patterns};
 ghost use Rattle.bind_query_laws.specs.Sound.{AreColumns};
-ghost use Rattle.kql_program.specs.Queries.{program_of, rows_over, start_place, unless_unbuilt};
+ghost use Rattle.kql_program.specs.Queries.{program_of, rows_over};
 ghost use Rattle.kql_program.specs.Refusals.{Gives};
-ghost use Rattle.kql_words.specs.declared.refusal.Refusal.TheVariants as refusal;
 
 use crate::refusal::Stop;
 use bind_query::bind;
@@ -16,11 +15,9 @@ use bind_query_laws::law_of_binding_queries;
 use kql_bound::Program;
 use kql_cells::NamedSchema;
 use kql_items::Boxed;
-use kql_lexer::Place;
-use kql_plain::{PlainFault, plain};
+use kql_plain::plain;
 use kql_syntax::Query;
 use kql_values::{Catalogue, Table};
-use kql_words::Refusal;
 use std::alloc::Global;
 
 /// The rows of a query over the tables of a catalogue, at a moment.
@@ -36,7 +33,8 @@ pub(crate) fn rows_over(
     ensures rows { Gives (rows_over query.now moment catalogue.now) result }
 {
     let program = program_of(alloc, query, moment, catalogue)?;
-    unless_unbuilt(alloc, program.get(), catalogue)
+    let rows = plain(alloc, program.get(), catalogue)?;
+    Ok(rows)
 }
 
 // No two columns of a schema have one name, as each schema tells of its own.
@@ -66,30 +64,4 @@ fn program_of(
     law_of_binding_queries();
     let program = bind(alloc, query, schemas, moment)?;
     Ok(program)
-}
-
-// The rows of a program that fits the tables, or 204 where it is not built.
-#[tactic(auto, unfolding(crate::specs::Queries::unless_unbuilt))]
-fn unless_unbuilt(alloc: Global, program: &Program, catalogue: &Catalogue) -> Result<Table, Stop>
-    requires fits { IsTrue (fits program.now (schemas_of catalogue.now)) }
-    ensures rows { Gives (unless_unbuilt program.now catalogue.now) result }
-{
-    match plain(alloc, program, catalogue) {
-        Ok(rows) => Ok(rows),
-        Err(PlainFault::NotBuilt) => Err(Stop::Refused(not_built())),
-        Err(PlainFault::OutOfMemory) => Err(Stop::OutOfMemory),
-    }
-}
-
-fn not_built() -> Refusal
-    ensures { result ≡ refusal.Query 204 start_place }
-{
-    Refusal::Query {
-        code: 204,
-        place: Place {
-            line: 1,
-            column: 1,
-            byte: 0,
-        },
-    }
 }

@@ -72,7 +72,6 @@ fn text_name(code: u32) -> &'static str
         201 => "Unexpected",
         202 => "TooDeep",
         203 => "TooManyOperators",
-        204 => "NotBuilt",
         _ => "",
     }
 }

@@ -126,8 +126,6 @@ the items, and last the axis as an array of the bins, of which there are at most
 100,000.
 
     V | make-series s = sum(x) on t from 0 to 10 step 5 by g
-
-This version reads and checks it, and then refuses it (kql help 204).
 ";
 
 const MV_EXPAND: &str = "\

@@ -28,7 +28,7 @@ Refusals, told in one line on standard error; kql help CODE has each
 
     101 BadCharacter         102 OpenText             103 BadNumber
     104 TextTooLong          105 TooManyTokens        201 Unexpected
-    202 TooDeep              203 TooManyOperators     204 NotBuilt
+    202 TooDeep              203 TooManyOperators
     301 NotUtf8              302 NoHeader             303 BadColumn
     304 ColumnTwice          305 BadLength            306 BadCell
     307 NoFile               308 TooLong              401 UnknownColumn

@@ -78,15 +78,6 @@ count too.
 Make the query shorter.
 ";
 
-const NOT_BUILT: &str = "\
-204 NotBuilt
-
-The query has no other fault, but a part of the language that is not built yet; the
-place is 1:1.
-
-Write the query without it.
-";
-
 /// The text of a code of these.
 pub(crate) fn code(number: u32) -> Option<&'static str> {
     match number {
@@ -98,7 +89,6 @@ pub(crate) fn code(number: u32) -> Option<&'static str> {
         201 => Some(UNEXPECTED),
         202 => Some(TOO_DEEP),
         203 => Some(TOO_MANY_OPERATORS),
-        204 => Some(NOT_BUILT),
         _ => None,
     }
 }

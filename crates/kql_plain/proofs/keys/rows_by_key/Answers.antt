@@ -1,7 +1,6 @@
 use Rattle.std.proofs.Common.{◌≡◌, ◌∷◌, [], ap₂, refl, subst}
 use Rattle.std.specs.Prelude.{IfOk}
 use Rattle.kql_keys.specs.Places.{places_by}
-use Rattle.kql_plain.specs.Keys.{rows_by_key}
 use Rattle.kql_plain.proofs.KeySteps.{numbered}
 use Rattle.kql_plain.proofs.keys.rows_by_key.Goals as goal
 

@@ -1,15 +1,12 @@
-use Rattle.std.proofs.Common.{◌≡◌, true, length}
-use Rattle.std.specs.List.{list_all}
+use Rattle.std.proofs.Common.{◌≡◌, length}
 use Rattle.kql_meaning.specs.Plans.{lets_mean}
 use Rattle.kql_plain.specs.AtHand.{LetsFit}
-use Rattle.kql_plain.specs.Built.{plan_is_built}
 use Rattle.kql_plain.proofs.LetSteps.{with_lets}
 use Rattle.kql_plain.proofs.lets.let_tables.Given as goal
 
--- the lets that are left are built, fit, and stand behind the tables so far
+-- the lets that are left fit, and stand behind the tables so far
 abbrev pub invariant-lets : goal.invariant-lets
 invariant-lets l = record {
-  built : list_all plan_is_built l.left ≡ true;
   fit : LetsFit l.left l.catalogue l.made;
   rest : with_lets l.left l.catalogue l.made ≡ lets_mean l.fn.lets l.fn.catalogue;
 }
