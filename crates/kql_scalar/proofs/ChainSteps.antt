@@ -1,6 +1,6 @@
 -- Chains of longs give what chains of these values do.
-use Rattle.std.proofs.Common.{◌≡◌, ◌<◌, ◌≤◌, ◌+◌, ◌-◌, ℕ, zero, suc, ℤ, List, [], ◌∷◌, ◌++◌, length, map, take, get_or, refl, ap, ap₂, subst, sym, ◌∙◌, arith}
-use Rattle.std.specs.Prelude.{IfSome, Option, Some, None, fold}
+use Rattle.std.proofs.Common.{◌≡◌, ◌<◌, ◌≤◌, ◌+◌, ◌-◌, ℕ, zero, suc, ℤ, List, [], ◌∷◌, ◌++◌, length, map, take, get_or, refl, ap, subst, sym, ◌∙◌, arith}
+use Rattle.std.specs.Prelude.{IfSome, Option, Some, None}
 use Rattle.std.specs.List.{range_with_len}
 use Rattle.std.proofs.lemmas.List.{take_all, take_more}
 use Rattle.std.proofs.lemmas.List.Sums.{fold_more}
@@ -8,7 +8,6 @@ use Rattle.std.proofs.lemmas.List.FromFn.{get_or-range_with_len, length-range_wi
 use Rattle.kql_cells.specs.Seen.{value_at}
 use Rattle.kql_cells.specs.Table.{Grid, IsGrid}
 use Rattle.kql_cells.specs.declared.value.Value.{Value}
-use Rattle.kql_cells.specs.declared.value.Value.TheVariants as value
 use Rattle.kql_values.specs.Grids.{column_at}
 use Rattle.kql_values.specs.Numbers.{values_of_numbers}
 use Rattle.kql_values.specs.Stores.{number_value}
@@ -23,7 +22,6 @@ use Rattle.kql_bound.specs.declared.expr.ChainSign.{ChainSign}
 use Rattle.kql_bound.specs.declared.expr.ChainSign.TheVariants as sign
 use Rattle.kql_bound.specs.declared.literal.Lit.{Lit}
 use Rattle.kql_meaning.specs.Expressions.{val}
-use Rattle.kql_meaning.specs.Tables.{cell_in}
 use Rattle.kql_scalar.specs.Chains.{AllReach, AreLinksOf, IsColumnTerm, IsTermOf, Reaches, constant_value, link_number, long_along, long_step, term_at}
 use Rattle.kql_scalar.specs.Evaluated.{along, link_step}
 use Rattle.kql_scalar.specs.Means.{IsPlaced, means}

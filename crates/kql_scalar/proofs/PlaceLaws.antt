@@ -1,7 +1,6 @@
 -- What operators make of places and columns: the rows of a whole table, and the rows that `where` keeps.
-use Rattle.std.proofs.Common.{◌≡◌, ◌-◌, length, filter, map, [], sym, ap, refl, arith, ℕ, List}
+use Rattle.std.proofs.Common.{◌≡◌, ◌-◌, length, filter, map, [], ap, refl, arith}
 use Rattle.kql_cells.specs.Table.{Grid, gathered}
-use Rattle.kql_cells.specs.declared.value.Value.{Value}
 use Rattle.kql_bound.specs.declared.expr.BExpr.{BExpr}
 use Rattle.kql_meaning.specs.Expressions.{val}
 use Rattle.kql_meaning.specs.Tables.{places, places_below}

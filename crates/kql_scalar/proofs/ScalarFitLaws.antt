@@ -26,7 +26,7 @@ use Rattle.kql_meaning.specs.FittingExpressions.{Scope, aggregate_fits, aggregat
 use Rattle.kql_meaning.specs.Literals.{is_of_kind, is_well_formed, literal_fits}
 use Rattle.kql_meaning.specs.Results.{has_one_result}
 use Rattle.kql_meaning.proofs.ExpressionFitLaws.{aggregate-checked, exprs-checked, fits-Aggregate, fits-Call, fits-Chain, fits-Literal, fits-Path, fits-Step, fits-Window}
-use Rattle.kql_scalar.specs.Scalar.{IsScalar, ScalarWhereFits, is_of_rows, is_scalar}
+use Rattle.kql_scalar.specs.Scalar.{ScalarWhereFits, is_of_rows, is_scalar}
 use Rattle.kql_scalar.proofs.ScalarSteps.{is_scalar-Call, is_scalar-Chain, is_scalar-Column, is_scalar-Literal, is_scalar-Path, is_scalar-Step, is_scalar-Window, joined}
 
 abbrev IsScalarWhereFits : BExpr → Type 0

@@ -1,8 +1,6 @@
 -- Comparisons over the store of a column.
-use Rattle.std.proofs.Common.{◌≡◌, ◌<◌, ◌≤◌, ◌+◌, ℕ, zero, suc, ℤ, pos, Bool, true, false, cond, List, [], ◌∷◌, ◌++◌, length, map, take, get_or, filter, refl, ap, ap₂, subst, sym, ◌∙◌, arith}
-use Rattle.std.specs.Prelude.{IsTrue, Option, Some, None, not, option_map, slice_index_or, if◌then◌else◌}
-use Rattle.std.specs.Ordering.{int_cmp, int_eq, is_ge, is_gt, is_le, is_lt}
-use Rattle.std.specs.Str.{bytes_eq}
+use Rattle.std.proofs.Common.{◌≡◌, ◌<◌, ◌+◌, ℕ, zero, suc, ℤ, pos, Bool, false, cond, List, [], ◌∷◌, ◌++◌, length, map, take, get_or, filter, refl, ap, sym, ◌∙◌, arith}
+use Rattle.std.specs.Prelude.{IsTrue, Option, Some, None, slice_index_or, if◌then◌else◌}
 use Rattle.kql_texts.specs.Texts.{same}
 use Rattle.kql_cells.specs.Seen.{value_at}
 use Rattle.kql_cells.specs.Table.{Grid, IsGrid}
@@ -20,7 +18,7 @@ use Rattle.kql_functions.specs.declared.func.ComparisonFunc.TheVariants as compa
 use Rattle.kql_scalar_fns.specs.Applied.{applied}
 use Rattle.kql_scalar_fns.specs.Arguments.{argument}
 use Rattle.kql_scalar_fns.specs.Comparison.{comparison, equality, order}
-use Rattle.kql_scalar_fns.specs.Logic.{is_true, truth}
+use Rattle.kql_scalar_fns.specs.Logic.{truth}
 use Rattle.kql_meaning.specs.Tables.{cell_in}
 use Rattle.kql_meaning.specs.Values.{holds}
 use Rattle.kql_scalar.specs.Rows.{AreBelow, cell_compares, compares}

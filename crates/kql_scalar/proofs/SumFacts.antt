@@ -1,6 +1,6 @@
 -- Sums of numbers of 64 bits stay within their bounds.
-use Rattle.std.proofs.Common.{◌≡◌, ◌<◌, ◌+◌, ◌^◌, ℕ, ℤ, arith, refl}
-use Rattle.std.specs.Prelude.{Option, None, Some, pos, neg_ℤ, ◌+ℤ◌, ◌≤ℤ◌}
+use Rattle.std.proofs.Common.{◌≡◌, ◌+◌, ℕ, ℤ, arith, refl}
+use Rattle.std.specs.Prelude.{None, Some, pos, neg_ℤ, ◌+ℤ◌, ◌≤ℤ◌}
 use Rattle.kql_meaning.specs.Numbers.{added}
 use Rattle.kql_scalar.specs.Sums.{IsSumOf}
 

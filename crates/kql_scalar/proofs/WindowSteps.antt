@@ -1,11 +1,10 @@
 -- What window functions give, from the values of their arguments.
-use Rattle.std.proofs.Common.{◌≡◌, ◌<◌, ◌≤◌, ◌+◌, ◌-◌, ℕ, zero, suc, Bool, true, false, ℤ, pos, negsuc, List, [], ◌∷◌, ◌++◌, length, map, get_or, refl, ap, ap₂, subst, sym, ◌∙◌, arith}
+use Rattle.std.proofs.Common.{◌≡◌, ◌<◌, ◌≤◌, ◌+◌, ◌-◌, ℕ, zero, suc, Bool, true, false, ℤ, pos, negsuc, List, [], ◌∷◌, ◌++◌, length, map, get_or, refl, ap, sym, ◌∙◌, arith}
 use Rattle.std.specs.Prelude.{Option, Some, None, nat_le, nat_lt, if◌then◌else◌, slice_get, ◌+ℤ◌, fold, ◌<ℤ◌}
 use Rattle.std.specs.List.{range_with_len}
 use Rattle.std.proofs.lemmas.List.FromFn.{map-range_with_len_more}
 use Rattle.std.proofs.lemmas.List.Sums.{fold-append}
 use Rattle.kql_cells.specs.Table.{Grid}
-use Rattle.kql_cells.specs.declared.schema.Column.{Column}
 use Rattle.kql_cells.specs.declared.value.Kind.{Kind}
 use Rattle.kql_cells.specs.declared.value.Value.{Value}
 use Rattle.kql_cells.specs.declared.value.Value.TheVariants as value
@@ -14,11 +13,11 @@ use Rattle.kql_functions.specs.declared.func.Func.TheVariants as func
 use Rattle.kql_functions.specs.declared.window.Window.TheVariants as window
 use Rattle.kql_scalar_fns.specs.Applied.{applied}
 use Rattle.kql_scalar_fns.specs.Arguments.{argument}
-use Rattle.kql_scalar_fns.specs.Arithmetic.{arithmetic, sum}
+use Rattle.kql_scalar_fns.specs.Arithmetic.{arithmetic}
 use Rattle.kql_scalar_fns.specs.Logic.{is_true, truth}
 use Rattle.kql_meaning.specs.Expressions.{first_kind, kind_of, reading, val}
 use Rattle.kql_meaning.specs.Numbers.{added, fitted, sum_of}
-use Rattle.kql_meaning.specs.Readings.{Reading, Records, no_reading, reading_at, values_over}
+use Rattle.kql_meaning.specs.Readings.{Reading, Records, reading_at, values_over}
 use Rattle.kql_meaning.specs.Values.{absent_as, holds, number_of}
 use Rattle.kql_meaning.specs.Windows.{count_in, first_number, last_where, rows_away, run_start, running_sum, value_after, value_before, where_none, windowed}
 use Rattle.kql_ticks.specs.Ranges.{fit}

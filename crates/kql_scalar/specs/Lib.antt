@@ -1,7 +1,11 @@
 pub mod Chains
+pub mod Choices
 pub mod Evaluated
+pub mod Joins
 pub mod Means
+pub mod Opposites
 pub mod Placed
+pub mod Places
 pub mod Rows
 pub mod Scalar
 pub mod Shown

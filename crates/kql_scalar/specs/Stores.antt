@@ -1,5 +1,5 @@
 -- Comparisons of what a column stores with a constant.
-use Rattle.std.specs.Prelude.{ℕ, ℤ, pos, Bool, true, false, not, List, [], Option, None, Some, slice_index_or}
+use Rattle.std.specs.Prelude.{ℕ, ℤ, pos, Bool, true, false, not, List, Option, None, Some, slice_index_or}
 use Rattle.std.specs.Ordering.{int_cmp, int_eq, is_ge, is_gt, is_le, is_lt}
 use Rattle.std.specs.Str.{bytes_eq}
 use Rattle.kql_cells.specs.Seen.{value_at}

@@ -5,6 +5,7 @@ ghost use Rattle.kql_cells.specs.Values.{IsWellFormed};
 ghost use Rattle.kql_cells.specs.declared.value.Value.TheVariants as value;
 ghost use Rattle.kql_scalar_fns.specs.Applied.{applied};
 ghost use Rattle.kql_scalar_fns.specs.Arguments.{AreWellFormed};
+ghost use Rattle.kql_scalar_fns.specs.Choice.{is_empty};
 ghost use Rattle.kql_scalar_fns.specs.Logic.{truth};
 ghost use Rattle.kql_meaning.specs.Values.{number_of};
 ghost use Rattle.kql_meaning.specs.Windows.{count_in};
@@ -142,4 +143,22 @@ fn whole(n: i64) -> usize
     ensures { result ≡ count_in (value.Long n) }
 {
     if n < 0 { 0 } else { n as usize }
+}
+
+/// Whether a value is null or the empty text.
+pub(crate) fn is_empty(value: &Lent<'_>) -> bool
+    ensures { result ≡ is_empty (shown value.now) }
+{
+    is_empty_cell(value.as_cell())
+}
+
+#[tactic(auto, unfolding(kql_scalar_fns::specs::Choice::is_empty))]
+fn is_empty_cell(cell: CellRef<'_>) -> bool
+    ensures { result ≡ is_empty (seen cell.entry) }
+{
+    match cell {
+        CellRef::Null => true,
+        CellRef::Text(t) => t.is_empty(),
+        _ => false,
+    }
 }

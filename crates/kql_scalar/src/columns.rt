@@ -1,5 +1,5 @@
 //! What operators call.
-ghost use Rattle.std.specs.Prelude.{◌≡◌, ◌<◌, ◌≤◌, ◌-◌, [], All, IfOk, filter, length, map};
+ghost use Rattle.std.specs.Prelude.{◌≡◌, ◌<◌, ◌≤◌, ◌-◌, [], All, IfOk, IfSome, filter, length, map};
 ghost use Rattle.kql_cells.specs.Values.{IsWellFormed};
 ghost use Rattle.kql_meaning.specs.Expressions.{val};
 ghost use Rattle.kql_scalar.specs.Evaluated.{AreSound};
@@ -12,7 +12,7 @@ use crate::locate::locate;
 use crate::node::Located;
 use crate::rows::{passes_with, places_in};
 use crate::values::value_of;
-use crate::values_at::values_at;
+use crate::values_at::{lent_values, values_at};
 use kql_bound::BExpr;
 use kql_meaning::kind_of;
 use kql_values::{Kind, Row, Schema, Table, Value, Vector};
@@ -83,6 +83,15 @@ impl Located {
         ensures count { IfOk result (λ v. length v ≡ to - from) }
     {
         values_at(alloc, &self.node, self.kind, t, from, to)
+    }
+
+    /// The vector of the table itself that has the values at all rows, where the expression is a column.
+    pub fn lent_column<'a>(&self, t: &'a Table) -> Option<&'a Vector>
+        requires columns { t.now.columns ≡ self.now.columns }
+        ensures values { IfSome result (λ v. v.now ≡ map (λ i. val self.now.expr t.now i []) (rows 0 (length t.now.lines))) }
+        ensures count { IfSome result (λ v. length v.now ≡ length t.now.lines) }
+    {
+        lent_values(&self.node, t)
     }
 
     /// The places of these rows at which the value is true, rising.

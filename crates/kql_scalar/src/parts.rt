@@ -1,5 +1,5 @@
 //! The parts of a node that is placed. Each call hands the fact on to the call on the part, which stands in a cycle of calls.
-ghost use Rattle.std.specs.Prelude.{◌≡◌};
+ghost use Rattle.std.specs.Prelude.{◌≡◌, ◌<◌, get_or, length};
 ghost use Rattle.kql_scalar.specs.Means.{AreLinksPlaced, ArePlaced, IsOfFirst, IsPlaced};
 
 use crate::node::{Node, NodeLink, NodeLinks, Nodes};
@@ -20,6 +20,17 @@ pub(crate) fn parts<'a>(nodes: &'a Nodes, _t: &Table) -> &'a [Node]
     ensures placed { ArePlaced _t.now.columns result.now }
 {
     nodes.as_slice()
+}
+
+/// The part at a place.
+#[tactic(auto, using(crate::proofs::MeansSteps::item_steps))]
+pub(crate) fn part_at<'a>(nodes: &'a [Node], k: usize, _t: &Table) -> &'a Node
+    requires within { k < length nodes.now }
+    requires placed { ArePlaced _t.now.columns nodes.now }
+    ensures item { result.now ≡ get_or nodes.now k result.now }
+    ensures placed { IsPlaced _t.now.columns result.now }
+{
+    &nodes[k]
 }
 
 pub(crate) fn link_parts<'a>(links: &'a NodeLinks, _t: &Table) -> &'a [NodeLink]

@@ -3,16 +3,20 @@ ghost use Rattle.std.specs.Prelude.{◌≡◌, ◌<◌, ◌≤◌, ◌++◌, ◌
 ghost use Rattle.kql_cells.specs.Seen.{seen};
 ghost use Rattle.kql_cells.specs.Values.{IsWellFormed};
 ghost use Rattle.kql_functions.specs.declared.func.Func.TheVariants as func;
+ghost use Rattle.kql_functions.specs.declared.func.LogicFunc.TheVariants as logic_func;
 ghost use Rattle.kql_meaning.specs.Readings.{Records};
 ghost use Rattle.kql_scalar.specs.Evaluated.{AreSound};
+ghost use Rattle.kql_scalar.specs.Joins.{fails};
 ghost use Rattle.kql_scalar.specs.Means.{ArePlaced, IsPlaced, means};
 ghost use Rattle.kql_scalar.specs.Rows.{AreBelow, IsColumnTest, call_passes, cell_compares, compares, passes, passes_with, passing_all, rows};
 
 use crate::calls::truth_of_value;
 use crate::cells::cell_in;
 use crate::node::Node;
+use crate::opposites::opposite_test;
 use crate::pairs::apply_pair;
 use crate::parts::parts;
+use crate::places::without;
 use crate::stores::kept_by_store;
 use crate::truths::is_true;
 use crate::values::{truth_of, truth_of_call};
@@ -125,8 +129,8 @@ fn kept(alloc: Global, node: &Node, t: &Table, places: Vec<usize>) -> Result<Vec
     }
 }
 
-// Those at which a call is true: a conjunction narrows part by part, and a comparison of a column with a constant reads the column
-// alone.
+// Those at which a call is true: a conjunction narrows part by part, a disjunction tries each part at what the parts before it
+// left, and a comparison of a column with a constant, or its opposite, reads the column alone.
 #[cycle(kept)]
 #[tactic(auto, using(crate::proofs::RowSteps::call_steps))]
 fn kept_by_call(
@@ -142,6 +146,8 @@ fn kept_by_call(
 {
     match f {
         Func::Logic(LogicFunc::And) => kept_by_all(alloc, args, t, places),
+        Func::Logic(LogicFunc::Or) => kept_by_any(alloc, args, t, places.as_slice()),
+        Func::Logic(LogicFunc::Not) => kept_by_opposite(alloc, args, t, places.as_slice()),
         Func::Comparison(f) => kept_by_comparison(alloc, f, args, t, places.as_slice()),
         _ => kept_by_call_rows(alloc, f, args, t, places.as_slice()),
     }
@@ -166,6 +172,65 @@ fn kept_by_all(
         left = narrowed;
     }
     Ok(left)
+}
+
+// Those at which one of the parts is true: each part is tried at what the parts before it left.
+#[cycle(kept)]
+#[tactic(auto, using(crate::proofs::JoinSteps::join_steps, crate::proofs::MeansSteps::item_steps))]
+fn kept_by_any(
+    alloc: Global,
+    args: &[Node],
+    t: &Table,
+    places: &[usize],
+) -> Result<Vec<usize>, AllocError>
+    requires placed { ArePlaced t.now.columns args.now }
+    requires within { AreBelow (length t.now.lines) places.now }
+    ensures places { IfOk result (λ ps. ps.items ≡ filter (call_passes (func.Logic logic_func.Or) args.now t.now) places.now) }
+{
+    let mut left = Vec::from_slice(alloc, places)?;
+    'parts: for arg in args {
+        let untaken = left_by(alloc, arg, t, left)?;
+        left = untaken;
+    }
+    let found = without(alloc, places, left.as_slice())?;
+    Ok(found)
+}
+
+// Those of these places at which a part is not true.
+#[cycle(kept)]
+#[tactic(auto, using(crate::proofs::JoinSteps::left_steps))]
+fn left_by(
+    alloc: Global,
+    node: &Node,
+    t: &Table,
+    places: Vec<usize>,
+) -> Result<Vec<usize>, AllocError>
+    requires placed { IsPlaced t.now.columns node.now }
+    requires within { AreBelow (length t.now.lines) places.items }
+    ensures places { IfOk result (λ ps. ps.items ≡ filter (fails (means node.now) t.now) places.items) }
+{
+    let tried = Vec::from_slice(alloc, places.as_slice())?;
+    let taken = kept(alloc, node, t, tried)?;
+    let left = without(alloc, places.as_slice(), taken.as_slice())?;
+    Ok(left)
+}
+
+// Those at which the opposite of a part is true: over the column where it is one of a comparison of a column with a constant.
+#[tactic(auto, using(crate::proofs::OppositeSteps::not_steps))]
+fn kept_by_opposite(
+    alloc: Global,
+    args: &[Node],
+    t: &Table,
+    places: &[usize],
+) -> Result<Vec<usize>, AllocError>
+    requires placed { ArePlaced t.now.columns args.now }
+    requires within { AreBelow (length t.now.lines) places.now }
+    ensures places { IfOk result (λ ps. ps.items ≡ filter (call_passes (func.Logic logic_func.Not) args.now t.now) places.now) }
+{
+    match opposite_test(args, t) {
+        Some((f, parts)) => kept_by_comparison(alloc, f, parts, t, places),
+        None => kept_by_call_rows(alloc, Func::Logic(LogicFunc::Not), args, t, places),
+    }
 }
 
 // Those at which a part is true, evaluated row by row.

@@ -5,7 +5,7 @@ ghost use Rattle.kql_cells.specs.Seen.{seen};
 ghost use Rattle.kql_cells.specs.Values.{IsWellFormed};
 ghost use Rattle.kql_scalar_fns.specs.Applied.{applied};
 ghost use Rattle.kql_scalar_fns.specs.Arguments.{AreWellFormed};
-ghost use Rattle.kql_scalar_fns.specs.Choice.{choice};
+ghost use Rattle.kql_scalar_fns.specs.Choice.{choice, first_case, first_given};
 ghost use Rattle.kql_scalar_fns.specs.Logic.{conjunction, disjunction, logic, truth};
 ghost use Rattle.kql_functions.specs.declared.func.Func.TheVariants as func;
 ghost use Rattle.kql_functions.specs.declared.func.ChoiceFunc.TheVariants as choice_func;
@@ -13,12 +13,13 @@ ghost use Rattle.kql_meaning.specs.Expressions.{look, val};
 ghost use Rattle.kql_meaning.specs.Readings.{Records};
 ghost use Rattle.kql_meaning.specs.Windows.{last_where, run_start};
 ghost use Rattle.kql_functions.specs.declared.window.Window.TheVariants as window_func;
+ghost use Rattle.kql_scalar.specs.Choices.{given_at};
 ghost use Rattle.kql_scalar.specs.Evaluated.{AreSound, along, distance, down, is_restart, looked_at, readings_of, sum_over, values_of, window_of};
 ghost use Rattle.kql_scalar.specs.Means.{AreLinksPlaced, ArePlaced, IsOfFirst, IsPlaced, means};
 ghost use Rattle.kql_scalar.specs.Shown.{shown};
 
 use crate::calls::{
-    apply_all, apply_one, apply_two, count_in, number_in, truth_in, truth_of_value,
+    apply_all, apply_one, apply_two, count_in, is_empty, number_in, truth_in, truth_of_value,
 };
 use crate::cells::{
     absent_as, cell_in, row_after, row_back, row_before, row_end, row_up_to, rows_between,
@@ -27,7 +28,7 @@ use crate::cells::{
 use crate::lent::Lent;
 use crate::node::{Node, NodeLink};
 use crate::pairs::apply_pair;
-use crate::parts::{link_parts, part, parts, window_parts};
+use crate::parts::{link_parts, part, part_at, parts, window_parts};
 use crate::sums::{fitted, with_number};
 use crate::truths::{bool_cell, both, either, is_decided, is_true, opposite};
 use kql_functions::{ArithmeticFunc, ChoiceFunc, DynamicFunc, Func, LogicFunc, Window};
@@ -87,7 +88,7 @@ fn leaf<'a>(node: &'a Node, t: &'a Table, i: usize) -> Option<CellRef<'a>>
 
 /// The value of a call. The operators on bools stop early, and a choice evaluates what it chooses alone.
 #[cycle(value)]
-#[tactic(auto, using(crate::proofs::NodeSteps::logic_steps, crate::proofs::FormFacts::value_forms), unfolding(kql_scalar_fns::specs::Applied::applied))]
+#[tactic(auto, using(crate::proofs::NodeSteps::logic_steps, crate::proofs::ChoiceSteps::choice_calls, crate::proofs::FormFacts::value_forms), unfolding(kql_scalar_fns::specs::Applied::applied))]
 fn call<'a>(
     alloc: Global,
     f: Func,
@@ -105,6 +106,8 @@ fn call<'a>(
     match f {
         Func::Logic(f) => Ok(Lent::Cell(bool_cell(logic(alloc, f, args, t, i, s)?))),
         Func::Choice(ChoiceFunc::Iff) => chosen(alloc, args, t, i, s),
+        Func::Choice(ChoiceFunc::Case) => case_value(alloc, args, t, i, s),
+        Func::Choice(ChoiceFunc::Coalesce) => first_given(alloc, args, t, i, s),
         _ => {
             let value = computed(alloc, f, args, t, i, s)?;
             Lent::of(alloc, value)
@@ -434,6 +437,91 @@ fn chosen<'a>(
             Lent::of(alloc, value)
         }
     }
+}
+
+/// The value behind the first condition that is true, and else the last value. What stands behind it is not evaluated.
+#[cycle(value)]
+#[tactic(auto, using(crate::proofs::ChoiceSteps::case_steps, crate::proofs::FormFacts::value_forms))]
+fn case_value<'a>(
+    alloc: Global,
+    args: &'a [Node],
+    t: &'a Table,
+    i: usize,
+    s: &'a [Option<Row>],
+) -> Result<Lent<'a>, AllocError>
+    requires placed { ArePlaced t.now.columns args.now }
+    requires row { i < length t.now.lines }
+    requires sound { AreSound s.now }
+    ensures value { IfOk result (λ l. shown l ≡ first_case (values_of args.now t.now i s.now)) }
+    ensures form { IfOk result (λ l. IsWellFormed (shown l)) }
+{
+    let found = case_place(alloc, args, t, i, s)?;
+    match found {
+        Some(place) => value_of(alloc, part_at(args, place, t), t, i, s),
+        None => Ok(Lent::Cell(CellRef::Null)),
+    }
+}
+
+/// The place of the argument that `case` gives, if it gives one.
+#[cycle(value)]
+#[tactic(auto, using(crate::proofs::ChoiceSteps::place_steps))]
+fn case_place(
+    alloc: Global,
+    args: &[Node],
+    t: &Table,
+    i: usize,
+    s: &[Option<Row>],
+) -> Result<Option<usize>, AllocError>
+    requires placed { ArePlaced t.now.columns args.now }
+    requires row { i < length t.now.lines }
+    requires sound { AreSound s.now }
+    ensures place { IfOk result (λ p. given_at p (values_of args.now t.now i s.now) ≡ first_case (values_of args.now t.now i s.now)) }
+    ensures within { IfOk result (λ p. IfSome p (λ k. k < length args.now)) }
+{
+    let pairs = args.len() / 2;
+    'conditions: for k in 0..pairs {
+        let condition = part_at(args, 2 * k, t);
+        let truth = truth_of(alloc, condition, t, i, s)?;
+        if is_true(truth) {
+            return Ok(Some(2 * k + 1));
+        }
+    }
+    let odd = args.len() % 2 == 1;
+    if odd {
+        return Ok(Some(2 * pairs));
+    }
+    Ok(None)
+}
+
+/// The first value that is not empty, and else the last. What stands behind it is not evaluated.
+#[cycle(value)]
+#[tactic(auto, using(crate::proofs::ChoiceSteps::given_steps, crate::proofs::FormFacts::value_forms))]
+fn first_given<'a>(
+    alloc: Global,
+    args: &'a [Node],
+    t: &'a Table,
+    i: usize,
+    s: &'a [Option<Row>],
+) -> Result<Lent<'a>, AllocError>
+    requires placed { ArePlaced t.now.columns args.now }
+    requires row { i < length t.now.lines }
+    requires sound { AreSound s.now }
+    ensures value { IfOk result (λ l. shown l ≡ first_given (values_of args.now t.now i s.now)) }
+    ensures form { IfOk result (λ l. IsWellFormed (shown l)) }
+{
+    'arguments: for k in 0..args.len() {
+        let value = value_of(alloc, part_at(args, k, t), t, i, s)?;
+        let given = !is_empty(&value);
+        if given {
+            return Ok(value);
+        }
+        let last = k + 1 == args.len();
+        if last {
+            return Ok(value);
+        }
+        drop(value);
+    }
+    Ok(Lent::Cell(CellRef::Null))
 }
 
 /// What a window function gives at a row.

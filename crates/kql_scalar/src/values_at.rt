@@ -1,5 +1,5 @@
 //! The values of a part at the rows of a range, as a vector.
-ghost use Rattle.std.specs.Prelude.{◌≡◌, ◌<◌, ◌≤◌, ◌++◌, ◌∷◌, [], IfOk, OnOk, OnErr, Some, length, map};
+ghost use Rattle.std.specs.Prelude.{◌≡◌, ◌<◌, ◌≤◌, ◌++◌, ◌∷◌, [], IfOk, IfSome, OnOk, OnErr, Some, length, map};
 ghost use Rattle.kql_meaning.specs.Expressions.{val};
 ghost use Rattle.kql_meaning.specs.Tables.{cell_in};
 ghost use Rattle.kql_scalar.specs.Means.{IsPlaced, means};
@@ -60,6 +60,30 @@ fn column_at(
 {
     let _schema = t.schema();
     t.column(place).slice(alloc, from, to)
+}
+
+/// The vector of the table itself that has a part's values at all rows, where the part is a column.
+#[tactic(auto, using(crate::proofs::ColumnSteps::range_steps))]
+pub(crate) fn lent_values<'a>(node: &Node, t: &'a Table) -> Option<&'a Vector>
+    requires placed { IsPlaced t.now.columns node.now }
+    ensures values { IfSome result (λ v. v.now ≡ map (λ i. val (means node.now) t.now i []) (rows 0 (length t.now.lines))) }
+    ensures count { IfSome result (λ v. length v.now ≡ length t.now.lines) }
+{
+    match node {
+        Node::Column(_, place) => Some(whole_column(t, *place)),
+        _ => None,
+    }
+}
+
+// The vector of a column.
+#[tactic(auto, using(crate::proofs::WholeSteps::whole_steps))]
+fn whole_column(t: &Table, place: usize) -> &Vector
+    requires column { place < length t.now.columns }
+    ensures values { result.now ≡ map (λ i. cell_in t.now i (Some place)) (rows 0 (length t.now.lines)) }
+    ensures count { length result.now ≡ length t.now.lines }
+{
+    let _schema = t.schema();
+    t.column(place)
 }
 
 // The same, evaluated row by row.

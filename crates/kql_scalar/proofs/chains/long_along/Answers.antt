@@ -1,4 +1,4 @@
-use Rattle.std.proofs.Common.{◌≡◌, ◌∙◌, ap₂, arith, length}
+use Rattle.std.proofs.Common.{◌∙◌, ap₂, arith, length}
 use Rattle.kql_scalar.specs.Chains.{long_step}
 use Rattle.kql_scalar.proofs.ChainSteps.{number-more, reach-at}
 use Rattle.kql_scalar.proofs.chains.long_along.Goals as goal

@@ -1,4 +1,4 @@
-use Rattle.std.proofs.Common.{◌≡◌, take}
+use Rattle.std.proofs.Common.{take}
 use Rattle.kql_scalar.specs.Scalar.{AreLinksScalar, AreScalar}
 use Rattle.kql_scalar.proofs.scalar.+is_scalar.Given as goal
 

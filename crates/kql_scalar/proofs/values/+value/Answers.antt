@@ -1,9 +1,11 @@
-use Rattle.std.proofs.Common.{◌≡◌, ◌∙◌, ap, ap₂, arith, subst, sym, ◌∷◌, []}
-use Rattle.std.specs.Prelude.{IfOk, false, true}
+use Rattle.std.proofs.Common.{◌≡◌, ◌+◌, ◌∙◌, ap, ap₂, arith, inl, inr, length, subst, sym, ◌∷◌, []}
+use Rattle.std.specs.Prelude.{IfOk, false, nat_eq, not, true}
+use Rattle.std.proofs.lemmas.Bool.{cases_Bool, eqb-true}
 use Rattle.kql_scalar_fns.specs.Applied.{applied}
 use Rattle.kql_scalar_fns.specs.Logic.{is_true}
 use Rattle.kql_scalar.specs.Shown.{shown}
 use Rattle.kql_scalar.specs.Evaluated.{is_restart}
+use Rattle.kql_scalar.proofs.ChoiceSteps.{given-found, given-passed}
 use Rattle.kql_scalar.proofs.WindowSteps.{last-false, last-true, restart-tested}
 use Rattle.kql_scalar.proofs.NodeSteps.{chosen-else, chosen-then, forms-turn, values-turn, values-two}
 use Rattle.kql_scalar.proofs.values.+value.Goals as goal
@@ -44,3 +46,18 @@ pub last_restart-rows-preserved : goal.last_restart-rows-preserved
 last_restart-rows-preserved t c =
     let test = restart-tested c.args.restart.now c.args.t.now c.args.s.now c.row_back-row.result c.in_ok-truth.truth c.is_true.result false c.in_ok-truth.ensures.truth c.is_true.ensures c.if-is_true.false in
     last-false (is_restart c.args.restart.now c.args.t.now c.args.s.now) c.args.i c.rows.k c.row_back-row.result c.rows.invariant c.rows-test.true c.row_back-row.ensures.value test
+
+pub first_given-returns-then-given-clause-value : goal.first_given-returns-then-given-clause-value
+first_given-returns-then-given-clause-value t c =
+    given-found c.args.args.now c.arguments.k c.part_at.result.now (shown c.in_ok-value.value) c.is_empty-given.result c.args.t.now c.args.i c.args.s.now
+    (omega (arith, c.arguments-test.true)) c.part_at.ensures.item c.arguments.invariant c.in_ok-value.ensures.value c.is_empty-given.ensures (ap not c.if-given.true)
+
+pub first_given-arguments-preserved : goal.first_given-arguments-preserved
+first_given-arguments-preserved t c =
+    let over = length c.args.args.now in
+    let more : nat_eq (c.arguments.k + 1) over ≡ false = elim (cases_Bool (nat_eq (c.arguments.k + 1) over)) [
+      | inl e ↦ absurd (c.if-last.false (eqb-true (c.arguments.k + 1) over e))
+      | inr e ↦ e
+    ] in
+    given-passed c.args.args.now c.arguments.k c.part_at.result.now (shown c.in_ok-value.value) c.is_empty-given.result c.args.t.now c.args.i c.args.s.now
+    (omega (arith, c.arguments-test.true)) more c.part_at.ensures.item c.arguments.invariant c.in_ok-value.ensures.value c.is_empty-given.ensures (ap not c.if-given.false)

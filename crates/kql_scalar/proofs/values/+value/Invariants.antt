@@ -1,6 +1,7 @@
-use Rattle.std.proofs.Common.{◌≡◌, ◌-◌, map, take}
+use Rattle.std.proofs.Common.{◌≡◌, ◌-◌, ◌*◌, drop, map, take}
 use Rattle.kql_cells.specs.Values.{IsWellFormed}
 use Rattle.kql_scalar_fns.specs.Arguments.{AreWellFormed}
+use Rattle.kql_scalar_fns.specs.Choice.{first_case, first_given}
 use Rattle.kql_scalar_fns.specs.Logic.{conjunction, disjunction}
 use Rattle.kql_meaning.specs.Windows.{last_where}
 use Rattle.kql_scalar.specs.Evaluated.{along, down, is_restart, sum_over, values_of}
@@ -31,6 +32,12 @@ invariant-conjunction-terms l = l.known ≡ conjunction (values_of (take l.arg-i
 
 abbrev pub invariant-disjunction-terms : goal.invariant-disjunction-terms
 invariant-disjunction-terms l = l.known ≡ disjunction (values_of (take l.arg-index l.args) l.t l.i l.s)
+
+abbrev pub invariant-case_place-conditions : goal.invariant-case_place-conditions
+invariant-case_place-conditions l = first_case (values_of l.args l.t l.i l.s) ≡ first_case (drop (2 * l.k) (values_of l.args l.t l.i l.s))
+
+abbrev pub invariant-first_given-arguments : goal.invariant-first_given-arguments
+invariant-first_given-arguments l = first_given (values_of l.args l.t l.i l.s) ≡ first_given (drop l.k (values_of l.args l.t l.i l.s))
 
 abbrev pub invariant-last_restart-rows : goal.invariant-last_restart-rows
 invariant-last_restart-rows l = last_where (is_restart l.restart l.t l.s) l.i ≡ last_where (is_restart l.restart l.t l.s) (l.i - l.k)
