@@ -24,6 +24,11 @@ pub(crate) fn show<R: Files + Eprint + AllocGlobal>(
     if let Some(text) = text_of(rt, path) {
         show_line(rt, text.as_str(), line, column)?;
     }
+    tell(rt, code)
+}
+
+/// Tells what a code means.
+pub(crate) fn tell<R: Eprint + AllocGlobal>(rt: &R, code: u32) -> io::Result<()> {
     let meaning = sentence(code);
     eprintln!(rt; "{meaning} More: kql help {code}")
 }
@@ -48,6 +53,9 @@ fn show_line<R: Eprint + AllocGlobal>(
     let Some(line) = text.split('\n').nth(line.saturating_sub(1) as usize) else {
         return Ok(());
     };
+    if line.is_empty() {
+        return eprintln!(rt; "    (the end of the query)");
+    }
     let (shown, blanks) = pointed(rt.alloc(), line, column)?;
     eprintln!(rt; "    {shown}")?;
     eprintln!(rt; "    {blanks}^")

@@ -14,12 +14,11 @@ pub(crate) enum Help {
     NoTopic,
 }
 
-/// The answer to the words behind `help`: none, or one topic.
+/// The answer to the words behind `help`: none, or a topic, of which the first word counts.
 pub(crate) fn help_of(words: &[String]) -> Help {
     let text = match words {
         [] => overview::topic("overview"),
-        [word] => topic(word.as_str()),
-        _ => None,
+        [word, ..] => topic(word.as_str()),
     };
     match text {
         Some(text) => Help::Text(text),
@@ -35,7 +34,9 @@ fn topic(name: &str) -> Option<&'static str> {
         .or(functions::topic(name))
         .or(values::topic(name))
         .or(rows::topic(name));
-    told.or(function(name)).or(numbered(name))
+    told.or(function(name))
+        .or(queries::elsewhere(name))
+        .or(numbered(name))
 }
 
 // The text of the topic that has a function.

@@ -94,17 +94,20 @@ fn query_path(words: &[String]) -> Option<&str> {
     Some(words.get(asked.query)?.as_str())
 }
 
-// Shows a terminal more of a refused query than its line. What cannot be shown is left out.
+// Shows a terminal more of a refusal than its line. What cannot be shown is left out.
 fn show_more(rt: &HostRuntime, words: &[String], ended: &Ended) {
-    let Ended::QueryRefused { code, place } = ended else {
-        return;
-    };
     if !rt.stderr().is_terminal() {
         return;
     }
-    if let Some(path) = query_path(words) {
-        let _ = caret::show(rt, path, place.line, place.column, *code);
-    }
+    let _ = match ended {
+        Ended::QueryRefused { code, place } => match query_path(words) {
+            Some(path) => caret::show(rt, path, place.line, place.column, *code),
+            None => Ok(()),
+        },
+        Ended::Usage { code, .. } => caret::tell(rt, *code),
+        Ended::DataRefused { code, .. } => caret::tell(rt, *code),
+        _ => Ok(()),
+    };
 }
 
 fn main(rt: HostRuntime) -> io::Result<ExitCode> {

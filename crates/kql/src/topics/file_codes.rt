@@ -48,7 +48,8 @@ const BAD_CELL: &str = "\
 
 A cell does not read as its column's type.
 
-kql help tables has the forms; an empty cell is null.
+kql help tables has the forms; an empty cell is null. A column without a type is one of
+strings, and tolong(x) is null where a cell does not read.
 ";
 
 const NO_FILE: &str = "\
@@ -57,7 +58,8 @@ const NO_FILE: &str = "\
 There is no file of this path; file 0 is the query file, and N that of the N-th
 word NAME=PATH.
 
-Look at the path.
+Look at the path. The query stands in a file too, and /dev/stdin reads it from a pipe:
+echo 'T | count' | kql run /dev/stdin T=t.csv
 ";
 
 const TOO_LONG: &str = "\

@@ -8,7 +8,7 @@ No column, constant or step column has that name.
     T | extend y = x + nosuch                  at nosuch
 
 Look at the spelling: names are compared by bytes, so X is not x; a name that is no
-word is written ['a b'].
+word is written ['a b'], and a text stands in quotes.
 ";
 
 const UNKNOWN_FUNCTION: &str = "\
@@ -19,7 +19,8 @@ summarize and make-series alone.
 
     T | extend y = sum(x)                      at sum
 
-kql help functions has the functions; a sum over all rows is summarize.
+kql help functions has the functions, and kql help kusto what to write for iif, notnull
+and others; a sum over all rows is summarize.
 ";
 
 const WRONG_ARGUMENTS: &str = "\
@@ -46,8 +47,8 @@ expression has another type than its operator takes.
     T | extend y = abs(s)                      at abs
     T | extend y = d == d                      at ==
 
-Convert, as with tolong(s); two dynamic values are compared when one of them is
-converted.
+Convert, as with tolong(s), or give the column its type in the file's header, as s:long;
+two dynamic values are compared when one of them is converted.
 ";
 
 const UNSUPPORTED_TYPE: &str = "\
@@ -68,7 +69,8 @@ types that it leaves out.
 
     T | summarize avg(x)                       at avg
 
-There are no fractions: sum(x) / count() is the whole part of the mean.
+There are no fractions: sum(x) / countif(isnotnull(x)) is the whole part of the mean;
+count_distinct(x) stands for dcount(x). kql help kusto has more.
 ";
 
 const NOT_SERIALISED: &str = "\
@@ -99,7 +101,7 @@ now and ago need the moment, and the command gives none.
 
     T | where t > ago(1h)                      at ago
 
-Give it: --now 2024-01-01
+Give it in front of the query file: kql run --now 2024-01-01 QUERY NAME=PATH ..
 ";
 
 const UNKNOWN_TABLE: &str = "\

@@ -4,7 +4,8 @@ const OVERVIEW: &str = "\
 kql help TOPIC tells of one of these; kql --help has the words of the command.
 
     commands     run, plain, trial
-    a query      query, literals, let, range, print, union, columns
+    a query      query, literals, let, range, print, union, columns; kusto has what
+                 to write for what Kusto has and this language has not
     operators    where, extend, project, project-away, project-keep,
                  project-rename, take, limit, count, sort, order, top, distinct,
                  summarize, make-series, mv-expand, parse, join, lookup, union,

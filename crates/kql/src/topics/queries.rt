@@ -1,5 +1,7 @@
 //! Commands, queries, sources and tables.
 
+use crate::help::has_word;
+
 const RUN: &str = "\
 kql run [--workers N] [--now T] QUERY NAME=PATH ..
 
@@ -124,6 +126,47 @@ Two columns of one name in one answer are refused (411). An answer has 1 to 256
 columns.
 ";
 
+const KUSTO: &str = "\
+What differs from Kusto, and what to write instead
+
+    iif, notnull, notempty       iff, isnotnull, isnotempty
+    1.5, int(5), toint(s)        numbers are whole: 5, tolong(s)
+    avg(x)                       sum(x) / countif(isnotnull(x)), the whole part
+    dcount(x), any(x)            count_distinct(x), take_any(x)
+    makelist, makeset, pack      make_list, make_set, bag_pack
+    matches regex, extract       contains, startswith, has, parse
+    s has_any (a, b), has_all    s has a or s has b; s has a and s has b
+    trim, countof                replace_string, array_length(split(..)) - 1
+    format_datetime(t, ..)       substring(tostring(t), 0, 10), getyear(t)
+    x in (T | project y)         join kind=leftsemi (T) on $left.x == $right.y
+    join kind=leftantisemi       join kind=leftanti
+    toscalar(T | ..)             lookup (T | ..) on a column that is 1 on both sides
+    materialize(T | ..), as A    let A = T | ..;
+    let f = (a:long) { .. }      the body in its place
+    datatable, externaldata      a CSV file, T=PATH; union (print x = 1), ..
+    search, find, filter         where
+    sample, mv-apply, mvexpand   take, mv-expand
+    project-reorder, wildcards   project, with each name
+    parse-where, kind=regex      parse, and where behind it
+    render, evaluate             nothing: the answer is CSV
+    now(), ago(1h)               the same, with --now 2024-03-01 in the command
+    datetime(\"2024-03-01\")       datetime(2024-03-01)
+    dynamic({'a':1})             JSON: dynamic({\"a\":1})
+    \"Hour\", bool(TRUE)           lower case: \"hour\", true
+
+Two columns of one name are refused (411): summarize a = count(), b = count().
+A step of range is positive. toupper and tolower turn ASCII letters alone.
+";
+
+const KUSTO_NAMES: &str = "\
+    iif notnull notempty int real double decimal guid toint toreal todouble todecimal toguid avg \
+    avgif dcount dcountif percentile percentiles stdev stdevif variance varianceif hll tdigest \
+    sqrt pow exp log log10 round rand series_stats any makelist makeset pack matches regex \
+    extract has_any has_all hasprefix hassuffix trim countof format_datetime toscalar \
+    materialize as datatable externaldata search find filter sample mv-apply mvexpand \
+    project-reorder parse-where render evaluate invoke facet fork reduce getschema consume \
+    top-nested top-hitters row_rank_min row_rank_dense row_window_session extract_json";
+
 const TABLES: &str = "\
 Tables
 
@@ -156,7 +199,17 @@ pub(crate) fn topic(name: &str) -> Option<&'static str> {
         "print" => Some(PRINT),
         "union" => Some(UNION),
         "columns" | "names" => Some(COLUMNS),
+        "kusto" => Some(KUSTO),
         "tables" => Some(TABLES),
         _ => None,
+    }
+}
+
+/// The text that has what Kusto has by this name, and this language has not.
+pub(crate) fn elsewhere(name: &str) -> Option<&'static str> {
+    if has_word(KUSTO_NAMES, name) {
+        Some(KUSTO)
+    } else {
+        None
     }
 }

@@ -8,7 +8,7 @@ A byte here begins no token, or is not UTF-8, in a string or a comment too.
     T | where x # 5                            at #
 
 Remove it, or save the query file in UTF-8. A name that is no word is written
-['a b'].
+['a b'], and ! before an expression not(..).
 ";
 
 const OPEN_TEXT: &str = "\
@@ -52,13 +52,17 @@ Make the query shorter; data belongs into table files.
 const UNEXPECTED: &str = "\
 201 Unexpected
 
-No query can go on with this token, or end here, as the text begins.
+No query can go on with this word or sign, or end here, after what stands before it.
 
     T T | count                                at the second T
-    T | where (a                               at 1:13, the end
+    T | wher x == 5                            at wher
+    T | where x = 5                            at =, where == is meant
+    T | where (a                               at the end: 1:13, or 2:1 where a line
+                                               feed ends the file
 
-Look at the word before it: a | or a bracket may be missing, or a reserved word may
-stand where a name does, which is then written as ['by'].
+The word itself may be misspelt, or no operator of the language: kql help names those,
+and kql help kusto has what to write for others. Before it a |, a comma or a bracket may
+be missing. A reserved word as a name is written ['by'].
 ";
 
 const TOO_DEEP: &str = "\

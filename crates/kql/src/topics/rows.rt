@@ -43,8 +43,8 @@ Aggregates, in summarize; make-series takes those marked *
                                          by bits, of the longs not null
 
 Of nothing counts and sums are 0, lists and sets [], arg_max, arg_min and take_any
-absent, and all others null. There is no avg: sum(x) / count() is the whole part
-of the mean.
+absent, and all others null. There is no avg: sum(x) / countif(isnotnull(x)) is
+the whole part of the mean.
 
     Web | summarize First = min(Time), arg_max(Time, Path), Requests = count() by Client
 ";

@@ -15,7 +15,7 @@ The first word is not run, plain or trial.
 
     kql walk q                                 at word 0
 
-kql --help has the words.
+Begin with run: kql run QUERY NAME=PATH .. ; kql --help has the words.
 ";
 
 const UNKNOWN_OPTION: &str = "\
@@ -59,6 +59,9 @@ The word is not NAME=PATH: it has no =, no path, or a name that is no word or is
 reserved.
 
     kql run q T                                at word 2
+
+Options stand in front of the query file, and tables behind it:
+kql run --now 2024-01-01 q T=t.csv
 ";
 
 const TABLE_TWICE: &str = "\
