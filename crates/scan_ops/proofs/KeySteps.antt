@@ -1,10 +1,12 @@
 -- The rows of each key of a column.
-use Rattle.std.proofs.Common.{◌≡◌, ◌<◌, ◌+◌, Bor, ℕ, zero, suc, Bool, true, false, List, [], ◌∷◌, map, filter, length, get_or, refl, ap, ap₂, sym, ◌∙◌, inl, inr, arith}
-use Rattle.std.specs.Prelude.{not, Some, bytes_eq, nat_lt, slice_get}
+use Rattle.std.proofs.Common.{◌≡◌, ◌<◌, ◌+◌, Bor, ℕ, zero, suc, Bool, true, List, [], ◌∷◌, map, filter, length, get_or, refl, ap, ap₂, sym, ◌∙◌, subst, inl, inr, arith}
+use Rattle.std.specs.Prelude.{All, not, Some, bytes_eq, nat_lt, slice_get}
 use Rattle.std.specs.List.{position_or_len, range_with_len}
 use Rattle.std.proofs.lemmas.Bool.{cases_Bool}
 use Rattle.std.proofs.lemmas.List.{get_or-map, length-map}
-use Rattle.std.proofs.lemmas.List.FromFn.{get_or-map-range_with_len, length-map-range_with_len}
+use Rattle.std.proofs.lemmas.List.Elements.{All-filter}
+use Rattle.std.proofs.lemmas.List.Quantifiers.{position-Some}
+use Rattle.std.proofs.lemmas.List.FromFn.{get_or-map-range_with_len}
 use Rattle.std.proofs.lemmas.Slice.Eq.{bytes_eq-Decides}
 use Rattle.kql_cells.specs.Keys.{same_keys-decides, same_keys-equiv}
 use Rattle.kql_cells.specs.Named.{HasDistinctNames, column_name, place_of}
@@ -16,13 +18,14 @@ use Rattle.kql_cells.specs.declared.value.Value.{Value}
 use Rattle.kql_cells.specs.declared.value.Value.TheVariants as value
 use Rattle.kql_cells.proofs.RowLaws.{length-RowFits}
 use Rattle.kql_values.specs.Grids.{column_at, row_of, rows_of}
-use Rattle.kql_keys.specs.Numbers.{distinct, first_places, numbers_of}
+use Rattle.kql_keys.specs.Numbers.{distinct, numbers_of}
 use Rattle.kql_keys.specs.Places.{places_by, places_of}
-use Rattle.kql_keys.proofs.KeyLaws.{first-keys, group-rows}
+use Rattle.kql_keys.proofs.KeyLaws.{group-rows}
 use Rattle.kql_meaning.specs.Groups.{distinct_keys}
 use Rattle.kql_meaning.specs.Partition.{key_in_column}
 use Rattle.kql_meaning.specs.Tables.{absent_in, cell, cell_in, distinct_by, places, places_below}
 use Rattle.kql_meaning.specs.Values.{same_keys}
+use Rattle.kql_fit_laws.proofs.RowFacts.{places-inside}
 use Rattle.kql_meaning.proofs.JoinLaws.{map-map}
 use Rattle.kql_meaning.proofs.RowByRowLaws.{rows-at-all}
 use Rattle.scan_ops.specs.Scans.{column_cells, name_at, rows_by_key, rows_of_key}
@@ -135,5 +138,32 @@ numbered c t cells columns count numbers firsts lists down one many en keys made
   where
     rows-number : (c : List ℕ) (t : Grid) (i : ℕ) → i < length (distinct same_keys (keys_down c t)) → places_of (numbers_of same_keys (keys_down c t)) (0 + i) ≡ rows_of_key c t (get_or (distinct same_keys (keys_down c t)) i [])
     rows-number c t i lt = let same : 0 + i ≡ i = omega arith in ap (places_of (numbers_of same_keys (keys_down c t))) same ∙ rows-of-number c t i lt
+
+-- The lists lie within the table.
+
+pub key-within : (c : List ℕ) (t : Grid) (k : List Value) → All (λ j. j < length t.lines) (rows_of_key c t k)
+unfolding rows_of_key
+key-within c t k = All-filter (λ j. same_keys (key_in_column c t j) k) (λ j. j < length t.lines) (places t) (places-inside t)
+
+keys-within : (c : List ℕ) (t : Grid) (ks : List (List Value)) → All (All (λ j. j < length t.lines)) (map (rows_of_key c t) ks)
+keys-within c t [] i d lt = absurd (omega (arith, lt))
+keys-within c t (k ∷ ks) zero d lt = key-within c t k
+keys-within c t (k ∷ ks) (suc i) d lt = keys-within c t ks i d (omega (arith, lt))
+
+pub lists-within : (c : List ℕ) (t : Grid) (lists : List (List ℕ)) → lists ≡ rows_by_key c t → All (All (λ j. j < length t.lines)) lists
+unfolding rows_by_key
+lists-within c t lists is = subst (All (All (λ j. j < length t.lines))) (sym is) (keys-within c t (distinct_keys (key_in_column c t) t))
+
+-- The name of a column, and the place of it.
+
+pub named-there : (c : List ℕ) (cs : List Column) (k : ℕ) → place_of column_name c cs ≡ Some k → name_at k cs ≡ c
+unfolding name_at
+named-there c cs k e =
+    let d : Column = record { name = []; kind = kind.Bool } in
+    let q = position-Some (λ (x : Column). bytes_eq (column_name x) c) cs k d e in
+    get_or-map column_name cs k d [] q.0 ∙ (bytes_eq-Decides (column_name (get_or cs k d)) c).0 q.1
+
+pub rows-named : (t : Grid) (k : ℕ) (lists : List (List ℕ)) → lists ≡ rows_by_key (name_at k t.columns) t → (c : List ℕ) → place_of column_name c t.columns ≡ Some k → lists ≡ rows_by_key c t
+rows-named t k lists e c there = e ∙ ap (λ (n : List ℕ). rows_by_key n t) (named-there c t.columns k there)
 
 pub ruleset key_steps = (numbered)

@@ -1,18 +1,15 @@
 -- A scan reads each row alone, so that of gathered rows is that of the rows at their places; and scans of the rows of each key.
-use Rattle.std.proofs.Common.{◌≡◌, ◌↔◌, ◌<◌, ◌≤◌, ◌+◌, ℕ, zero, suc, Bool, true, false, List, [], ◌∷◌, ◌++◌, map, filter, length, take, get_or, refl, sym, ap, ap₂, ◌∙◌, subst, arith, inl, inr, rules, append-nil, append_assoc}
-use Rattle.std.specs.Prelude.{◌&&◌, All, IfSome, None, Option, Some, bytes_eq, find, fold, reverse, slice_get, slice_index_or}
+use Rattle.std.proofs.Common.{◌≡◌, ◌↔◌, ◌<◌, ◌≤◌, ◌+◌, ℕ, zero, suc, Bool, true, List, [], ◌∷◌, ◌++◌, map, filter, length, take, get_or, refl, sym, ap, ap₂, ◌∙◌, subst, arith, inl, inr, append-nil}
+use Rattle.std.specs.Prelude.{All, IfSome, None, Option, Some, find, fold, reverse, slice_get, slice_index_or}
 use Rattle.std.specs.List.{enumerate_from, flat_map, list_all, range_with_len}
 use Rattle.std.proofs.lemmas.Bool.{and_from, and_parts, cases_Bool}
 use Rattle.std.proofs.lemmas.Grind.{flat_map-append}
 use Rattle.std.proofs.lemmas.List.{get_or-map, length-map, take_all, take_more}
-use Rattle.std.proofs.lemmas.List.Elements.{All-append, All-filter, All-nil}
-use Rattle.std.proofs.lemmas.List.Quantifiers.{position-Some}
-use Rattle.std.proofs.lemmas.Slice.Eq.{bytes_eq-Decides}
+use Rattle.std.proofs.lemmas.List.Elements.{All-append, All-nil}
 use Rattle.kql_cells.specs.Named.{HasDistinctNames, column_name, place_of}
 use Rattle.kql_cells.specs.Seen.{row_at}
 use Rattle.kql_cells.specs.Table.{Grid, IsGrid, RowFits, gathered}
 use Rattle.kql_cells.specs.declared.schema.Column.{Column}
-use Rattle.kql_cells.specs.declared.value.Kind.TheVariants as kind
 use Rattle.kql_cells.specs.declared.value.Value.{Value}
 use Rattle.kql_dynamic.proofs.ArrayFormLaws.{list_all-reverse}
 use Rattle.kql_bound.specs.declared.parts.BItem.{BItem}
@@ -26,11 +23,10 @@ use Rattle.kql_meaning.specs.Scan.{Held, Machine, Turn, after, all_rows, assigne
 use Rattle.kql_meaning.specs.Tables.{absent_in, cell, cell_in, emptied, is_name_among, places, places_below}
 use Rattle.kql_meaning.specs.Values.{holds, same_keys}
 use Rattle.kql_meaning.proofs.RowByRowLaws.{plain_reads_its_row}
-use Rattle.kql_fit_laws.proofs.RowFacts.{gathered-table, places-inside}
-use Rattle.kql_values.specs.Grids.{HaveLength}
-use Rattle.scan_ops.specs.Runs.{width_of}
+use Rattle.kql_fit_laws.proofs.RowFacts.{gathered-table}
 use Rattle.scan_ops.specs.Scans.{is_plain_step, name_at, rows_by_key, rows_of_key, rows_scanned, scans_of, turn_at}
 use Rattle.scan_ops.specs.Steps.{scan_answers}
+use Rattle.scan_ops.proofs.KeySteps.{key-within, named-there}
 use Rattle.scan_ops.proofs.FitFacts.{declared-differ, declared-fit, scan-grid, scan-scalar, steps-plain}
 use Rattle.scan_ops.proofs.ScanFacts.{none-declared}
 
@@ -175,19 +171,6 @@ part-scanned p t ps plain h = ap (scan_rows p) (declared-gathered p t ps h) ∙ 
 
 -- The rows of each key.
 
-key-within : (c : List ℕ) (t : Grid) (k : List Value) → All (λ j. j < length t.lines) (rows_of_key c t k)
-unfolding rows_of_key
-key-within c t k = All-filter (λ j. same_keys (key_in_column c t j) k) (λ j. j < length t.lines) (places t) (places-inside t)
-
-keys-within : (c : List ℕ) (t : Grid) (ks : List (List Value)) → All (All (λ j. j < length t.lines)) (map (rows_of_key c t) ks)
-keys-within c t [] i d lt = absurd (omega (arith, lt))
-keys-within c t (k ∷ ks) zero d lt = key-within c t k
-keys-within c t (k ∷ ks) (suc i) d lt = keys-within c t ks i d (omega (arith, lt))
-
-pub lists-within : (c : List ℕ) (t : Grid) (lists : List (List ℕ)) → lists ≡ rows_by_key c t → All (All (λ j. j < length t.lines)) lists
-unfolding rows_by_key
-lists-within c t lists is = subst (All (All (λ j. j < length t.lines))) (sym is) (keys-within c t (distinct_keys (key_in_column c t) t))
-
 keys-scanned : (p : ScanPlan) (c : List ℕ) (t : Grid) (ks : List (List Value)) → list_all is_plain_step p.steps ≡ true → flat_map (λ k. (scan_table p (group_of (key_in_column c t) t k)).lines) ks ≡ flat_map (rows_scanned p (with_declared p t)) (map (rows_of_key c t) ks)
 unfolding group_of rows_of_key
 keys-scanned p c t [] plain = refl
@@ -205,15 +188,6 @@ partition-scanned : (p : ScanPlan) (c : List ℕ) (t : Grid) → list_all is_pla
 unfolding partition_table scans_of rows_by_key
 partition-scanned p c t plain =
     ap₂ (λ (cs : List Column) (ls : List (List Value)). record { columns = cs; lines = ls }) (columns-scanned p t) (keys-scanned p c t (distinct_keys (key_in_column c t) t) plain)
-
--- The name of a column, and the place of it.
-
-named-there : (c : List ℕ) (cs : List Column) (k : ℕ) → place_of column_name c cs ≡ Some k → name_at k cs ≡ c
-unfolding name_at
-named-there c cs k e =
-    let d : Column = record { name = []; kind = kind.Bool } in
-    let q = position-Some (λ (x : Column). bytes_eq (column_name x) c) cs k d e in
-    get_or-map column_name cs k d [] q.0 ∙ (bytes_eq-Decides (column_name (get_or cs k d)) c).0 q.1
 
 -- The table.
 
@@ -293,7 +267,7 @@ scans-more p t lists k ps old new lt is before e =
 pub scans-all : (p : ScanPlan) (t : Grid) (lists : List (List ℕ)) (k : ℕ) (rows : List (List Value)) → length lists ≤ k → rows ≡ scans_of p t (take k lists) → rows ≡ scans_of p t lists
 scans-all p t lists k rows le e = e ∙ ap (scans_of p t) (take_all k lists le)
 
-pub ruleset keyed_facts = (declared-differ, declared-fit, lists-within, bare-declared, keyed-made, keyed-plain)
+pub ruleset keyed_facts = (declared-differ, declared-fit, bare-declared, keyed-made, keyed-plain)
 
 pub ruleset answer_facts = (scan-scalar, keyed-fits, keyed-table, no-rows, lists-extended)
 

@@ -1,5 +1,5 @@
 -- The machine, one step after another.
-use Rattle.std.proofs.Common.{◌≡◌, ◌++◌, ℕ, List, [], length, map, replicate, refl, ap, sym, ◌∙◌, subst}
+use Rattle.std.proofs.Common.{◌≡◌, ◌++◌, ℕ, List, [], length, map, replicate, ap, sym, ◌∙◌, subst}
 use Rattle.std.specs.Prelude.{None}
 use Rattle.kql_cells.specs.Table.{Grid}
 use Rattle.kql_cells.specs.declared.schema.Column.{Column}
@@ -7,7 +7,7 @@ use Rattle.kql_cells.specs.declared.value.Value.{Value}
 use Rattle.kql_bound.specs.declared.parts.ScanPlan.{ScanPlan}
 use Rattle.kql_meaning.specs.Scan.{Machine, Turn, after, machine_at_start, row_after, row_turn}
 use Rattle.kql_values.specs.Grids.{HaveLength}
-use Rattle.scan_ops.specs.Runs.{AreStates, IsRun, machine_of, turn_of, width_of}
+use Rattle.scan_ops.specs.Runs.{AreStates, IsRun, machine_of, width_of}
 use Rattle.scan_ops.specs.States.{StateSeen}
 use Rattle.scan_ops.specs.Steps.{PlacedStep, placed_step}
 use Rattle.scan_ops.specs.declared.run.Run.{Run}

@@ -189,17 +189,10 @@ unfolding first_outcome
 outcome-one turn new None q e = absurd cc
 outcome-one turn new (Some x) q e = let same : new ≡ after turn.emitted x = cc in same
 
-outcome-two : (turn new : Turn) (o q : Option Turn) → is_some o ≡ false → Some new ≡ option_map (after turn.emitted) q → new ≡ first_outcome turn o q
+outcome-two : (turn new : Turn) (o q : Option Turn) → is_some o ≡ false → new ≡ first_outcome turn None q → new ≡ first_outcome turn o q
 unfolding first_outcome
 outcome-two turn new (Some x) q none e = absurd cc
-outcome-two turn new None None none e = absurd cc
-outcome-two turn new None (Some x) none e = let same : new ≡ after turn.emitted x = cc in same
-
-outcome-none : (turn : Turn) (o q : Option Turn) → is_some o ≡ false → is_some q ≡ false → turn ≡ first_outcome turn o q
-unfolding first_outcome
-outcome-none turn (Some x) q none n = absurd cc
-outcome-none turn None (Some x) none n = absurd cc
-outcome-none turn None None none n = refl
+outcome-two turn new None q none e = e
 
 abbrev at_step : ScanPlan → ScanStep → Grid → ℕ → ℕ → Turn → Option Turn
 at_step p s t i at turn = check_one p s t i (at + 1) turn.machine (state_before turn.machine (at + 1))
@@ -211,13 +204,21 @@ pub tried-one : (p : ScanPlan) (s : ScanStep) (t : Grid) (i at : ℕ) (turn new 
 unfolding tried
 tried-one p s t i at turn new e = outcome-one turn new (at_step p s t i at turn) (again p s t i at turn) e
 
-pub tried-two : (p : ScanPlan) (s : ScanStep) (t : Grid) (i at : ℕ) (turn new : Turn) → is_some (at_step p s t i at turn) ≡ false → Some new ≡ option_map (after turn.emitted) (again p s t i at turn) → new ≡ tried p t i turn (at + 1, s)
+pub tried-two : (p : ScanPlan) (s : ScanStep) (t : Grid) (i at : ℕ) (turn new : Turn) → is_some (at_step p s t i at turn) ≡ false → new ≡ first_outcome turn None (again p s t i at turn) → new ≡ tried p t i turn (at + 1, s)
 unfolding tried
 tried-two p s t i at turn new none e = outcome-two turn new (at_step p s t i at turn) (again p s t i at turn) none e
 
-pub tried-none : (p : ScanPlan) (s : ScanStep) (t : Grid) (i at : ℕ) (turn : Turn) → is_some (at_step p s t i at turn) ≡ false → is_some (again p s t i at turn) ≡ false → turn ≡ tried p t i turn (at + 1, s)
-unfolding tried
-tried-none p s t i at turn none n = outcome-none turn (at_step p s t i at turn) (again p s t i at turn) none n
+-- Check 2 alone.
+
+pub outcome-again : (turn new : Turn) (q : Option Turn) → Some new ≡ option_map (after turn.emitted) q → new ≡ first_outcome turn None q
+unfolding first_outcome
+outcome-again turn new None e = absurd cc
+outcome-again turn new (Some x) e = let same : new ≡ after turn.emitted x = cc in same
+
+pub outcome-none : (turn : Turn) (q : Option Turn) → is_some q ≡ false → turn ≡ first_outcome turn None q
+unfolding first_outcome
+outcome-none turn (Some x) n = absurd cc
+outcome-none turn None n = refl
 
 -- Check 1 has held.
 
@@ -493,7 +494,9 @@ step-within p cs at s h = slice_get_within p.steps at s.step h.step
 pub within-run : (p : ScanPlan) (cs : List Column) (at : ℕ) (s : PlacedStep) (r : Run) → IsStepOf p cs at s → IsRun p cs r → at < length r.states.items
 within-run p cs at s r h k = omega (arith, step-within p cs at s h, k.count)
 
-pub ruleset try_facts = (tried-one, tried-two, tried-none)
+pub ruleset try_facts = (tried-one, tried-two)
+
+pub ruleset again_facts = (outcome-again, outcome-none)
 
 pub ruleset check_facts = (records-sound, within-run, state-there)
 

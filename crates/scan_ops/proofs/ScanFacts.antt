@@ -1,7 +1,7 @@
 -- The scan of a whole table, and of the rows at some places.
-use Rattle.std.proofs.Common.{◌≡◌, ◌↔◌, ◌<◌, ◌≤◌, ◌+◌, ◌++◌, ℕ, zero, suc, Bool, true, List, [], ◌∷◌, length, map, take, get_or, refl, sym, ap, ap₂, ◌∙◌, subst, arith, append-nil, append_assoc, length-append}
+use Rattle.std.proofs.Common.{◌≡◌, ◌↔◌, ◌<◌, ◌≤◌, ◌+◌, ◌++◌, ℕ, Bool, true, List, [], ◌∷◌, length, take, get_or, refl, sym, ap, ap₂, ◌∙◌, subst, arith, append-nil, append_assoc}
 use Rattle.std.specs.Prelude.{All, fold}
-use Rattle.std.specs.List.{flat_map, range_with_len}
+use Rattle.std.specs.List.{range_with_len}
 use Rattle.std.proofs.lemmas.Grind.{fold-append}
 use Rattle.std.proofs.lemmas.List.{map-id, take_all, take_more}
 use Rattle.std.proofs.lemmas.List.FromFn.{map-range_with_len_more}
@@ -12,8 +12,6 @@ use Rattle.kql_cells.specs.declared.value.Value.{Value}
 use Rattle.kql_bound.specs.declared.parts.ScanPlan.{ScanPlan}
 use Rattle.kql_meaning.specs.Scan.{Turn, after, all_rows, machine_at_start, row_after, rows_at_end, scan_columns, scan_rows, scan_table, with_declared}
 use Rattle.kql_meaning.specs.Tables.{places, places_below}
-use Rattle.kql_values.specs.Grids.{HaveLength}
-use Rattle.scan_ops.specs.Runs.{width_of}
 use Rattle.scan_ops.specs.Scans.{rows_scanned, turn_at}
 use Rattle.scan_ops.specs.Steps.{scan_answers}
 use Rattle.scan_ops.proofs.ExtendedFacts.{columns-all, columns-start}

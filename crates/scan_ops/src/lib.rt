@@ -2,6 +2,8 @@
 //!
 //! Conditions and assignments are located once. A row that no step takes is looked at and not copied; one that a step takes is held as a
 //! record, and its state moves from step to step. What is emitted is stored by columns.
+//!
+//! A scan of each key takes the rows of a key where they stand; the rows of each key are found by a call of their own.
 #![tactic(auto)]
 
 mod emit;
@@ -15,6 +17,7 @@ mod state;
 mod step;
 
 pub use keyed::scan_keyed;
+pub use keys::rows_by_key;
 pub use machine::ScanMachine;
 pub use scans::{scan_owned, scan_rows};
 pub use step::are_steps_scalar;

@@ -1,6 +1,6 @@
 //! A row taken through the steps.
 ghost use Rattle.std.specs.Prelude.{◌≡◌, ◌<◌, ◌+◌, is_some, length, map, option_map, replicate, IfOk, IsTrue, None, OnOk, Some};
-ghost use Rattle.kql_meaning.specs.Scan.{after, check_one, check_two, machine_at_start, row_after, state_before, tried};
+ghost use Rattle.kql_meaning.specs.Scan.{after, check_one, check_two, first_outcome, machine_at_start, row_after, state_before, tried};
 ghost use Rattle.kql_values.specs.Grids.{HaveLength};
 ghost use Rattle.scan_ops.specs.Runs.{AreStates, HasMovedUp, IsRun, IsStepOf, turn_of, width_of};
 ghost use Rattle.scan_ops.specs.Steps.{placed_step};
@@ -77,7 +77,7 @@ pub(crate) fn take_row(
     Ok(())
 }
 
-// Tries a row at a step, from 0.
+// Tries a row at a step, from 0: by check 1, and where that does not hold by check 2.
 #[tactic(auto, using(crate::proofs::RunFacts::try_facts))]
 fn try_step(
     alloc: Global,
@@ -97,6 +97,26 @@ fn try_step(
     if moves_on(alloc, plan, t, i, step, at, run)? {
         return promote(alloc, plan, t, i, step, at, run);
     }
+    try_again(alloc, plan, t, i, step, at, run)
+}
+
+// Tries a row at a step, from 0, by check 2 alone.
+#[tactic(auto, using(crate::proofs::RunFacts::again_facts))]
+fn try_again(
+    alloc: Global,
+    plan: &ScanPlan,
+    t: &Table,
+    i: usize,
+    step: &Step<'_>,
+    at: usize,
+    run: &mut Run,
+) -> Result<(), AllocError>
+    requires row { i < length t.now.lines }
+    requires step { IsStepOf plan.now t.now.columns at step.now }
+    requires run { IsRun plan.now t.now.columns run.old }
+    ensures turn { OnOk result (turn_of run.new ≡ first_outcome (turn_of run.old) None (check_two plan.now step.now.step t.now i (at + 1) (turn_of run.old).machine)) }
+    ensures run { IsRun plan.now t.now.columns run.new }
+{
     if !is_renewed(alloc, plan, t, i, step, at, run)? {
         return Ok(());
     }

@@ -8,7 +8,7 @@ use kql_columns::names_of;
 use kql_fits::are_distinct;
 use kql_items::Items;
 use kql_values::{Rows, Table};
-use scan_ops::{ScanMachine, are_steps_scalar, scan_keyed, scan_owned, scan_rows};
+use scan_ops::{ScanMachine, are_steps_scalar, rows_by_key, scan_keyed, scan_owned, scan_rows};
 use std::alloc::Global;
 use std::test::Fail;
 
@@ -66,10 +66,33 @@ fn is_bare(t: &Table, width: usize) -> bool {
     t.len() == 0 && t.schema().len() == width
 }
 
+// Events of two sessions, one of them null.
+const SESSIONS: &[Event] = &[(Some(1), 3), (None, 4), (Some(1), 3)];
+
+// Whether these are the rows of each key of the column at a place.
+fn are_keyed(alloc: Global, t: Made<Table>, key: usize, want: &[&[usize]]) -> Made<bool> {
+    let t = t?;
+    if key >= t.schema().len() {
+        return Ok(false);
+    }
+    let lists = rows_by_key(alloc, &t, key)?;
+    if lists.len() != want.len() {
+        return Ok(false);
+    }
+    for number in 0..want.len() {
+        if lists.get(number) != want[number] {
+            return Ok(false);
+        }
+    }
+    Ok(true)
+}
+
 #[test]
 fn scans(rt: HostRuntime) -> Result<(), Fail> {
     let alloc = rt.alloc();
     assert!(rt; feeds(alloc, scan_of(alloc, STEPS), table_of(alloc, PAIR), EMITTED)?);
     assert!(rt; scans_nothing(alloc, table_of(alloc, PAIR))?);
+    assert!(rt; are_keyed(alloc, table_of(alloc, SESSIONS), 1, &[&[0, 2], &[1]])?);
+    assert!(rt; are_keyed(alloc, table_of(alloc, SESSIONS), 0, &[&[0], &[1], &[2]])?);
     Ok(())
 }

@@ -1,6 +1,6 @@
-use Rattle.std.proofs.Common.{◌≡◌, ◌<◌, ◌-◌, ◌++◌, List, length, sym, ap, ◌∙◌, subst, arith}
+use Rattle.std.proofs.Common.{◌≡◌, ◌<◌, ◌-◌, ◌++◌, List, length, ap, ◌∙◌, arith}
 use Rattle.kql_cells.specs.declared.value.Value.{Value}
-use Rattle.scan_ops.specs.Runs.{AreStates, emitted_by_move}
+use Rattle.scan_ops.specs.Runs.{emitted_by_move}
 use Rattle.scan_ops.specs.States.{StateSeen}
 use Rattle.scan_ops.proofs.EmitFacts.{state-at, state-same, wide-line}
 use Rattle.scan_ops.proofs.RunFacts.{moved-count, moved-states, new-width, promoted-turn, within-run}

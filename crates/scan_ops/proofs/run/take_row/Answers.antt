@@ -12,7 +12,7 @@ each-init c = record {
 }
 
 pub try_step-requires-clause-step : goal.try_step-requires-clause-step
-try_step-requires-clause-step c = step-of c.args.plan.now c.args.t.now.columns c.args.steps.now (c.each.left - 1) c.index-steps-at.result c.requires.steps (omega arith) c.index-steps-at.is
+try_step-requires-clause-step c = step-of c.args.plan.now c.args.t.now.columns c.args.steps.now _ c.index-steps-at.result c.requires.steps (omega arith) c.index-steps-at.is
 
 pub each-preserved : goal.each-preserved
 each-preserved c =

@@ -8,10 +8,6 @@ pub returns-then-branch-clause-turn : goal.returns-then-branch-clause-turn
 returns-then-branch-clause-turn c =
     on_ok_weaker c.promote.result (λ e. tried-one c.args.plan.now c.args.step.now.step c.args.t.now c.args.i c.args.at (turn_of c.args.run.now) (turn_of c.promote.new.run) e) c.promote.ensures.turn
 
-pub returns-then-at-eq0-clause-turn : goal.returns-then-at-eq0-clause-turn
-returns-then-at-eq0-clause-turn c =
-    on_ok_weaker c.begin.result (λ e. tried-two c.args.plan.now c.args.step.now.step c.args.t.now c.args.i c.args.at (turn_of c.args.run.now) (turn_of c.begin.new.run) (search rules) e) c.begin.ensures.turn
-
-pub returns-else-at-eq0-clause-turn : goal.returns-else-at-eq0-clause-turn
-returns-else-at-eq0-clause-turn c =
-    on_ok_weaker c.renew.result (λ e. tried-two c.args.plan.now c.args.step.now.step c.args.t.now c.args.i c.args.at (turn_of c.args.run.now) (turn_of c.renew.new.run) (search rules) e) c.renew.ensures.turn
+pub returns-clause-turn : goal.returns-clause-turn
+returns-clause-turn c =
+    on_ok_weaker c.try_again.result (λ e. tried-two c.args.plan.now c.args.step.now.step c.args.t.now c.args.i c.args.at (turn_of c.args.run.now) (turn_of c.try_again.new.run) (search rules) e) c.try_again.ensures.turn
