@@ -7,7 +7,7 @@ use Rattle.kql_cells.specs.declared.value.Kind.{Kind}
 use Rattle.kql_bound.specs.declared.parts.PatItem.{PatItem}
 use Rattle.kql_bound.specs.declared.parts.PatItem.TheVariants as item
 use Rattle.kql_meaning.specs.Cuts.{behind_dash, digits_length, is_allowed, is_end, is_number_before_star, number_length, piece_read}
-use Rattle.parse_op.specs.Search.{HasNoCut, LimitsPieces, NoneBefore, NoneBehind, cut_by, cut_from, first_fits}
+use Rattle.parse_op.specs.Search.{HasNoCut, LimitsPieces, NoPieceBelow, NoneBefore, NoneBehind, cut_by, cut_from, first_fits}
 use Rattle.parse_op.proofs.CutSteps.{before-start, end-parts, none-at, not-at-end, place-within}
 use Rattle.parse_op.proofs.PieceSteps.{digits-short}
 
@@ -109,6 +109,22 @@ typed-behind relaxed p name k ps t start n size rest is simple at limit least = 
   | inr out ↦ rw out refl
 ])
 
+pub typed-before : (relaxed : Bool) (p : PatItem) (name : List ℕ) (k : Kind) (ps : List PatItem) (t : List ℕ) (start n : ℕ) (rest : List ℕ) → p ≡ item.Column name k → relaxed ≡ false → rest ≡ drop start t → NoPieceBelow k rest n → NoneBefore relaxed p ps t start (start + n)
+unfolding NoneBefore NoPieceBelow cut_by is_allowed
+typed-before relaxed p name k ps t start n rest is simple at least = rw (is, simple) (λ end lt. elim (cases_Bool (is_end t start end)) [
+  | inl inside ↦ elim (cases_Bool (is_some (piece_read k (slice_range t start end)))) [
+    | inl some ↦
+        let parts = end-parts t start end inside in
+        let high = place-within t end parts.1 in
+        let long : length rest ≡ length t - start = ap (λ (xs : List ℕ). length xs) at ∙ length-drop start t in
+        let read : is_some (piece_read k (take (end - start) rest)) ≡ true = ap (λ (xs : List ℕ). is_some (piece_read k (take (end - start) xs))) at ∙ some in
+        let over = least (end - start) (omega (arith, long, high)) read in
+        absurd (omega (arith, over, lt, parts.0))
+    | inr none ↦ rw (inside, none) refl
+  ]
+  | inr out ↦ rw out refl
+])
+
 pub rest-is : (xs t : List ℕ) (n : ℕ) → xs ≡ t → take (length xs - n) (drop n xs) ≡ drop n t
 rest-is xs t n e = take_all (length xs - n) (drop n xs) (omega (arith, length-drop n xs)) ∙ ap (drop n) e
 
@@ -150,4 +166,8 @@ unfolding HasNoCut
 no-first items ps p x y t i is at same other =
     λ relaxed. ap (λ qs. cut_from relaxed qs t i) (is ∙ ap (λ q. q ∷ ps) at) ∙ no-literal relaxed x ps t i (ap (λ z. first_fits z (slice_get t i)) (sym same) ∙ other)
 
-pub ruleset begin_steps = (no-items, no-first)
+pub not-last : (items ps : List PatItem) (p : PatItem) (b c : Bool) → items ≡ p ∷ ps → length items ≡ 0 → b ≡ c
+not-last [] ps p b c is none = cc
+not-last (q ∷ qs) ps p b c is none = absurd (omega (arith, none))
+
+pub ruleset begin_steps = (no-items, no-first, not-last)

@@ -21,10 +21,11 @@ use Rattle.kql_meaning.specs.Cuts.{cut, filled_piece_read, is_allowed, is_cut, i
 use Rattle.kql_meaning.specs.Parse.{cut_values, parsed_values, pattern_columns, piece_value, pieces_values}
 use Rattle.kql_meaning.specs.Tables.{absent_row}
 use Rattle.kql_values.specs.Growing.{Growing, closed, started, with_cell}
-use Rattle.parse_op.specs.Filled.{AreEnds, grown, has_row, parsed_grid}
+use Rattle.parse_op.specs.Filled.{AreEnds, IsNextColumn, grown, has_row, item_absent, item_values, parsed_grid}
 use Rattle.parse_op.specs.Search.{Answers, ends_in, is_place}
 use Rattle.parse_op.specs.declared.slot.Slot.{Slot}
 use Rattle.parse_op.proofs.CutSteps.{end-parts, place-boundary}
+use Rattle.parse_op.proofs.SlotSteps.{first-place}
 
 -- One cell.
 
@@ -130,9 +131,9 @@ pub first-order : (t : List ℕ) (start : ℕ) (slot : Slot) (slots behind : Lis
 unfolding AreEnds
 first-order t start slot slots behind h is = (end-parts t start slot.end (subst (λ ss. AreEnds t start (ends_in ss)) is h).0).0
 
-pub first-place : (t : List ℕ) (start : ℕ) (slot : Slot) (slots behind : List Slot) → AreEnds t start (ends_in slots) → slots ≡ slot ∷ behind → is_place t slot.end ≡ true
+pub slot-place : (t : List ℕ) (start : ℕ) (slot : Slot) (slots behind : List Slot) → AreEnds t start (ends_in slots) → slots ≡ slot ∷ behind → is_place t slot.end ≡ true
 unfolding AreEnds
-first-place t start slot slots behind h is = (end-parts t start slot.end (subst (λ ss. AreEnds t start (ends_in ss)) is h).0).1
+slot-place t start slot slots behind h is = (end-parts t start slot.end (subst (λ ss. AreEnds t start (ends_in ss)) is h).0).1
 
 pub later-ends : (t : List ℕ) (start : ℕ) (slot : Slot) (slots behind : List Slot) → AreEnds t start (ends_in slots) → slots ≡ slot ∷ behind → AreEnds t slot.end (ends_in behind)
 unfolding AreEnds
@@ -148,60 +149,120 @@ nothing-more : (xs : List Value) → xs ≡ xs ++ []
 nothing-more [] = refl
 nothing-more (x ∷ xs) = ap (λ ys. x ∷ ys) (nothing-more xs)
 
-pub no-piece : (old new : Growing) (items : List PatItem) (t : List ℕ) (start : ℕ) (es : List ℕ) → length items ≡ 0 → new ≡ old → new ≡ has_row old (old.row ++ pieces_values items t start es)
-unfolding has_row pieces_values
-no-piece old new [] t start es none e = e ∙ ap (λ r. has_row old r) (nothing-more old.row)
-no-piece old new (p ∷ ps) t start es none e = absurd (omega (arith, none))
+-- One item.
 
-pub fill-column : {A E : Type 0} (r : Result A E) (old mid new : Growing) (items later : List PatItem) (p : PatItem) (name : List ℕ) (k : Kind) (slots behind : List Slot) (slot : Slot) (t : List ℕ) (start : ℕ) (piece : List ℕ) → items ≡ p ∷ later → p ≡ item.Column name k → slots ≡ slot ∷ behind → piece ≡ slice_range t start slot.end → mid ≡ with_cell old (piece_value k piece) → OnOk r (new ≡ has_row mid (mid.row ++ pieces_values later t slot.end (ends_in behind))) → OnOk r (new ≡ has_row old (old.row ++ pieces_values items t start (ends_in slots)))
-unfolding has_row pieces_values
-fill-column r old mid new items later p name k slots behind slot t start piece is at are cut made h =
+pub star-adds : (g : Growing) (p : PatItem) (piece : List ℕ) → p ≡ item.Star → g ≡ has_row g (g.row ++ item_values p piece)
+unfolding has_row item_values
+star-adds g p piece at = ap (λ r. has_row g r) (nothing-more g.row) ∙ ap (λ q. has_row g (g.row ++ item_values q piece)) (sym at)
+
+pub literal-adds : (g : Growing) (p : PatItem) (x piece : List ℕ) → p ≡ item.Literal x → g ≡ has_row g (g.row ++ item_values p piece)
+unfolding has_row item_values
+literal-adds g p x piece at = ap (λ r. has_row g r) (nothing-more g.row) ∙ ap (λ q. has_row g (g.row ++ item_values q piece)) (sym at)
+
+pub column-adds : {A E : Type 0} (r : Result A E) (old new : Growing) (p : PatItem) (name : List ℕ) (k : Kind) (piece : List ℕ) → p ≡ item.Column name k → OnOk r (new ≡ with_cell old (piece_value k piece)) → OnOk r (new ≡ has_row old (old.row ++ item_values p piece))
+unfolding has_row item_values
+column-adds r old new p name k piece at h =
+    on-ok (new ≡ with_cell old (piece_value k piece)) (new ≡ has_row old (old.row ++ item_values p piece)) r (λ e. e ∙ ap (λ q. has_row old (old.row ++ item_values q piece)) (sym at)) h
+
+pub star-lacks : (g : Growing) (p : PatItem) → p ≡ item.Star → g ≡ has_row g (g.row ++ item_absent p)
+unfolding has_row item_absent
+star-lacks g p at = ap (λ r. has_row g r) (nothing-more g.row) ∙ ap (λ q. has_row g (g.row ++ item_absent q)) (sym at)
+
+pub literal-lacks : (g : Growing) (p : PatItem) (x : List ℕ) → p ≡ item.Literal x → g ≡ has_row g (g.row ++ item_absent p)
+unfolding has_row item_absent
+literal-lacks g p x at = ap (λ r. has_row g r) (nothing-more g.row) ∙ ap (λ q. has_row g (g.row ++ item_absent q)) (sym at)
+
+pub column-lacks : {A E : Type 0} (r : Result A E) (old new : Growing) (v : Value) (p : PatItem) (name : List ℕ) (k : Kind) → p ≡ item.Column name k → v ≡ absent k → OnOk r (new ≡ with_cell old v) → OnOk r (new ≡ has_row old (old.row ++ item_absent p))
+unfolding has_row item_absent
+column-lacks r old new v p name k at shown h =
+    on-ok (new ≡ with_cell old v) (new ≡ has_row old (old.row ++ item_absent p)) r (λ e. e ∙ (ap (λ x. with_cell old x) shown ∙ ap (λ q. has_row old (old.row ++ item_absent q)) (sym at))) h
+
+pub its-column : (g : Growing) (p : PatItem) (name : List ℕ) (k : Kind) → p ≡ item.Column name k → IsNextColumn g p → IsSomeAnd (slice_get g.grid.columns (length g.row)) (λ c. c.kind ≡ k)
+unfolding IsNextColumn
+its-column g p name k at h = subst (IsNextColumn g) at h
+
+pub ruleset item_steps = (star-adds, literal-adds, column-adds, star-lacks, literal-lacks, column-lacks, its-column, shows-kind, shows-form)
+
+-- All items.
+
+next-of : (g : Growing) (items later : List PatItem) (p : PatItem) → drop (length g.row) g.grid.columns ≡ pattern_columns items → items ≡ p ∷ later → IsNextColumn g p
+unfolding IsNextColumn
+next-of g items later item.Star left is = tt
+next-of g items later (item.Literal x) left is = tt
+next-of g items later (item.Column name k) left is = column-next g.grid.columns g.row items later (item.Column name k) name k left is refl
+
+pub next-column : (g : Growing) (items later : List PatItem) (p : PatItem) → drop (length g.row) g.grid.columns ≡ pattern_columns items → items ≡ p ∷ later → IsNextColumn g p
+next-column g items later p left is = next-of g items later p left is
+
+same-columns : (g mid : Growing) (cs : List Column) → drop (length g.row) g.grid.columns ≡ cs → mid ≡ has_row g (g.row ++ []) → drop (length mid.row) mid.grid.columns ≡ cs
+unfolding has_row
+same-columns g mid cs left made =
+    ap (λ (h : Growing). drop (length h.row) h.grid.columns) made ∙ (ap (λ (r : List Value). drop (length r) g.grid.columns) (sym (nothing-more g.row)) ∙ left)
+
+pub columns-left : (g mid : Growing) (p : PatItem) (piece : List ℕ) (items later : List PatItem) → drop (length g.row) g.grid.columns ≡ pattern_columns items → items ≡ p ∷ later → mid ≡ has_row g (g.row ++ item_values p piece) → drop (length mid.row) mid.grid.columns ≡ pattern_columns later
+unfolding has_row item_values
+columns-left g mid item.Star piece items later left is made = same-columns g mid (pattern_columns later) (columns-past-star (drop (length g.row) g.grid.columns) items later item.Star left is refl) made
+columns-left g mid (item.Literal x) piece items later left is made = same-columns g mid (pattern_columns later) (columns-past-literal (drop (length g.row) g.grid.columns) items later (item.Literal x) x left is refl) made
+columns-left g mid (item.Column name k) piece items later left is made = columns-behind g mid (piece_value k piece) items later (item.Column name k) name k left is refl made
+
+by-item : (p : PatItem) (later : List PatItem) (t : List ℕ) (start end : ℕ) (es : List ℕ) → item_values p (slice_range t start end) ++ pieces_values later t end es ≡ pieces_values (p ∷ later) t start (end ∷ es)
+unfolding item_values pieces_values
+by-item item.Star later t start end es = refl
+by-item (item.Literal x) later t start end es = refl
+by-item (item.Column name k) later t start end es = refl
+
+pub pieces-left : (g mid total : Growing) (p : PatItem) (t : List ℕ) (start : ℕ) (piece : List ℕ) (items later : List PatItem) (slot : Slot) (slots behind : List Slot) → items ≡ p ∷ later → slots ≡ slot ∷ behind → piece ≡ slice_range t start slot.end → mid ≡ has_row g (g.row ++ item_values p piece) → has_row g (g.row ++ pieces_values items t start (ends_in slots)) ≡ total → has_row mid (mid.row ++ pieces_values later t slot.end (ends_in behind)) ≡ total
+unfolding has_row
+pieces-left g mid total p t start piece items later slot slots behind is are cut made whole =
     let rest = pieces_values later t slot.end (ends_in behind) in
-    let all : piece_value k piece ∷ rest ≡ pieces_values items t start (ends_in slots) =
-    ap (λ x. piece_value k x ∷ rest) cut ∙ sym (ap (λ xs. pieces_values xs t start (ends_in slots)) (is ∙ ap (λ q. q ∷ later) at) ∙ ap (λ ss. pieces_values (item.Column name k ∷ later) t start (ends_in ss)) are) in
-    on-ok (new ≡ has_row mid (mid.row ++ rest)) (new ≡ has_row old (old.row ++ pieces_values items t start (ends_in slots))) r (λ e. e ∙ (ap (λ (g : Growing). has_row g (g.row ++ rest)) made ∙ ap (λ x. has_row old x) (append_assoc old.row (piece_value k piece ∷ []) rest ∙ ap (λ x. old.row ++ x) all))) h
+    let all : item_values p piece ++ rest ≡ pieces_values items t start (ends_in slots) =
+    ap (λ x. item_values p x ++ rest) cut ∙ (by-item p later t start slot.end (ends_in behind) ∙ sym (ap (λ xs. pieces_values xs t start (ends_in slots)) is ∙ ap (λ ss. pieces_values (p ∷ later) t start (ends_in ss)) are)) in
+    ap (λ (h : Growing). has_row h (h.row ++ rest)) made ∙ (ap (λ r. has_row g r) (append_assoc g.row (item_values p piece) rest) ∙ (ap (λ x. has_row g (g.row ++ x)) all ∙ whole))
 
-pub fill-star : {A E : Type 0} (r : Result A E) (old new : Growing) (items later : List PatItem) (p : PatItem) (slots behind : List Slot) (slot : Slot) (t : List ℕ) (start : ℕ) → items ≡ p ∷ later → p ≡ item.Star → slots ≡ slot ∷ behind → OnOk r (new ≡ has_row old (old.row ++ pieces_values later t slot.end (ends_in behind))) → OnOk r (new ≡ has_row old (old.row ++ pieces_values items t start (ends_in slots)))
+pub pieces-done : (g total : Growing) (items : List PatItem) (t : List ℕ) (start : ℕ) (es : List ℕ) → length items ≡ 0 → has_row g (g.row ++ pieces_values items t start es) ≡ total → g ≡ total
 unfolding has_row pieces_values
-fill-star r old new items later p slots behind slot t start is at are h =
-    let all : pieces_values later t slot.end (ends_in behind) ≡ pieces_values items t start (ends_in slots) =
-    sym (ap (λ xs. pieces_values xs t start (ends_in slots)) (is ∙ ap (λ q. q ∷ later) at) ∙ ap (λ ss. pieces_values (item.Star ∷ later) t start (ends_in ss)) are) in
-    on-ok (new ≡ has_row old (old.row ++ pieces_values later t slot.end (ends_in behind))) (new ≡ has_row old (old.row ++ pieces_values items t start (ends_in slots))) r (λ e. e ∙ ap (λ x. has_row old (old.row ++ x)) all) h
+pieces-done g total [] t start es none whole = ap (λ r. has_row g r) (nothing-more g.row) ∙ whole
+pieces-done g total (p ∷ ps) t start es none whole = absurd (omega (arith, none))
 
-pub fill-literal : {A E : Type 0} (r : Result A E) (old new : Growing) (items later : List PatItem) (p : PatItem) (w : List ℕ) (slots behind : List Slot) (slot : Slot) (t : List ℕ) (start : ℕ) → items ≡ p ∷ later → p ≡ item.Literal w → slots ≡ slot ∷ behind → OnOk r (new ≡ has_row old (old.row ++ pieces_values later t slot.end (ends_in behind))) → OnOk r (new ≡ has_row old (old.row ++ pieces_values items t start (ends_in slots)))
-unfolding has_row pieces_values
-fill-literal r old new items later p w slots behind slot t start is at are h =
-    let all : pieces_values later t slot.end (ends_in behind) ≡ pieces_values items t start (ends_in slots) =
-    sym (ap (λ xs. pieces_values xs t start (ends_in slots)) (is ∙ ap (λ q. q ∷ later) at) ∙ ap (λ ss. pieces_values (item.Literal w ∷ later) t start (ends_in ss)) are) in
-    on-ok (new ≡ has_row old (old.row ++ pieces_values later t slot.end (ends_in behind))) (new ≡ has_row old (old.row ++ pieces_values items t start (ends_in slots))) r (λ e. e ∙ ap (λ x. has_row old (old.row ++ x)) all) h
+pub pieces-without-slot : (g total : Growing) (items later : List PatItem) (p : PatItem) (slots : List Slot) → items ≡ p ∷ later → length slots ≡ length items → length slots ≡ 0 → g ≡ total
+pieces-without-slot g total [] later p slots is same none = cc
+pieces-without-slot g total (q ∷ items) later p slots is same none = absurd (omega (arith, same, none))
 
-pub ruleset piece_steps = (column-next, columns-behind, columns-past-star, columns-past-literal, first-order, first-place, later-ends, place-boundary, no-piece, fill-column, fill-star, fill-literal)
+pub count-left : (items later : List PatItem) (p : PatItem) (slot : Slot) (slots behind : List Slot) → items ≡ p ∷ later → slots ≡ slot ∷ behind → length slots ≡ length items → length behind ≡ length later
+count-left items later p slot slots behind is are same =
+    let a : length slots ≡ length (slot ∷ behind) = ap (λ (xs : List Slot). length xs) are in
+    let b : length items ≡ length (p ∷ later) = ap (λ (xs : List PatItem). length xs) is in
+    omega (arith, a, b, same)
+
+pub ruleset piece_steps = (next-column, columns-left, first-order, slot-place, later-ends, place-boundary, pieces-left, pieces-done, pieces-without-slot, count-left)
 
 -- Absent rows.
 
-pub no-absent : (old new : Growing) (items : List PatItem) → length items ≡ 0 → new ≡ old → new ≡ has_row old (old.row ++ absent_row (pattern_columns items))
-unfolding has_row absent_row pattern_columns
-no-absent old new [] none e = e ∙ ap (λ r. has_row old r) (nothing-more old.row)
-no-absent old new (p ∷ ps) none e = absurd (omega (arith, none))
+pub columns-lacked : (g mid : Growing) (p : PatItem) (items later : List PatItem) → drop (length g.row) g.grid.columns ≡ pattern_columns items → items ≡ p ∷ later → mid ≡ has_row g (g.row ++ item_absent p) → drop (length mid.row) mid.grid.columns ≡ pattern_columns later
+unfolding has_row item_absent
+columns-lacked g mid item.Star items later left is made = same-columns g mid (pattern_columns later) (columns-past-star (drop (length g.row) g.grid.columns) items later item.Star left is refl) made
+columns-lacked g mid (item.Literal x) items later left is made = same-columns g mid (pattern_columns later) (columns-past-literal (drop (length g.row) g.grid.columns) items later (item.Literal x) x left is refl) made
+columns-lacked g mid (item.Column name k) items later left is made = columns-behind g mid (absent k) items later (item.Column name k) name k left is refl made
 
-pub absent-column : {A E : Type 0} (r : Result A E) (old mid new : Growing) (v : Value) (items later : List PatItem) (p : PatItem) (name : List ℕ) (k : Kind) → items ≡ p ∷ later → p ≡ item.Column name k → v ≡ absent k → mid ≡ with_cell old v → OnOk r (new ≡ has_row mid (mid.row ++ absent_row (pattern_columns later))) → OnOk r (new ≡ has_row old (old.row ++ absent_row (pattern_columns items)))
-unfolding has_row absent_row
-absent-column r old mid new v items later p name k is at shown made h =
+absent-by-item : (p : PatItem) (later : List PatItem) → item_absent p ++ absent_row (pattern_columns later) ≡ absent_row (pattern_columns (p ∷ later))
+unfolding item_absent absent_row pattern_columns
+absent-by-item item.Star later = refl
+absent-by-item (item.Literal x) later = refl
+absent-by-item (item.Column name k) later = refl
+
+pub absent-left : (g mid total : Growing) (p : PatItem) (items later : List PatItem) → items ≡ p ∷ later → mid ≡ has_row g (g.row ++ item_absent p) → has_row g (g.row ++ absent_row (pattern_columns items)) ≡ total → has_row mid (mid.row ++ absent_row (pattern_columns later)) ≡ total
+unfolding has_row
+absent-left g mid total p items later is made whole =
     let rest = absent_row (pattern_columns later) in
-    let all : v ∷ rest ≡ absent_row (pattern_columns items) = ap (λ x. x ∷ rest) shown ∙ sym (ap absent_row (of-column items later p name k is at)) in
-    on-ok (new ≡ has_row mid (mid.row ++ rest)) (new ≡ has_row old (old.row ++ absent_row (pattern_columns items))) r (λ e. e ∙ (ap (λ (g : Growing). has_row g (g.row ++ rest)) made ∙ ap (λ x. has_row old x) (append_assoc old.row (v ∷ []) rest ∙ ap (λ x. old.row ++ x) all))) h
+    let all : item_absent p ++ rest ≡ absent_row (pattern_columns items) = absent-by-item p later ∙ sym (ap (λ xs. absent_row (pattern_columns xs)) is) in
+    ap (λ (h : Growing). has_row h (h.row ++ rest)) made ∙ (ap (λ r. has_row g r) (append_assoc g.row (item_absent p) rest) ∙ (ap (λ x. has_row g (g.row ++ x)) all ∙ whole))
 
-pub absent-star : {A E : Type 0} (r : Result A E) (old new : Growing) (items later : List PatItem) (p : PatItem) → items ≡ p ∷ later → p ≡ item.Star → OnOk r (new ≡ has_row old (old.row ++ absent_row (pattern_columns later))) → OnOk r (new ≡ has_row old (old.row ++ absent_row (pattern_columns items)))
-unfolding has_row pattern_columns
-absent-star r old new items later p is at h =
-    on-ok (new ≡ has_row old (old.row ++ absent_row (pattern_columns later))) (new ≡ has_row old (old.row ++ absent_row (pattern_columns items))) r (λ e. e ∙ ap (λ xs. has_row old (old.row ++ absent_row (pattern_columns xs))) (sym (is ∙ ap (λ q. q ∷ later) at))) h
+pub absent-done : (g total : Growing) (items : List PatItem) → length items ≡ 0 → has_row g (g.row ++ absent_row (pattern_columns items)) ≡ total → g ≡ total
+unfolding has_row absent_row pattern_columns
+absent-done g total [] none whole = ap (λ r. has_row g r) (nothing-more g.row) ∙ whole
+absent-done g total (p ∷ ps) none whole = absurd (omega (arith, none))
 
-pub absent-literal : {A E : Type 0} (r : Result A E) (old new : Growing) (items later : List PatItem) (p : PatItem) (w : List ℕ) → items ≡ p ∷ later → p ≡ item.Literal w → OnOk r (new ≡ has_row old (old.row ++ absent_row (pattern_columns later))) → OnOk r (new ≡ has_row old (old.row ++ absent_row (pattern_columns items)))
-unfolding has_row pattern_columns
-absent-literal r old new items later p w is at h =
-    on-ok (new ≡ has_row old (old.row ++ absent_row (pattern_columns later))) (new ≡ has_row old (old.row ++ absent_row (pattern_columns items))) r (λ e. e ∙ ap (λ xs. has_row old (old.row ++ absent_row (pattern_columns xs))) (sym (is ∙ ap (λ q. q ∷ later) at))) h
-
-pub ruleset absent_steps = (column-next, columns-behind, columns-past-star, columns-past-literal, shows-kind, shows-form, no-absent, absent-column, absent-star, absent-literal)
+pub ruleset absent_steps = (next-column, columns-lacked, absent-left, absent-done)
 
 -- A row.
 
@@ -271,7 +332,7 @@ absent-whole ps old mid is bare e =
 pub row-closed : {A E : Type 0} (r : Result A E) (old mid new : Growing) (row : List Value) → mid ≡ has_row old row → OnOk r (new ≡ closed mid) → OnOk r (new ≡ closed (has_row old row))
 row-closed r old mid new row is h = on-ok (new ≡ closed mid) (new ≡ closed (has_row old row)) r (λ e. e ∙ ap (λ (g : Growing). closed g) is) h
 
-pub ruleset row_steps = (are-ends, all-columns, row-of-pieces, row-of-absent, pieces-whole, absent-whole, row-closed)
+pub ruleset row_steps = (first-place, are-ends, all-columns, row-of-pieces, row-of-absent, pieces-whole, absent-whole, row-closed)
 
 -- A table.
 

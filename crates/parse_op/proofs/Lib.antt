@@ -7,3 +7,5 @@ pub mod ParseSteps
 pub mod PieceSteps
 pub mod SearchSteps
 pub mod SlotSteps
+pub mod StackSteps
+pub mod TurnSteps

@@ -1,13 +1,15 @@
 -- How long a piece is that reads as a value of a type.
-use Rattle.std.proofs.Common.{◌≡◌, ◌≤◌, ◌+◌, ◌-◌, ◌*◌, ◌^◌, ◌&&◌, ◌||◌, ◌==◌, ℕ, zero, suc, Bool, true, false, List, [], ◌∷◌, length, take, drop, refl, sym, ap, ◌∙◌, arith, inl, inr, subst, length-drop, length-take-le}
-use Rattle.std.specs.Prelude.{if◌then◌else◌, None, Option, Some, bytes_eq, codes, is_some, nat_le, nat_lt, not, option_and_then, option_map, pos, neg_ℤ, slice_index, slice_range}
-use Rattle.std.specs.Char.{is_ascii_digit, to_ascii_lowercase}
+use Rattle.std.proofs.Common.{◌≡◌, ◌<◌, ◌≤◌, ◌+◌, ◌-◌, ◌*◌, ◌^◌, ◌&&◌, ◌||◌, ◌==◌, ℕ, zero, suc, Bool, true, false, List, [], ◌∷◌, length, take, drop, refl, sym, ap, ◌∙◌, arith, inl, inr, subst, length-drop, length-take-le}
+use Rattle.std.specs.Prelude.{if◌then◌else◌, None, Option, Some, bytes_eq, codes, is_some, min, nat_le, nat_lt, not, option_and_then, option_map, pos, neg_ℤ, slice_index, slice_range}
+use Rattle.std.specs.Char.{digit_value, is_ascii_digit, to_ascii_lowercase}
 use Rattle.std.specs.List.{position, position_or_len, prefix_len}
 use Rattle.std.specs.Str.{all_ascii_digits, str_eq_ignore_ascii_case, str_to_ascii_lowercase}
-use Rattle.std.specs.Str.Parse.{digits_value}
-use Rattle.std.proofs.lemmas.Bool.{and_parts, cases_Bool, leb-true}
+use Rattle.std.specs.Str.Parse.{digits_value, digits_value_after}
+use Rattle.std.proofs.lemmas.Bool.{and_parts, cases_Bool, eqb-false, eqb-true, leb-false, leb-true, ltb-false, ltb-true}
 use Rattle.std.proofs.lemmas.List.{length-map}
 use Rattle.std.proofs.lemmas.Slice.Eq.{bytes_eq-Decides}
+use Rattle.std.proofs.Math.Nat.{pow-le-pow_right, pow-suc}
+use Rattle.std.proofs.Math.Seq.{take-take}
 use Rattle.kql_ticks.specs.Forms.{amount_in, before_z, clock_in, date_in, days_in, fraction_in, is_of_number, length_from, length_in, minutes_in, moment_in, quantity_in, seconds_in, span_in, time_in, time_of_day_in, unit_in}
 use Rattle.kql_ticks.specs.Ranges.{fit}
 use Rattle.kql_ticks.specs.Numbers.{◌>>=◌, number}
@@ -18,7 +20,7 @@ use Rattle.kql_cells.specs.declared.value.Kind.TheVariants as kind
 use Rattle.kql_cells.specs.declared.value.Value.TheVariants as value
 use Rattle.kql_scalar_fns.specs.Conversion.{moment_written}
 use Rattle.kql_meaning.specs.Cuts.{behind_dash, digits_length, filled_piece_read, number_length, piece_read}
-use Rattle.parse_op.specs.Search.{LimitsPieces, span_limit}
+use Rattle.parse_op.specs.Search.{LimitsPieces, NoPieceBelow, is_zero, long_limit, span_number}
 
 -- Options.
 
@@ -270,8 +272,8 @@ length-short : (t : List ℕ) → is_some (length_in t) ≡ true → length t �
 unfolding length_in
 length-short t h = by-place (position (λ b. b == colon) t) t h
 
-span-short : (m : ℕ) (rest : List ℕ) → m ≤ length rest → is_some (span_in (take m rest)) ≡ true → m ≤ span_limit rest
-unfolding span_in span_limit
+span-short : (m : ℕ) (rest : List ℕ) → m ≤ length rest → is_some (span_in (take m rest)) ≡ true → m ≤ span_number rest + 17
+unfolding span_in span_number
 span-short zero rest low h = omega arith
 span-short (suc m) [] low h = absurd (omega (arith, low))
 span-short (suc m) (b ∷ bs) low h =
@@ -286,6 +288,156 @@ span-short (suc m) (b ∷ bs) low h =
           let short = length-short (b ∷ take m bs) (first-some (λ (n : ℕ). fit (pos n)) (length_in (b ∷ take m bs)) steps) in
           rw other (omega (arith, short, size, prefix-take is_of_number (suc m) (b ∷ bs)))
     ]
+
+-- A timespan is longer than its number.
+
+prefix-inside : (p : ℕ → Bool) (n : ℕ) (xs : List ℕ) → n ≤ length xs → prefix_len p (take n xs) < n → prefix_len p xs < n
+prefix-inside p zero xs low h = absurd (omega (arith, h))
+prefix-inside p (suc n) [] low h = absurd (omega (arith, low))
+prefix-inside p (suc n) (x ∷ xs) low h = elim (cases_Bool (p x)) [
+  | inl t ↦ let cut : 1 + prefix_len p (take n xs) < suc n = rw t at h in rw t (omega (arith, prefix-inside p n xs (omega (arith, low)) (omega (arith, cut))))
+  | inr f ↦ rw f (omega arith)
+]
+
+prefix-less : (p q : ℕ → Bool) (xs : List ℕ) → ((x : ℕ) → p x ≡ true → q x ≡ true) → prefix_len p xs ≤ prefix_len q xs
+prefix-less p q [] h = omega arith
+prefix-less p q (x ∷ xs) h = elim (cases_Bool (p x)) [
+  | inl t ↦ rw (t, h x t) (omega (arith, prefix-less p q xs h))
+  | inr f ↦ rw f (omega arith)
+]
+
+no-colon : (x : ℕ) → is_of_number x ≡ true → not (x == colon) ≡ true
+no-colon x h = elim (cases_Bool (x == colon)) [
+  | inl same ↦ let clash : false ≡ true = subst (λ n. is_of_number n ≡ true) (eqb-true x colon same) h in cc
+  | inr other ↦ rw other refl
+]
+
+clock-inside : (c : ℕ) (t : List ℕ) → position (λ b. b == colon) t ≡ Some c → is_some (clock_in c t) ≡ true → prefix_len is_of_number t < length t
+unfolding clock_in
+clock-inside c t at h = elim (cases_Bool (nat_le 2 c && nat_le (c + 6) (length t))) [
+  | inl both ↦
+      let parts = and_parts (nat_le 2 c) (nat_le (c + 6) (length t)) both in
+      let place : c ≡ prefix_len (λ x. not (x == colon)) t = place-is (λ b. b == colon) t c at in
+      omega (arith, leb-true (c + 6) (length t) parts.1, place, prefix-less is_of_number (λ x. not (x == colon)) t no-colon)
+  | inr other ↦ let clash : false ≡ true = rw other at h in cc
+]
+
+unit-some : (t : List ℕ) → is_some (unit_in t) ≡ true → 1 ≤ length t
+unfolding unit_in
+unit-some [] h = let clash : false ≡ true = h in cc
+unit-some (b ∷ bs) h = omega arith
+
+quantity-inside : (t : List ℕ) (o : Option ℕ) → position (λ b. not (is_of_number b)) t ≡ o → is_some (quantity_in o t) ≡ true → prefix_len is_of_number t < length t
+unfolding quantity_in
+quantity-inside t None at h = cc
+quantity-inside t (Some i) at h =
+    let unit = unit-some (drop i t) (first-some (λ (unit : ℕ). amount_in unit (position (λ b. b == dot) (take i t)) (take i t)) (unit_in (drop i t)) h) in
+    let place = place-is (λ b. not (is_of_number b)) t i at in
+    let same = prefix-same (λ x. not (not (is_of_number x))) is_of_number t (λ x. twice-not (is_of_number x)) in
+    let here : i ≡ prefix_len is_of_number t = place ∙ same in
+    omega (arith, unit, here, length-drop i t)
+
+inside-by-place : (o : Option ℕ) (t : List ℕ) → position (λ b. b == colon) t ≡ o → is_some (length_from o t) ≡ true → prefix_len is_of_number t < length t
+unfolding length_from
+inside-by-place (Some c) t at h = clock-inside c t at h
+inside-by-place None t at h = quantity-inside t (position (λ b. not (is_of_number b)) t) refl h
+
+length-inside : (t : List ℕ) → is_some (length_in t) ≡ true → prefix_len is_of_number t < length t
+unfolding length_in
+length-inside t h = inside-by-place (position (λ b. b == colon) t) t refl h
+
+span-inside : (m : ℕ) (rest : List ℕ) → m ≤ length rest → is_some (span_in (take m rest)) ≡ true → span_number rest + 1 ≤ m
+unfolding span_in span_number
+span-inside zero [] low h = let clash : false ≡ true = h in cc
+span-inside zero (b ∷ bs) low h = let clash : false ≡ true = h in cc
+span-inside (suc m) [] low h = absurd (omega (arith, low))
+span-inside (suc m) (b ∷ bs) low h =
+    let size = length-take-le m bs (omega (arith, low)) in
+    elim (cases_Bool (b == dash)) [
+      | inl minus ↦
+          let steps : is_some (option_and_then (λ (n : ℕ). fit (neg_ℤ (pos n))) (length_in (take m bs))) ≡ true = rw minus at h in
+          let inside = length-inside (take m bs) (first-some (λ (n : ℕ). fit (neg_ℤ (pos n))) (length_in (take m bs)) steps) in
+          rw minus (omega (arith, prefix-inside is_of_number m bs (omega (arith, low)) (omega (arith, inside, size))))
+      | inr other ↦
+          let steps : is_some (option_and_then (λ (n : ℕ). fit (pos n)) (length_in (b ∷ take m bs))) ≡ true = rw other at h in
+          let inside : prefix_len is_of_number (take (suc m) (b ∷ bs)) < length (take (suc m) (b ∷ bs)) = length-inside (b ∷ take m bs) (first-some (λ (n : ℕ). fit (pos n)) (length_in (b ∷ take m bs)) steps) in
+          rw other (omega (arith, prefix-inside is_of_number (suc m) (b ∷ bs) low (omega (arith, inside, size))))
+    ]
+
+-- A long has few digits behind its zeros.
+
+digit-some : (d : ℕ) → (d == 48) ≡ false → 1 ≤ digit_value d
+digit-some d other = elim (cases_Bool (nat_lt d 48)) [
+  | inl low ↦ rw low (omega arith)
+  | inr a ↦ elim (cases_Bool (nat_lt d 58)) [
+    | inl digit ↦ rw (a, digit) (omega (arith, ltb-false d 48 a, eqb-false d 48 other))
+    | inr b ↦ elim (cases_Bool (nat_lt d 65)) [
+      | inl low ↦ rw (a, b, low) (omega arith)
+      | inr c ↦ elim (cases_Bool (nat_lt d 91)) [
+        | inl letter ↦ rw (a, b, c, letter) (omega (arith, ltb-false d 65 c))
+        | inr e ↦ elim (cases_Bool (nat_lt d 97)) [
+          | inl low ↦ rw (a, b, c, e, low) (omega arith)
+          | inr f ↦ elim (cases_Bool (nat_lt d 123)) [
+            | inl letter ↦ rw (a, b, c, e, f, letter) (omega (arith, ltb-false d 97 f))
+            | inr high ↦ rw (a, b, c, e, f, high) (omega arith)
+          ]
+        ]
+      ]
+    ]
+  ]
+]
+
+digits-grow : (k m n : ℕ) (ds : List ℕ) → m ≡ k + length ds → 10 ^ k ≤ n → 10 ^ m ≤ digits_value_after 10 n ds
+digits-grow k m n [] e h = let same : k ≡ m = omega (arith, e) in subst (λ j. 10 ^ j ≤ n) same h
+digits-grow k m n (d ∷ ds) e h =
+    let more : 10 ^ suc k ≤ n * 10 + digit_value d = omega (arith, pow-suc 10 k, h) in
+    digits-grow (suc k) m (n * 10 + digit_value d) ds (omega (arith, e)) more
+
+few-digits : (ds : List ℕ) → 10 ^ length ds ≤ 2 ^ 63 → length ds ≤ 18
+few-digits ds h = elim (cases_Bool (nat_le (length ds) 18)) [
+  | inl few ↦ leb-true (length ds) 18 few
+  | inr many ↦
+      let high : 19 ≤ length ds = omega (arith, leb-false (length ds) 18 many) in
+      let most : 10 ^ 19 ≤ 10 ^ length ds = pow-le-pow_right {n = 10} (omega arith) high in
+      absurd (omega (arith, most, h))
+]
+
+zeros-first : (ds : List ℕ) → digits_value 10 ds ≤ 2 ^ 63 → length ds ≤ prefix_len is_zero ds + 19
+zeros-first [] h = omega arith
+zeros-first (d ∷ ds) h = elim (cases_Bool (d == 48)) [
+  | inl null ↦
+      let later : digits_value 10 ds ≤ 2 ^ 63 = subst (λ x. digits_value_after 10 (0 * 10 + digit_value x) ds ≤ 2 ^ 63) (eqb-true d 48 null) h in
+      rw null (omega (arith, zeros-first ds later))
+  | inr other ↦
+      let start : 10 ^ 0 ≤ 0 * 10 + digit_value d = omega (arith, digit-some d other) in
+      let grown : 10 ^ length ds ≤ digits_value_after 10 (0 * 10 + digit_value d) ds = digits-grow 0 (length ds) (0 * 10 + digit_value d) ds (omega arith) start in
+      omega (arith, few-digits ds (omega (arith, grown, h)))
+]
+
+second-of : {A : Type 0} (a b : Bool) (x : A) → is_some (if a && b then Some x else None) ≡ true → b ≡ true
+second-of true true x h = refl
+second-of true false x h = h
+second-of false b x h = cc
+
+long-limited : (m : ℕ) (rest : List ℕ) → m ≤ length rest → is_some (long_written (take m rest)) ≡ true → m ≤ long_limit rest
+unfolding long_written long_limit
+long-limited zero rest low h = omega arith
+long-limited (suc m) [] low h = absurd (omega (arith, low))
+long-limited (suc m) (b ∷ bs) low h = elim (cases_Bool (b == 45)) [
+  | inl minus ↦
+      let some = rw minus at h in
+      let size = length-take-le m bs (omega (arith, low)) in
+      let value = second-of (is_whole (take m bs)) (nat_le (digits_value 10 (take m bs)) (2 ^ 63)) (neg_ℤ (pos (digits_value 10 (take m bs)))) some in
+      rw minus (omega (arith, zeros-first (take m bs) (leb-true (digits_value 10 (take m bs)) (2 ^ 63) value), size, prefix-take is_zero m bs))
+  | inr other ↦
+      let some = rw other at h in
+      let size = length-take-le m bs (omega (arith, low)) in
+      let value = second-of (is_whole (b ∷ take m bs)) (nat_lt (digits_value 10 (b ∷ take m bs)) (2 ^ 63)) (pos (digits_value 10 (b ∷ take m bs))) some in
+      let small : digits_value 10 (b ∷ take m bs) ≤ 2 ^ 63 = omega (arith, ltb-true (digits_value 10 (b ∷ take m bs)) (2 ^ 63) value) in
+      let few : suc (length (take m bs)) ≤ prefix_len is_zero (b ∷ take m bs) + 19 = zeros-first (b ∷ take m bs) small in
+      let more : prefix_len is_zero (b ∷ take m bs) ≤ prefix_len is_zero (b ∷ bs) = prefix-take is_zero (suc m) (b ∷ bs) in
+      rw other (omega (arith, few, size, more))
+]
 
 -- Pieces.
 
@@ -315,11 +467,17 @@ bool-limit k rest is =
     subst (λ x. (m : ℕ) → m ≤ length rest → is_some (piece_read x (take m rest)) ≡ true → m ≤ 5) (sym is)
     (λ m low h. omega (arith, bool-short (take m rest) (bool-piece (take m rest) h), length-take-le m rest low))
 
-pub long-limit : (k : Kind) (rest : List ℕ) (n : ℕ) → k ≡ kind.Long → n ≡ number_length rest → LimitsPieces k rest n
+pub long-limit : (rest : List ℕ) (m limit n : ℕ) → m ≡ long_limit rest → limit ≡ min m (length rest) → n ≡ number_length (take limit rest) → LimitsPieces kind.Long rest n
 unfolding LimitsPieces
-long-limit k rest n is size =
-    subst (λ x. (m : ℕ) → m ≤ length rest → is_some (piece_read x (take m rest)) ≡ true → m ≤ n) (sym is)
-    (λ m low h. omega (arith, long-short m rest low (long-piece (take m rest) h), size))
+long-limit rest m limit n most cut is = λ i low h.
+    let some = long-piece (take i rest) h in
+    let within : i ≤ limit = omega (arith, long-limited i rest low some, most, cut, low) in
+    let size : length (take limit rest) ≡ limit = length-take-le limit rest (omega (arith, cut)) in
+    let same : take i (take limit rest) ≡ take i rest = take-take i limit rest within in
+    omega (arith, long-short i (take limit rest) (omega (arith, within, size)) (ap (λ (xs : List ℕ). is_some (long_written xs)) same ∙ some), is)
+
+pub of-long : (k : Kind) (rest : List ℕ) (n : ℕ) → k ≡ kind.Long → LimitsPieces kind.Long rest n → LimitsPieces k rest n
+of-long k rest n is h = subst (λ x. LimitsPieces x rest n) (sym is) h
 
 pub moment-limit : (k : Kind) (rest : List ℕ) → k ≡ kind.Moment → LimitsPieces k rest 28
 unfolding LimitsPieces
@@ -327,11 +485,21 @@ moment-limit k rest is =
     subst (λ x. (m : ℕ) → m ≤ length rest → is_some (piece_read x (take m rest)) ≡ true → m ≤ 28) (sym is)
     (λ m low h. omega (arith, moment-short (take m rest) (moment-piece (take m rest) h), length-take-le m rest low))
 
-pub span-limit : (k : Kind) (rest : List ℕ) (n : ℕ) → k ≡ kind.Span → n ≡ span_limit rest → LimitsPieces k rest n
+pub span-limit : (k : Kind) (rest : List ℕ) (n : ℕ) → k ≡ kind.Span → n ≡ span_number rest → LimitsPieces k rest (n + 17)
 unfolding LimitsPieces
 span-limit k rest n is size =
-    subst (λ x. (m : ℕ) → m ≤ length rest → is_some (piece_read x (take m rest)) ≡ true → m ≤ n) (sym is)
+    subst (λ x. (m : ℕ) → m ≤ length rest → is_some (piece_read x (take m rest)) ≡ true → m ≤ n + 17) (sym is)
     (λ m low h. omega (arith, span-short m rest low (span-piece (take m rest) h), size))
+
+pub span-least : (k : Kind) (rest : List ℕ) (n : ℕ) → k ≡ kind.Span → n ≡ span_number rest → NoPieceBelow k rest (n + 1)
+unfolding NoPieceBelow
+span-least k rest n is size =
+    subst (λ x. (m : ℕ) → m ≤ length rest → is_some (piece_read x (take m rest)) ≡ true → n + 1 ≤ m) (sym is)
+    (λ m low h. omega (arith, span-inside m rest low (span-piece (take m rest) h), size))
+
+pub no-least : (k : Kind) (rest : List ℕ) → NoPieceBelow k rest 0
+unfolding NoPieceBelow
+no-least k rest = λ m low h. omega arith
 
 pub any-limit : (k : Kind) (rest : List ℕ) → LimitsPieces k rest (length rest)
 unfolding LimitsPieces
@@ -347,6 +515,19 @@ prefix-below p (x ∷ xs) = elim (cases_Bool (p x)) [
 pub numbers-below : (t : List ℕ) (n : ℕ) → n ≡ prefix_len is_of_number t → n ≤ length t
 numbers-below t n is = omega (arith, is, prefix-below is_of_number t)
 
-pub ruleset span_steps = (numbers-below)
+pub zeros-below : (t : List ℕ) (n : ℕ) → n ≡ prefix_len is_zero t → n ≤ length t
+zeros-below t n is = omega (arith, is, prefix-below is_zero t)
 
-pub ruleset limit_steps = (bool-limit, long-limit, moment-limit, span-limit, any-limit)
+pub span-number-below : (t : List ℕ) (n : ℕ) → n ≡ span_number t → n ≤ length t
+unfolding span_number
+span-number-below [] n is = omega (arith, is)
+span-number-below (b ∷ bs) n is = elim (cases_Bool (b == 45)) [
+  | inl minus ↦ let here : n ≡ prefix_len is_of_number bs + 1 = rw minus at is in omega (arith, here, prefix-below is_of_number bs)
+  | inr other ↦ let here : n ≡ prefix_len is_of_number (b ∷ bs) = rw other at is in omega (arith, here, prefix-below is_of_number (b ∷ bs))
+]
+
+pub ruleset span_steps = (numbers-below, zeros-below)
+
+pub ruleset long_steps = (long-limit)
+
+pub ruleset limit_steps = (bool-limit, of-long, moment-limit, span-limit, any-limit, span-least, no-least, span-number-below)

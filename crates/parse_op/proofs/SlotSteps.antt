@@ -1,14 +1,14 @@
 -- What is remembered of an item.
-use Rattle.std.proofs.Common.{◌≡◌, ◌≤◌, ◌⊎◌, ℕ, Bool, true, false, List, [], ◌∷◌, length, refl, sym, ap, ◌∙◌, arith, inl, inr, subst}
-use Rattle.std.specs.Prelude.{IfOk, None, Option, Result, Some, min, nat_le, slice_index_or}
+use Rattle.std.proofs.Common.{◌≡◌, ◌<◌, ◌≤◌, ◌+◌, ◌⊎◌, ℕ, zero, suc, Bool, true, false, List, [], ◌∷◌, length, refl, sym, ap, ◌∙◌, arith, inl, inr, subst, take, take_all}
+use Rattle.std.specs.Prelude.{IfOk, None, Option, Result, Some, min, nat_le, slice_index_or, slice_set}
 use Rattle.std.specs.Str.{IsUtf8}
 use Rattle.std.proofs.lemmas.Str.{IsCharBoundary-start}
 use Rattle.std.proofs.lemmas.Bool.{cases_Bool, leb-false, leb-true}
 use Rattle.kql_bound.specs.declared.parts.PatItem.{PatItem}
 use Rattle.parse_op.specs.declared.slot.Slot.{Slot}
 use Rattle.kql_meaning.specs.Cuts.{cut, is_cut}
-use Rattle.parse_op.specs.Search.{Answers, AreFresh, AreRemembered, IsFresh, IsRemembered, NoneBehind, TakesAny, cut_from, is_place}
-use Rattle.parse_op.proofs.CutSteps.{boundary-place, none-at, none-later, place-within}
+use Rattle.parse_op.specs.Search.{Answers, AreFresh, AreRemembered, IsFresh, IsOpen, IsRemembered, NoneBefore, NoneBehind, TakesAny, cut_from, is_place}
+use Rattle.parse_op.proofs.CutSteps.{boundary-place, later-none, none-at, none-later, place-within}
 
 -- From the lesser of two places on there is none.
 pub from-lesser : (relaxed : Bool) (p : PatItem) (ps : List PatItem) (t : List ℕ) (start place : ℕ) (old new : Slot) → NoneBehind relaxed p ps t start 0 → TakesAny relaxed p ps t start place → new.failed.items ≡ old.failed.items → new.fails_from ≡ min old.fails_from place → IsRemembered relaxed p ps t old → IsRemembered relaxed p ps t new
@@ -35,6 +35,32 @@ one-more relaxed p ps t start old new none same marked h = (
   ],
 )
 
+-- An open slot.
+
+none-beyond : (relaxed : Bool) (p : PatItem) (ps : List PatItem) (t : List ℕ) (start last beyond : ℕ) (slot : Slot) → IsRemembered relaxed p ps t slot → NoneBehind relaxed p ps t start last → beyond ≡ min last slot.fails_from → NoneBehind relaxed p ps t start beyond
+unfolding IsRemembered NoneBehind
+none-beyond relaxed p ps t start last beyond slot h behind is = λ i low. elim (cases_Bool (nat_le last i)) [
+  | inl far ↦ behind i (leb-true last i far)
+  | inr near ↦ later-none relaxed p ps t start i (h.0 i (from i low (leb-false last i near)))
+]
+  where
+    from : (i : ℕ) → beyond ≤ i → i < last → slot.fails_from ≤ i
+    from i low near = omega (arith, low, near, is)
+
+none-before-less : (relaxed : Bool) (p : PatItem) (ps : List PatItem) (t : List ℕ) (start first end : ℕ) → end ≤ first → NoneBefore relaxed p ps t start first → NoneBefore relaxed p ps t start end
+unfolding NoneBefore
+none-before-less relaxed p ps t start first end le h = λ i lt. h i (omega (arith, le, lt))
+
+pub opened : (relaxed : Bool) (p : PatItem) (ps : List PatItem) (t : List ℕ) (start first last end beyond : ℕ) (old : Slot) → is_place t start ≡ true → start ≤ first → NoneBefore relaxed p ps t start first → NoneBehind relaxed p ps t start last → IsRemembered relaxed p ps t old → end ≡ min first (length t + 1) → beyond ≡ min last old.fails_from → IsOpen relaxed p ps t (record old { start = start; end = end; beyond = beyond })
+unfolding IsOpen
+opened relaxed p ps t start first last end beyond old here order before behind h is most =
+    let within = place-within t start here in
+    (here, omega (arith, order, within, is), omega (arith, is), none-before-less relaxed p ps t start first end (omega (arith, is)) before, none-beyond relaxed p ps t start last beyond old h behind most)
+
+pub other-piece : (relaxed : Bool) (p : PatItem) (ps : List PatItem) (t : List ℕ) (start end beyond : ℕ) (old : Slot) → IsRemembered relaxed p ps t old → IsRemembered relaxed p ps t (record old { start = start; end = end; beyond = beyond })
+unfolding IsRemembered
+other-piece relaxed p ps t start end beyond old h = h
+
 -- Nothing is remembered.
 
 fresh-slot : (relaxed : Bool) (p : PatItem) (ps : List PatItem) (t : List ℕ) (size : ℕ) (slot : Slot) → size ≡ length t → IsFresh size slot → IsRemembered relaxed p ps t slot
@@ -50,14 +76,25 @@ fresh-slots relaxed [] t size slots len h = tt
 fresh-slots relaxed (p ∷ ps) t size [] len h = tt
 fresh-slots relaxed (p ∷ ps) t size (s ∷ ss) len h = (fresh-slot relaxed p ps t size s len h.0, fresh-slots relaxed ps t size ss len h.1)
 
-pub none-fresh : (size : ℕ) (slots : List Slot) → length slots ≡ 0 → AreFresh size slots
+pub fresh-at-first : (size : ℕ) (slots : List Slot) → AreFresh size (take 0 slots)
 unfolding AreFresh
-none-fresh size [] h = tt
-none-fresh size (s ∷ ss) h = absurd (omega (arith, h))
+fresh-at-first size [] = tt
+fresh-at-first size (s ∷ ss) = tt
 
-pub more-fresh : (size : ℕ) (slot : Slot) (behind slots : List Slot) → slots ≡ slot ∷ behind → IsFresh size slot → AreFresh size behind → AreFresh size slots
+fresh-set : (size : ℕ) (slots : List Slot) (k m : ℕ) (s' : Slot) → m ≡ k + 1 → k < length slots → AreFresh size (take k slots) → IsFresh size s' → AreFresh size (take m (slice_set slots k s'))
 unfolding AreFresh
-more-fresh size slot behind slots is one more = subst (AreFresh size) (sym is) (one, more)
+fresh-set size [] k m s' e lt h one = absurd (omega (arith, lt))
+fresh-set size (s ∷ ss) k zero s' e lt h one = absurd (omega (arith, e))
+fresh-set size (s ∷ []) zero (suc zero) s' e lt h one = (one, tt)
+fresh-set size (s ∷ s2 ∷ ss) zero (suc zero) s' e lt h one = (one, tt)
+fresh-set size (s ∷ ss) zero (suc (suc m)) s' e lt h one = absurd (omega (arith, e))
+fresh-set size (s ∷ ss) (suc k) (suc m) s' e lt h one = (h.0, fresh-set size ss k m s' (omega (arith, e)) (omega (arith, lt)) h.1 one)
+
+pub fresh-more : (size : ℕ) (slots new : List Slot) (k : ℕ) (s' : Slot) → AreFresh size (take k slots) → k < length slots → IsFresh size s' → new ≡ slice_set slots k s' → AreFresh size (take (k + 1) new)
+fresh-more size slots new k s' h lt one is = subst (λ xs. AreFresh size (take (k + 1) xs)) (sym is) (fresh-set size slots k (k + 1) s' refl lt h one)
+
+pub fresh-all : (size : ℕ) (slots : List Slot) (k : ℕ) → length slots ≤ k → AreFresh size (take k slots) → AreFresh size slots
+fresh-all size slots k le h = subst (AreFresh size) (take_all k slots le) h
 
 -- The cut of a whole text.
 
@@ -79,10 +116,12 @@ pub some-cut : (b : Bool) (o : Option (List ℕ)) (es ends : List ℕ) → b ≡
 unfolding Answers
 some-cut b o es ends e h is = ap Some is ∙ sym (subst (λ x. Answers x o es) e h)
 
-pub ruleset fresh_steps = (none-fresh, more-fresh)
+pub ruleset fresh_steps = (fresh-at-first, fresh-more, fresh-all)
 
-pub ruleset cut_steps = (first-place, fresh-slots, of-whole, no-cut, some-cut)
+pub ruleset cut_steps = (fresh-slots, of-whole, no-cut, some-cut)
 
 pub ruleset slot_steps = (from-lesser, one-more, place-within)
 
 pub ruleset mark_steps = (place-within)
+
+pub ruleset open_steps = (opened, other-piece, place-within)

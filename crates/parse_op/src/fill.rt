@@ -8,7 +8,7 @@ ghost use Rattle.kql_cells.specs.declared.value.Kind.TheVariants.{Dynamic};
 ghost use Rattle.kql_meaning.specs.Parse.{parsed_values, pattern_columns, piece_value, pieces_values};
 ghost use Rattle.kql_meaning.specs.Tables.{absent_row};
 ghost use Rattle.kql_values.specs.Growing.{closed, with_cell};
-ghost use Rattle.parse_op.specs.Filled.{AreEnds, grown, has_row, parsed_grid};
+ghost use Rattle.parse_op.specs.Filled.{AreEnds, IsNextColumn, grown, has_row, item_absent, item_values, parsed_grid};
 ghost use Rattle.parse_op.specs.Search.{ends_in, is_place};
 
 use crate::slot::Slot;
@@ -89,7 +89,7 @@ fn fill_row(
 {
     let is_cut = cut_into(p.relaxed, p.pattern.as_slice(), text, slots)?;
     if is_cut {
-        fill_pieces(alloc, builder, p.pattern.as_slice(), slots, text, 0)?;
+        fill_pieces(alloc, builder, p.pattern.as_slice(), slots, text)?;
         builder.end_row()
     } else {
         fill_absent(builder, p.pattern.as_slice())?;
@@ -97,35 +97,51 @@ fn fill_row(
     }
 }
 
-// Adds the cells of the columns of these items, whose pieces begin at a place.
+// Adds the cells of the columns of a pattern, from the ends of the pieces of a text.
 #[tactic(auto, using(crate::proofs::FillSteps::piece_steps))]
 fn fill_pieces(
     alloc: Global,
     builder: &mut TableBuilder,
-    items: &[PatItem],
+    pattern: &[PatItem],
     slots: &[Slot],
     text: &str,
-    start: usize,
 ) -> Result<(), AllocError>
-    requires count { length slots.now ≡ length items.now }
-    requires place { IsTrue (is_place text.now start) }
-    requires ends { AreEnds text.now start (ends_in slots.now) }
-    requires columns { drop (length builder.old.row) builder.old.grid.columns ≡ pattern_columns items.now }
-    ensures added { OnOk result (builder.new ≡ has_row builder.old (builder.old.row ++ pieces_values items.now text.now start (ends_in slots.now))) }
+    requires count { length slots.now ≡ length pattern.now }
+    requires place { IsTrue (is_place text.now 0) }
+    requires ends { AreEnds text.now 0 (ends_in slots.now) }
+    requires columns { drop (length builder.old.row) builder.old.grid.columns ≡ pattern_columns pattern.now }
+    ensures added { OnOk result (builder.new ≡ has_row builder.old (builder.old.row ++ pieces_values pattern.now text.now 0 (ends_in slots.now))) }
 {
-    let Some((item, later)) = items.split_first() else {
-        return Ok(());
-    };
-    let Some((slot, behind)) = slots.split_first() else {
-        return Ok(());
-    };
+    let mut start = 0;
+    let mut left = pattern;
+    let mut ends = slots;
+    'items: while let Some((item, later)) = left.split_first() {
+        let Some((slot, behind)) = ends.split_first() else {
+            return Ok(());
+        };
+        fill_item(alloc, builder, item, &text[start..slot.end])?;
+        start = slot.end;
+        left = later;
+        ends = behind;
+    }
+    Ok(())
+}
+
+// Adds the cell of a column, or nothing for another item.
+#[tactic(auto, using(crate::proofs::FillSteps::item_steps))]
+fn fill_item(
+    alloc: Global,
+    builder: &mut TableBuilder,
+    item: &PatItem,
+    piece: &str,
+) -> Result<(), AllocError>
+    requires column { IsNextColumn builder.old item.now }
+    ensures added { OnOk result (builder.new ≡ has_row builder.old (builder.old.row ++ item_values item.now piece.now)) }
+{
     match item {
-        PatItem::Star => fill_pieces(alloc, builder, later, behind, text, slot.end),
-        PatItem::Literal(_) => fill_pieces(alloc, builder, later, behind, text, slot.end),
-        PatItem::Column { name: _, kind } => {
-            fill_piece(alloc, builder, *kind, &text[start..slot.end])?;
-            fill_pieces(alloc, builder, later, behind, text, slot.end)
-        }
+        PatItem::Star => Ok(()),
+        PatItem::Literal(_) => Ok(()),
+        PatItem::Column { name: _, kind } => fill_piece(alloc, builder, *kind, piece),
     }
 }
 
@@ -192,21 +208,29 @@ fn piece_cell(kind: Kind, piece: &str) -> CellRef<'_>
     }
 }
 
-// Adds an absent cell for each column of these items.
+// Adds an absent cell for each column of a pattern.
 #[tactic(auto, using(crate::proofs::FillSteps::absent_steps))]
-fn fill_absent(builder: &mut TableBuilder, items: &[PatItem]) -> Result<(), AllocError>
-    requires columns { drop (length builder.old.row) builder.old.grid.columns ≡ pattern_columns items.now }
-    ensures added { OnOk result (builder.new ≡ has_row builder.old (builder.old.row ++ absent_row (pattern_columns items.now))) }
+fn fill_absent(builder: &mut TableBuilder, pattern: &[PatItem]) -> Result<(), AllocError>
+    requires columns { drop (length builder.old.row) builder.old.grid.columns ≡ pattern_columns pattern.now }
+    ensures added { OnOk result (builder.new ≡ has_row builder.old (builder.old.row ++ absent_row (pattern_columns pattern.now))) }
 {
-    let Some((item, later)) = items.split_first() else {
-        return Ok(());
-    };
+    let mut left = pattern;
+    'items: while let Some((item, later)) = left.split_first() {
+        fill_nothing(builder, item)?;
+        left = later;
+    }
+    Ok(())
+}
+
+// Adds an absent cell for a column, or nothing for another item.
+#[tactic(auto, using(crate::proofs::FillSteps::item_steps))]
+fn fill_nothing(builder: &mut TableBuilder, item: &PatItem) -> Result<(), AllocError>
+    requires column { IsNextColumn builder.old item.now }
+    ensures added { OnOk result (builder.new ≡ has_row builder.old (builder.old.row ++ item_absent item.now)) }
+{
     match item {
-        PatItem::Star => fill_absent(builder, later),
-        PatItem::Literal(_) => fill_absent(builder, later),
-        PatItem::Column { name: _, kind } => {
-            fill_cell(builder, *kind, kind.absent())?;
-            fill_absent(builder, later)
-        }
+        PatItem::Star => Ok(()),
+        PatItem::Literal(_) => Ok(()),
+        PatItem::Column { name: _, kind } => fill_cell(builder, *kind, kind.absent()),
     }
 }

@@ -1,9 +1,10 @@
 //! Which pieces an item allows.
-ghost use Rattle.std.specs.Prelude.{◌≡◌, ◌≤◌, false, length, is_some, slice_get, IfSome, IsTrue};
+ghost use Rattle.std.specs.Prelude.{◌≡◌, ◌≤◌, ◌+◌, ◌==◌, false, length, is_some, slice_get, IfSome, IsTrue};
 ghost use Rattle.kql_meaning.specs.Cuts.{digits_length, is_allowed, is_number_before_star, number_length, piece_read};
 ghost use Rattle.std.specs.List.{prefix_len};
 ghost use Rattle.kql_ticks.specs.Forms.{is_of_number};
-ghost use Rattle.parse_op.specs.Search.{HasNoCut, LimitsPieces, NoneBefore, NoneBehind, TakesAny, first_fits, is_place, span_limit};
+ghost use Rattle.kql_cells.specs.declared.value.Kind.TheVariants.{Long};
+ghost use Rattle.parse_op.specs.Search.{HasNoCut, LimitsPieces, NoneBefore, NoneBehind, TakesAny, NoPieceBelow, first_fits, is_place, is_zero, long_limit, span_number};
 
 use kql_bound::PatItem;
 use kql_cells::{Kind, read_bool, read_long};
@@ -60,8 +61,9 @@ pub(crate) fn ends_between(
             if relaxed {
                 return (start, text.len() + 1);
             }
-            let size = longest_piece(*kind, rest).min(rest.len());
-            (start, start + size + 1)
+            let (least, most) = piece_sizes(*kind, rest);
+            let size = most.min(rest.len());
+            (start + least, start + size + 1)
         }
     }
 }
@@ -69,7 +71,8 @@ pub(crate) fn ends_between(
 /// Whether items may have a cut from a place on, as far as the first byte tells.
 #[tactic(auto, using(crate::proofs::BoundSteps::begin_steps))]
 pub(crate) fn may_begin(items: &[PatItem], text: &str, place: usize) -> bool
-    ensures { result ≡ false → HasNoCut items.now text.now place }
+    ensures never { result ≡ false → HasNoCut items.now text.now place }
+    ensures end { length items.now ≡ 0 → result ≡ (place == length text.now) }
 {
     let Some((item, _)) = items.split_first() else {
         return place == text.len();
@@ -154,33 +157,69 @@ fn is_number_before_star(kind: Kind, later: &[PatItem]) -> bool
     }
 }
 
-/// No longer piece at the start of a text reads as a value of a type.
+/// Two sizes such that no shorter piece at the start of a text reads as a value of a type, and no longer one.
 #[tactic(auto, using(crate::proofs::LimitSteps::limit_steps))]
-fn longest_piece(kind: Kind, text: &[u8]) -> usize
-    ensures { LimitsPieces kind text.now result }
+fn piece_sizes(kind: Kind, text: &[u8]) -> (usize, usize)
+    ensures least { NoPieceBelow kind text.now result.0 }
+    ensures within { result.0 ≤ length text.now + 1 }
+    ensures most { LimitsPieces kind text.now result.1 }
 {
     match kind {
-        Kind::Bool => 5,
-        Kind::Long => number_length(text),
-        Kind::Moment => 28,
-        Kind::Span => span_limit(text),
-        Kind::Text => text.len(),
-        Kind::Dynamic => text.len(),
+        Kind::Bool => (0, 5),
+        Kind::Long => (0, longest_long(text)),
+        Kind::Moment => (0, 28),
+        Kind::Span => {
+            let size = span_number(text);
+            (size + 1, size + 17)
+        }
+        Kind::Text => (0, text.len()),
+        Kind::Dynamic => (0, text.len()),
     }
 }
 
-// The same of timespans: what goes before the unit or the time is a number.
-#[tactic(auto, using(crate::proofs::LimitSteps::span_steps), unfolding(crate::specs::Search::span_limit))]
-fn span_limit(text: &[u8]) -> usize
-    ensures { result ≡ span_limit text.now }
+// No longer piece at the start of a text reads as a long.
+#[tactic(auto, using(crate::proofs::LimitSteps::long_steps))]
+fn longest_long(text: &[u8]) -> usize
+    ensures { LimitsPieces Long text.now result }
+{
+    let limit = long_limit(text).min(text.len());
+    number_length(&text[..limit])
+}
+
+// The same by the zeros alone that the text begins with.
+#[tactic(auto, using(crate::proofs::LimitSteps::span_steps), unfolding(crate::specs::Search::long_limit))]
+fn long_limit(text: &[u8]) -> usize
+    ensures { result ≡ long_limit text.now }
 {
     let Some((first, behind)) = text.split_first() else {
         return 0;
     };
     if *first == b'-' {
-        number_bytes(behind) + 18
+        zero_bytes(behind) + 20
     } else {
-        number_bytes(text) + 17
+        zero_bytes(text) + 19
+    }
+}
+
+// How many zeros a text begins with.
+fn zero_bytes(text: &[u8]) -> usize
+    ensures { result ≡ prefix_len is_zero text.now }
+{
+    text.iter().take_while(|b| **b == b'0').count()
+}
+
+// The sign and the bytes of a number that a text begins with.
+#[tactic(auto, using(crate::proofs::LimitSteps::span_steps), unfolding(crate::specs::Search::span_number))]
+fn span_number(text: &[u8]) -> usize
+    ensures { result ≡ span_number text.now }
+{
+    let Some((first, behind)) = text.split_first() else {
+        return 0;
+    };
+    if *first == b'-' {
+        number_bytes(behind) + 1
+    } else {
+        number_bytes(text)
     }
 }
 

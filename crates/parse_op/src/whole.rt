@@ -48,17 +48,10 @@ fn cut_with(
     Ok(Some(ends))
 }
 
-/// How many items a pattern has at most. The search goes three frames deep for each item, and for more of them there is no room on
-/// the stack: that is want of memory too.
-const MOST_ITEMS: usize = 10_000;
-
 /// A slot for each of so many items.
 pub(crate) fn slots_of(alloc: Global, count: usize) -> Result<Vec<Slot>, AllocError>
     ensures count { IfOk result (λ v. length v.items ≡ count) }
 {
-    if count > MOST_ITEMS {
-        return Err(AllocError);
-    }
     let mut slots = Vec::with_capacity(alloc, count)?;
     'each: for _k in 0..count {
         slots.push(Slot::new(alloc))?;
@@ -79,7 +72,7 @@ pub(crate) fn cut_into(
     ensures found { IfOk result (λ b. Answers b (cut relaxed pattern.now text.now) (ends_in slots.new)) }
 {
     forget(slots, text.len());
-    search(relaxed, pattern, text, 0, slots)
+    search(relaxed, pattern, text, slots)
 }
 
 // Forgets what was remembered of another text.
@@ -89,9 +82,9 @@ fn forget(slots: &mut [Slot], size: usize)
     ensures count { length slots.new ≡ length slots.old }
     ensures fresh { AreFresh size slots.new }
 {
-    if let Some((slot, behind)) = slots.split_first_mut() {
+    'slots: for k in 0..slots.len() {
+        let slot = &mut slots[k];
         slot.forget(size);
-        forget(behind, size);
     }
 }
 

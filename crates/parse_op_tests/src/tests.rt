@@ -14,7 +14,12 @@ type Made<T> = Result<T, AllocError>;
 type Case = (&'static str, bool, &'static str, &'static [usize]);
 
 const CASES: &[Case] = &[
-    ("*|=id=|l|= |s", false, "id=x id=42 end", &[5, 8, 10, 11, 14]),
+    (
+        "*|=id=|l|= |s",
+        false,
+        "id=x id=42 end",
+        &[5, 8, 10, 11, 14],
+    ),
     ("*|=id=|l|= |s", true, "id=x id=42 end", &[0, 3, 4, 5, 14]),
     ("*|=id=|l|= |s", false, "id=-7 -", &[0, 3, 5, 6, 7]),
     ("=id=|l|*", false, "id=-5x", &[3, 5, 6]),
@@ -86,20 +91,22 @@ fn item(alloc: Global, word: &str) -> Made<PatItem> {
     }
 }
 
-// Adds an item to a pattern so many times.
-fn push_times(alloc: Global, items: &mut Items<PatItem>, word: &str, count: usize) -> Made<()> {
-    for _k in 0..count {
+// Adds items to a pattern.
+fn push_all(alloc: Global, items: &mut Items<PatItem>, words: &str) -> Made<()> {
+    for word in words.split("|") {
         let item = item(alloc, word)?;
         items.push(item)?;
     }
     Ok(())
 }
 
-fn pattern(alloc: Global, words: &str) -> Made<Items<PatItem>> {
+// Items so many times, and others behind them.
+fn pattern(alloc: Global, words: &str, count: usize, last: &str) -> Made<Items<PatItem>> {
     let mut items = Items::new(alloc);
-    for word in words.split("|") {
-        push_times(alloc, &mut items, word, 1)?;
+    for _k in 0..count {
+        push_all(alloc, &mut items, words)?;
     }
+    push_all(alloc, &mut items, last)?;
     Ok(items)
 }
 
@@ -112,7 +119,7 @@ fn are(found: &Option<Places>, ends: &[usize]) -> bool {
 
 fn holds(alloc: Global, case: &Case) -> Made<bool> {
     let (words, relaxed, text, ends) = *case;
-    let items = pattern(alloc, words)?;
+    let items = pattern(alloc, "", 0, words)?;
     let found = cut(alloc, items.as_slice(), relaxed, text)?;
     Ok(are(&found, ends))
 }
@@ -135,11 +142,11 @@ fn first_cuts_are_found(rt: HostRuntime) -> Result<(), Fail> {
     Ok(())
 }
 
-// So many letters `a`.
-fn letters(alloc: Global, count: usize) -> Made<String> {
+// A letter so many times.
+fn repeated(alloc: Global, letter: &str, count: usize) -> Made<String> {
     let mut text = String::new(alloc);
     for _k in 0..count {
-        text.push_str("a")?;
+        text.push_str(letter)?;
     }
     Ok(text)
 }
@@ -157,18 +164,17 @@ fn shape(found: &Option<Places>) -> Option<(usize, usize, usize)> {
     }
 }
 
-// The shape of the first cut of so many letters by an item so many times, and another item behind them.
+// The shape of the first cut of a letter so many times, by items so many times and others behind them.
 fn long_cut(
     alloc: Global,
-    word: &str,
+    words: &str,
     count: usize,
     last: &str,
+    letter: &str,
     size: usize,
 ) -> Made<Option<(usize, usize, usize)>> {
-    let mut items = Items::new(alloc);
-    push_times(alloc, &mut items, word, count)?;
-    push_times(alloc, &mut items, last, 1)?;
-    let text = letters(alloc, size)?;
+    let items = pattern(alloc, words, count, last)?;
+    let text = repeated(alloc, letter, size)?;
     let found = cut(alloc, items.as_slice(), false, text.as_str())?;
     Ok(shape(&found))
 }
@@ -176,10 +182,21 @@ fn long_cut(
 #[test]
 fn long_patterns_and_texts_are_cut(rt: HostRuntime) -> Result<(), Fail> {
     let alloc = rt.alloc();
-    assert_eq!(rt; long_cut(alloc, "*", 19, "*", 10_000)?, Some((20, 0, 10_000)));
-    assert_eq!(rt; long_cut(alloc, "*", 20, "=b", 10_000)?, None);
-    assert_eq!(rt; long_cut(alloc, "=a", 10_999, "=a", 11_000)?, Some((11_000, 1, 11_000)));
-    assert_eq!(rt; long_cut(alloc, "*", 40_000, "=a", 3)?, Some((40_001, 0, 3)));
-    assert_eq!(rt; long_cut(alloc, "s", 50_000, "=b", 3)?, None);
+    assert_eq!(rt;
+        long_cut(alloc, "*", 19, "*", "a", 10_000)?,
+        Some((20, 0, 10_000))
+    );
+    assert_eq!(rt; long_cut(alloc, "*", 20, "=b", "a", 10_000)?, None);
+    assert_eq!(rt;
+        long_cut(alloc, "=a", 10_999, "=a", "a", 11_000)?,
+        Some((11_000, 1, 11_000))
+    );
+    assert_eq!(rt;
+        long_cut(alloc, "*", 40_000, "=a", "a", 3)?,
+        Some((40_001, 0, 3))
+    );
+    assert_eq!(rt; long_cut(alloc, "s", 50_000, "=b", "a", 3)?, None);
+    assert_eq!(rt; long_cut(alloc, "*", 1, "d|*", "1", 2_000)?, None);
+    assert_eq!(rt; long_cut(alloc, "*", 1, "l|l|b", "1", 2_000)?, None);
     Ok(())
 }

@@ -4,11 +4,7 @@ use Rattle.kql_meaning.specs.Parse.{parsed_values, pieces_values}
 use Rattle.parse_op.specs.Filled.{has_row}
 use Rattle.parse_op.specs.Search.{Answers, ends_in}
 use Rattle.parse_op.proofs.FillSteps.{row-closed, row-of-pieces}
-use Rattle.parse_op.proofs.SlotSteps.{first-place}
 use Rattle.parse_op.proofs.fill.fill_row.Goals as goal
-
-pub fill_pieces-requires-clause-place : goal.fill_pieces-requires-clause-place
-fill_pieces-requires-clause-place c = first-place c.args.text.now c.utf8.text
 
 pub returns-in_ok-fill_pieces-clause-added : goal.returns-in_ok-fill_pieces-clause-added
 returns-in_ok-fill_pieces-clause-added c =
