@@ -1,5 +1,5 @@
 -- The parts of an expression that fits, and what an expression that fits is.
-use Rattle.std.proofs.Common.{◌≡◌, ◌<◌, ◌≤◌, ◌-◌, ℕ, zero, suc, Bool, true, List, [], ◌∷◌, get_or, length, map, refl, ap, sym, ◌∙◌, subst, arith}
+use Rattle.std.proofs.Common.{◌≡◌, ◌<◌, ◌≤◌, ◌+◌, ◌-◌, ℕ, zero, suc, Bool, true, List, [], ◌∷◌, get_or, length, map, refl, ap, sym, ◌∙◌, subst, arith}
 use Rattle.std.specs.Prelude.{◌&&◌, None, Option, Some, is_some}
 use Rattle.std.specs.List.{list_all, range_with_len}
 use Rattle.std.proofs.lemmas.Bool.{and_from, and_parts}
@@ -21,12 +21,12 @@ use Rattle.kql_meaning.specs.declared.position.Position.TheVariants as position
 use Rattle.kql_meaning.specs.Expressions.{call_kind, kind_along, kind_down, kind_of, kinds_in, val}
 use Rattle.kql_meaning.specs.FittingExpressions.{checked_args, expr_fits, has_kind, is_addable, is_callable, is_constant_of, is_kind, is_typed_literal, links_fit, literal_of, literal_step, part_fits, restart_fits, row_number_fits, running_sum_fits, scope_of, takes_window, term_fits, window_fits}
 use Rattle.kql_meaning.specs.Literals.{literal_fits}
-use Rattle.kql_meaning.specs.Tables.{places, places_below}
 use Rattle.kql_meaning.proofs.ExpressionFitLaws.{fits-Call, fits-Chain, fits-Literal, fits-Path, fits-Window}
 use Rattle.kql_scalar.specs.Rows.{rows}
 use Rattle.kql_scalar.specs.Scalar.{IsScalar, is_of_rows}
 use Rattle.kql_scalar.proofs.ScalarFitLaws.{scalar_where_fits}
-use Rattle.row_ops.specs.ItemColumns.{values_down}
+use Rattle.window_ops.specs.Columns.{values_from}
+use Rattle.window_ops.proofs.RangeFacts.{rows-on}
 use Rattle.window_ops.specs.Fitting.{AllFitRows, FitsRows, LinksFitRows}
 
 along : (cs : List Column) (e x : BExpr) (at : Position) → expr_fits e (scope_of cs) at ≡ true → e ≡ x → expr_fits x (scope_of cs) at ≡ true
@@ -187,12 +187,14 @@ pub ruleset item_steps = (fitting_item, fitting_link)
 pub fitting_scalar : (cs : List Column) (e : BExpr) → FitsRows cs e → IsScalar e
 fitting_scalar cs e h = scalar_where_fits e (scope_of cs) h.at h.rows h.fits
 
-all-rows : (t : Grid) (n : ℕ) → n ≡ length t.lines → rows 0 n ≡ places t
-unfolding rows places places_below
-all-rows t n e = let same : n - 0 ≡ length t.lines = omega (arith, e) in ap (range_with_len 0) same
-
-pub column-down : (e : BExpr) (t : Grid) (n : ℕ) (v : List Value) → n ≡ length t.lines → v ≡ map (λ i. val e t i []) (rows 0 n) → v ≡ values_down e t
-unfolding values_down
-column-down e t n v len is = is ∙ ap (map (λ i. val e t i [])) (all-rows t n len)
+pub column-down : (e : BExpr) (t : Grid) (from n : ℕ) (v : List Value) → v ≡ map (λ i. val e t i []) (rows from (from + n)) → v ≡ values_from e t from n
+unfolding values_from rows
+column-down e t from n v is =
+    let count : from + n - from ≡ n = omega arith in
+    let start : from ≡ from + 0 = omega arith in
+    is
+    ∙ (ap (λ m. map (λ i. val e t i []) (range_with_len from m)) count
+    ∙ (ap (λ m. map (λ i. val e t i []) (range_with_len m n)) start
+    ∙ rows-on (λ i. val e t i []) from 0 n))
 
 pub ruleset scalar_steps = (fitting_scalar, column-down)

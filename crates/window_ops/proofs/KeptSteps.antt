@@ -22,11 +22,11 @@ use Rattle.kql_meaning.specs.Values.{holds}
 use Rattle.kql_meaning.specs.Where.{where_table}
 use Rattle.kql_scalar.specs.Scalar.{is_of_rows}
 use Rattle.row_ops.specs.ItemColumns.{values_down}
+use Rattle.row_ops.proofs.ItemColumnFacts.{down-length}
+use Rattle.row_ops.proofs.KeptColumnFacts.{filter-below}
 use Rattle.window_ops.specs.Fitting.{FitsRows}
 use Rattle.window_ops.specs.Kept.{places_true}
-use Rattle.window_ops.proofs.DownSteps.{down-at, down-long}
-use Rattle.window_ops.proofs.KeptColumnFacts.{filter-below}
-use Rattle.window_ops.proofs.RangeFacts.{filter-range-same}
+use Rattle.window_ops.proofs.RangeFacts.{at-row, filter-range-same}
 
 range-more : (n : ℕ) → range_with_len 0 (n + 1) ≡ range_with_len 0 n ++ n ∷ []
 range-more n = sym (map-id (range_with_len 0 (n + 1))) ∙ (map-range_with_len_more (λ (x : ℕ). x) 0 n n (omega arith) ∙ ap (λ xs. xs ++ n ∷ []) (map-id (range_with_len 0 n)))
@@ -77,8 +77,12 @@ where-fitting e cs fits = record {
   fits = (and_parts (expr_fits e (scope_of cs) position.Window) (has_kind (same_kind kind.Bool) (kind_of e cs)) fits).0;
 }
 
+down-at : (e : BExpr) (t : Grid) (i : ℕ) → i < length t.lines → value_at (values_down e t) i ≡ val e t i []
+unfolding values_down places places_below
+down-at e t i lt = at-row (λ i. val e t i []) (length t.lines) i lt
+
 pub where-within : (e : BExpr) (t : Grid) (v : List Value) (ps : List ℕ) → v ≡ values_down e t → All (λ i. i < length v) ps → All (λ i. i < length t.lines) ps
-where-within e t v ps is h = subst (λ n. All (λ i. i < n) ps) (ap length is ∙ down-long e t) h
+where-within e t v ps is h = subst (λ n. All (λ i. i < n) ps) (ap length is ∙ down-length e t) h
 
 pub kept-where : (e : BExpr) (t r : Grid) (v : List Value) (ps : List ℕ) → v ≡ values_down e t → ps ≡ places_true v (length v) → r ≡ gathered t ps → r ≡ where_table e t
 unfolding where_table places_true places places_below
@@ -87,7 +91,7 @@ kept-where e t r v ps is at made =
     ∙ ap (gathered t)
     (at
     ∙ (ap (λ (vs : List Value). filter (λ i. holds (value_at vs i)) (range_with_len 0 (length vs))) is
-    ∙ (ap (λ n. filter (λ i. holds (value_at (values_down e t) i)) (range_with_len 0 n)) (down-long e t)
+    ∙ (ap (λ n. filter (λ i. holds (value_at (values_down e t) i)) (range_with_len 0 n)) (down-length e t)
     ∙ filter-range-same (λ i. holds (value_at (values_down e t) i)) (λ i. holds (val e t i [])) 0 (length t.lines) (λ i lt. ap holds (down-at e t i (omega (arith, lt)))))))
 
 pub ruleset where_steps = (where-fitting, where-within, kept-where)

@@ -7,10 +7,6 @@ use Rattle.kql_cells.specs.Seen.{value_at}
 use Rattle.kql_cells.specs.declared.value.Value.{Value}
 use Rattle.kql_cells.specs.declared.value.Value.TheVariants as value
 
-pub map-range-same : {X : Type 0} (f g : ℕ → X) (a n : ℕ) → ((i : ℕ) → i < a + n → f i ≡ g i) → map f (range_with_len a n) ≡ map g (range_with_len a n)
-map-range-same f g a zero h = refl
-map-range-same f g a (suc n) h = ap₂ (λ x xs. x ∷ xs) (h a (omega arith)) (map-range-same f g (a + 1) n (λ i lt. h i (omega (arith, lt))))
-
 pub filter-range-same : (p q : ℕ → Bool) (a n : ℕ) → ((i : ℕ) → i < a + n → p i ≡ q i) → filter p (range_with_len a n) ≡ filter q (range_with_len a n)
 filter-range-same p q a zero h = refl
 filter-range-same p q a (suc n) h =
@@ -35,3 +31,10 @@ shifted v vs a (suc n) = let next : a + 1 ≡ suc a = omega arith in ap₂ (λ x
 pub all-values : (vs : List Value) → map (value_at vs) (range_with_len 0 (length vs)) ≡ vs
 all-values [] = refl
 all-values (v ∷ vs) = ap (λ xs. v ∷ xs) (shifted v vs 0 (length vs) ∙ all-values vs)
+
+-- A map over a range that begins further on.
+pub rows-on : {X : Type 0} (f : ℕ → X) (a b n : ℕ) → map f (range_with_len (a + b) n) ≡ map (λ k. f (a + k)) (range_with_len b n)
+rows-on f a b zero = refl
+rows-on f a b (suc n) =
+    let next : a + b + 1 ≡ a + (b + 1) = omega arith in
+    ap (λ vs. f (a + b) ∷ vs) (ap (λ m. map f (range_with_len m n)) next ∙ rows-on f a (b + 1) n)

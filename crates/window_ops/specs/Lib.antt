@@ -1,3 +1,5 @@
+pub mod Calls
+pub mod Carries
 pub mod Columns
 pub mod Fitting
 pub mod Kept

@@ -8,24 +8,25 @@ ghost use Rattle.kql_meaning.specs.Items.{items_columns};
 ghost use Rattle.kql_meaning.specs.Project.{project_table};
 ghost use Rattle.kql_meaning.specs.Where.{where_table};
 
-use crate::columns::{column, is_running};
-use crate::items::{have_running, places_without, values_of_items};
+use crate::calls::is_running;
+use crate::items::{have_running, values_at_all_rows, values_at_each_row};
 use crate::kept::places_true;
 use kql_bound::{BExpr, BItem};
 use kql_cells::Schema;
 use kql_columns::{items_columns, items_names};
 use kql_values::{Rows, Table};
+use row_ops::places_without;
 use std::alloc::{AllocError, Global};
 
 /// `project` of a table that is read where it stands: every item is computed, and one that is a column of the table copied.
-#[tactic(auto, using(crate::proofs::ExtendFacts::project_facts))]
+#[tactic(auto, using(row_ops::proofs::ExtendFacts::project_facts))]
 pub fn window_rows(alloc: Global, t: &Table, items: &[BItem]) -> Result<Table, AllocError>
     requires fits { IsTrue (items_fit items.now t.now.columns position.Window) }
     requires names { HasDistinctNames column_name (items_columns items.now t.now.columns) }
     ensures rows { IfOk result (λ r. r ≡ project_table items.now t.now) }
 {
     let columns = items_columns(alloc, items, t.schema().columns())?;
-    let vectors = values_of_items(alloc, t, items)?;
+    let vectors = values_at_all_rows(alloc, t, items)?;
     let rows = Rows::from_columns(alloc, t.len(), vectors);
     let made = Table::new(alloc, Schema::from_items(columns), rows)?;
     Ok(made)
@@ -49,7 +50,7 @@ pub fn project_rows(alloc: Global, t: Table, items: &[BItem]) -> Result<Table, A
 
 /// `extend`, and `serialize` with items: every item is computed over the input row, and its column added at the end; an input
 /// column of an item's name goes. The other columns are not copied. Without memory the table is dropped.
-#[tactic(auto, using(crate::proofs::ExtendFacts::extend_facts))]
+#[tactic(auto, using(row_ops::proofs::ExtendFacts::extend_facts))]
 pub fn extend_rows(alloc: Global, t: Table, items: &[BItem]) -> Result<Table, AllocError>
     requires fits { IsTrue (items_fit items.now t.columns position.Window) }
     requires names { HasDistinctNames column_name (extend_columns items.now t.columns) }
@@ -81,7 +82,7 @@ fn rows_where_column(alloc: Global, t: &Table, predicate: &BExpr) -> Result<Tabl
     requires fits { IsTrue (where_fits predicate.now t.now.columns) }
     ensures rows { IfOk result (λ r. r ≡ where_table predicate.now t.now) }
 {
-    let values = column(alloc, predicate, t)?;
+    let values = values_at_each_row(alloc, predicate, t)?;
     let places = places_true(alloc, &values)?;
     t.gather(alloc, places.as_slice())
 }

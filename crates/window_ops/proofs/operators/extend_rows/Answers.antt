@@ -1,5 +1,5 @@
 use Rattle.std.proofs.Common.{rules}
-use Rattle.window_ops.proofs.ExtendFacts.{extended-table}
+use Rattle.row_ops.proofs.ExtendFacts.{extended-table}
 use Rattle.window_ops.proofs.operators.extend_rows.Goals as goal
 
 -- src/extend.rt:34:1
