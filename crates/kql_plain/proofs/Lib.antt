@@ -1,5 +1,4 @@
 pub mod FitSteps
-pub mod KeySteps
 pub mod LetSteps
 pub mod OperatorSteps
 pub mod PartitionSteps

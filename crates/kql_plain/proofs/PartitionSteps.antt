@@ -31,7 +31,7 @@ use Rattle.kql_fit_laws.proofs.RowFacts.{gathered-table, place-found, places-ins
 use Rattle.kql_fit_laws.specs.LawsOfRows.{IsTable}
 use Rattle.scan_ops.specs.Steps.{scan_answers}
 use Rattle.kql_plain.specs.AtHand.{IsSo, OpFits, OpsFit}
-use Rattle.kql_plain.specs.Keys.{rows_by_key, rows_of_key}
+use Rattle.scan_ops.specs.Scans.{rows_by_key, rows_of_key}
 use Rattle.kql_plain.proofs.FitSteps.{answers-Scan, outside-there}
 use Rattle.kql_plain.proofs.OperatorSteps.{first-fits, means-Scan, no-more, one-more, step}
 

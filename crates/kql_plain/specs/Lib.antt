@@ -1,3 +1,2 @@
 pub mod AtHand
 pub mod Inputs
-pub mod Keys

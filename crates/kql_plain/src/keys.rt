@@ -2,22 +2,22 @@
 ghost use Rattle.std.specs.Prelude.{◌≡◌, IfOk, IsTrue, is_some};
 ghost use Rattle.kql_cells.specs.Named.{column_name, place_of};
 ghost use Rattle.kql_meaning.specs.Tables.{emptied};
-ghost use Rattle.kql_plain.specs.Keys.{rows_by_key};
+ghost use Rattle.scan_ops.specs.Scans.{rows_by_key};
 
-use join_op::key_column;
-use kql_keys::{Numbered, PlaceLists, number_keys, places_by_number};
+use kql_keys::PlaceLists;
 use kql_values::Table;
+use scan_ops::rows_by_key as rows_by_place;
 use std::alloc::{AllocError, Global};
 
 /// The places of the rows of each key of a column, in one pass: keys in order of first occurrence, places rising. Null is a key.
-#[tactic(auto, using(crate::proofs::KeySteps::key_steps))]
 pub(crate) fn rows_by_key(alloc: Global, t: &Table, key: &str) -> Result<PlaceLists, AllocError>
     requires column { IsTrue (is_some (place_of column_name key.now t.now.columns)) }
     ensures rows { IfOk result (λ lists. lists ≡ rows_by_key key.now t.now) }
 {
-    let columns = [key_column(t, key)];
-    let Numbered { numbers, firsts } = number_keys(alloc, &columns, t.len())?;
-    places_by_number(alloc, numbers.as_slice(), firsts.len())
+    match t.schema().find(key) {
+        Some(place) => rows_by_place(alloc, t, place),
+        None => unreachable!(),
+    }
 }
 
 /// The columns of a table, without rows.
