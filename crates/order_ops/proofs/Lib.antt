@@ -5,4 +5,4 @@ pub mod KeySteps
 pub mod SortSteps
 pub mod LeastSteps
 pub mod LeadLaws
-pub mod RunLaws
+pub mod MarkLaws

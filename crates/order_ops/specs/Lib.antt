@@ -1,3 +1,4 @@
 pub mod Order
 pub mod Least
+pub mod Marks
 pub mod Leads

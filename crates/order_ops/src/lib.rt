@@ -1,14 +1,14 @@
 //! `sort` and `top`: each gives the table that the meaning of its name has.
 //!
 //! Each key is computed once for every row. Places are sorted by the keys and then by themselves, so that rows of the same keys
-//! keep their order, and the rows are gathered once. What of the first key decides stands beside each place and is sorted first; rows
-//! that are alike in it are then put into order by all keys.
+//! keep their order, and the rows are gathered once. For `sort`, numbers that tell most values of the first two keys apart stand
+//! beside each place, so that comparisons seldom read a column.
 #![tactic(auto)]
 
 mod keys;
 mod leads;
 mod least;
-mod runs;
+mod marks;
 mod sort;
 
 pub use least::top_rows;
