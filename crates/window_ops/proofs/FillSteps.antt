@@ -14,7 +14,7 @@ use Rattle.kql_meaning.specs.Project.{project_table}
 use Rattle.kql_meaning.specs.Tables.{places, places_below}
 use Rattle.kql_values.specs.Grids.{HaveLength, row_of, rows_of}
 use Rattle.row_ops.proofs.ItemColumnFacts.{map-range-same, one-result}
-use Rattle.window_ops.specs.Calls.{AreBefore, calls_of_items, carries_before}
+use Rattle.window_ops.specs.Calls.{AreBefore, calls_of_items, carries_of}
 use Rattle.window_ops.specs.Carries.{Carried}
 use Rattle.window_ops.specs.Columns.{columns_of_items}
 use Rattle.window_ops.proofs.CallLaws.{before-all}
@@ -22,8 +22,8 @@ use Rattle.window_ops.proofs.DownSteps.{down-at, down-long}
 use Rattle.window_ops.proofs.PieceSteps.{piece-range}
 use Rattle.window_ops.proofs.RangeFacts.{rows-on}
 
-pub fill-carries : (items : List BItem) (t : Grid) (from : ℕ) (cs : List Carried) → cs ≡ carries_before (calls_of_items items) t from → AreBefore (calls_of_items items) t from cs
-unfolding carries_before
+pub fill-carries : (items : List BItem) (t : Grid) (from : ℕ) (cs : List Carried) → cs ≡ carries_of (calls_of_items items) t 0 from → AreBefore (calls_of_items items) t from cs
+unfolding carries_of
 fill-carries items t from cs is = subst (AreBefore (calls_of_items items) t from) (sym is) (before-all (calls_of_items items) t from)
 
 columns-long : (items : List BItem) (t : Grid) (from n : ℕ) → HaveLength n (columns_of_items items t from n)

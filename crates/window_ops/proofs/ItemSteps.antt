@@ -26,7 +26,7 @@ window-of-rows : is_of_rows position.Window ≡ true
 unfolding is_of_rows
 window-of-rows = refl
 
-item-fitting : (items : List BItem) (cs : List Column) (i : ℕ) (b : BItem) → items_fit items cs position.Window ≡ true → i < length items → b ≡ get_or items i b → FitsRows cs b.expr
+pub item-fitting : (items : List BItem) (cs : List Column) (i : ℕ) (b : BItem) → items_fit items cs position.Window ≡ true → i < length items → b ≡ get_or items i b → FitsRows cs b.expr
 unfolding items_fit item_fits
 item-fitting [] cs i b fits lt is = absurd (omega arith)
 item-fitting (c ∷ ds) cs zero b fits lt is =
@@ -67,6 +67,8 @@ item-ready items t from n i b cs fits range lt is h = record {
 
 pub carries-next : (items : List BItem) (t : Grid) (from i : ℕ) (b : BItem) (cs rest : List Carried) → i < length items → b ≡ get_or items i b → AreBefore (calls_of_items (drop i items)) t from cs → rest ≡ drop (length (calls_of b.expr)) cs → AreBefore (calls_of_items (drop (i + 1) items)) t from rest
 carries-next items t from i b cs rest lt is h behind = subst (AreBefore (calls_of_items (drop (i + 1) items)) t from) (sym behind) (carries-at items t from i b cs lt is h).1
+
+pub ruleset fitting_steps = (item-fitting)
 
 pub ruleset item_steps = (items-start, items-step, carries-start, item-ready, carries-next)
 

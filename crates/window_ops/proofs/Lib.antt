@@ -3,6 +3,7 @@ pub mod CarryLaws
 pub mod CallLaws
 pub mod CarrySteps
 pub mod RunSteps
+pub mod SumSteps
 pub mod CallSteps
 pub mod FitSteps
 pub mod ReadySteps

@@ -1,13 +1,15 @@
 -- The carry of a range of rows.
-use Rattle.std.proofs.Common.{◌≡◌, ◌<◌, ◌≤◌, ◌+◌, ◌-◌, ◌^◌, ℕ, List, ap, ap₂, sym, ◌∙◌, arith}
+use Rattle.std.proofs.Common.{◌≡◌, ◌<◌, ◌≤◌, ◌+◌, ◌-◌, ◌^◌, ℕ, List, ap, ap₂, subst, sym, ◌∙◌, arith}
 use Rattle.std.specs.Prelude.{Option, slice_get}
 use Rattle.kql_cells.specs.Table.{Grid}
+use Rattle.kql_cells.specs.declared.schema.Column.{Column}
 use Rattle.kql_cells.specs.declared.value.Value.{Value}
 use Rattle.kql_bound.specs.declared.expr.BExpr.{BExpr}
 use Rattle.kql_bound.specs.declared.expr.WinCall.{WinCall}
 use Rattle.window_ops.specs.Calls.{adds, begins, carry_of, restart_of, term_named, term_of}
 use Rattle.window_ops.specs.Carries.{Carried, no_rows, run_on}
 use Rattle.window_ops.specs.Columns.{given_from}
+use Rattle.window_ops.specs.Fitting.{AllFitRows}
 use Rattle.window_ops.specs.Running.{restart_at, term_at}
 use Rattle.window_ops.proofs.ArgumentSteps.{long-given, run-given}
 use Rattle.window_ops.proofs.CarryLaws.{carried-none}
@@ -40,5 +42,13 @@ pub piece-few : (from to m n : ℕ) (c : Carried) → c ≡ no_rows → n ≡ m 
 piece-few from to m n c none same small l =
     let zero : c.count ≡ 0 = ap (λ (x : Carried). x.count) none in
     omega (arith, zero, same, small, l)
+
+pub call-carry : (w : WinCall) (t : Grid) (from to : ℕ) (name : List ℕ) (args : List BExpr) (c : Carried) → name ≡ w.name → args ≡ w.args → c ≡ carry_of (record { name = name; args = args }) t from to → c ≡ carry_of w t from to
+call-carry w t from to name args c named given made = made ∙ ap₂ (λ (ns : List ℕ) (es : List BExpr). carry_of (record { name = ns; args = es }) t from to) named given
+
+pub call-fits : (w : WinCall) (cs : List Column) (args : List BExpr) → AllFitRows cs w.args → args ≡ w.args → AllFitRows cs args
+call-fits w cs args h given = subst (AllFitRows cs) (sym given) h
+
+pub ruleset call_steps = (call-carry, call-fits)
 
 pub ruleset piece_steps = (long-given, piece-carry, piece-range, piece-few)

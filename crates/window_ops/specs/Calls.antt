@@ -83,9 +83,9 @@ calls_of_items items = flat_map (λ (b : BItem). calls_of b.expr) items
 
 -- Their carries.
 
--- The carries of the rows before a row.
-unfoldable pub carries_before : List WinCall → Grid → ℕ → List Carried
-carries_before calls t from = map (λ w. carry_of w t 0 from) calls
+-- The carries of a range of rows.
+unfoldable pub carries_of : List WinCall → Grid → ℕ → ℕ → List Carried
+carries_of calls t from to = map (λ w. carry_of w t from to) calls
 
 -- The first of carries, and that of no row where there are none.
 unfoldable pub first_of : List Carried → Carried

@@ -18,9 +18,10 @@ mod operators;
 mod parts;
 mod pieces;
 mod running;
+mod sums;
 mod windows;
 
 pub use carries::{Carries, Carry};
 pub use join::carry;
 pub use operators::{extend_rows, project_rows, where_rows, window_rows};
-pub use pieces::{fill_piece, sum_piece};
+pub use pieces::{fill_piece, sum_piece, sum_pieces};
