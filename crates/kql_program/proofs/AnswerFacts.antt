@@ -3,7 +3,6 @@ use Rattle.std.proofs.Common.{◌≡◌, List, [], ◌∷◌, ◌++◌, ap, appe
 use Rattle.std.specs.Prelude.{Result, Ok, Err, IsErrAnd}
 use Rattle.kql_program.specs.Refusals.{Computes, Finds, Gives, Reaches, after, with_first}
 use Rattle.kql_words.specs.Refusals.{Answer, ◌>>=◌}
-use Rattle.kql_words.specs.declared.refusal.Refusal.{Refusal}
 use Rattle.kql_program.specs.declared.refusal.Stop.{Stop}
 use Rattle.kql_program.specs.declared.refusal.Stop.TheVariants as stop
 

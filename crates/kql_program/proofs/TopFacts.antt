@@ -1,5 +1,5 @@
 -- The text of the rows, and the command.
-use Rattle.std.proofs.Common.{◌≡◌, ℕ, List, refl, ap, sym}
+use Rattle.std.proofs.Common.{◌≡◌, ℕ, List, refl, ap}
 use Rattle.std.specs.Prelude.{Option, Some, None, IfSome, IsErrAnd, Result, Ok, Err}
 use Rattle.csv_io.specs.Text.{table_text}
 use Rattle.kql_cells.specs.Table.{Grid}

@@ -11,7 +11,7 @@ use Rattle.kql_words.specs.Refusals.{Answer}
 use Rattle.kql_program.specs.Files.{query_tokens}
 use Rattle.kql_program.specs.Queries.{AreRows}
 use Rattle.kql_program.specs.Refusals.{Finds, after}
-use Rattle.kql_program.specs.Trials.{AreLines, FindsLine, IsLine, counted_line, trial_line}
+use Rattle.kql_program.specs.Trials.{AreLines, FindsLine, IsLine, counted_line}
 use Rattle.kql_program.specs.declared.refusal.Stop.{Stop}
 use Rattle.kql_program.specs.declared.refusal.Stop.TheVariants as stop
 

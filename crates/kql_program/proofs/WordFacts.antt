@@ -1,6 +1,6 @@
 -- Nothing behind the words refuses a word.
-use Rattle.std.proofs.Common.{◌≡◌, ◌∙◌, ℕ, Bool, true, false, List, ap, sym}
-use Rattle.std.specs.Prelude.{ℤ, Option, Result, Ok, Err, IsErrAnd, if◌then◌else◌}
+use Rattle.std.proofs.Common.{◌≡◌, ◌∙◌, ℕ, List, ap, sym}
+use Rattle.std.specs.Prelude.{ℤ, Option, Result, Ok, Err, IsErrAnd}
 use Rattle.bind_expr.specs.Outcome.{Outcome}
 use Rattle.bind_expr.specs.declared.fault.BindFault.TheVariants as bind
 use Rattle.bind_query.specs.Bound.{bound}
@@ -14,7 +14,7 @@ use Rattle.kql_meaning.specs.Plans.{means}
 use Rattle.kql_syntax.specs.declared.parse.SyntaxFault.{SyntaxFault}
 use Rattle.kql_syntax.specs.declared.parse.SyntaxFault.TheVariants as syntax
 use Rattle.kql_syntax.specs.declared.query.Query.{Query}
-use Rattle.kql_program.specs.Queries.{bound_as, program_of, rows_over, start_place}
+use Rattle.kql_program.specs.Queries.{bound_as, program_of, rows_over}
 use Rattle.kql_program.specs.Files.{lexed_as, query_tokens}
 use Rattle.kql_program.specs.Outcomes.{RefusesNoWord}
 use Rattle.kql_program.specs.Refusals.{Gives}

@@ -235,4 +235,6 @@ down-Window e f g args t from n v is same made =
     ∙ (map-range-same (λ k. windowed f (map reading args) t (from + k) []) (λ k. val (V.Window f args) t (from + k) []) 0 n (λ k lt. sym (val-Window f args t (from + k) []))
     ∙ whole e (V.Window f args) t from n is))
 
-pub ruleset down_steps = (down-Call, down-Chain, down-Path, down-Window)
+pub ruleset down_steps = (down-Call, down-Chain, down-Path)
+
+pub ruleset window_steps = (down-Window)

@@ -1,18 +1,16 @@
 //! The values of an expression at so many rows of a table from one on.
-ghost use Rattle.std.specs.Prelude.{◌≡◌, ◌≤◌, ◌+◌, IfOk, length};
+ghost use Rattle.std.specs.Prelude.{◌≡◌, IfOk};
 ghost use Rattle.window_ops.specs.Columns.{IsColumn, call_down, chain_down, columns_of, linked_down, path_down, values_from};
 ghost use Rattle.window_ops.specs.Fitting.{AreReady, IsReady, LinksReady};
 
 use crate::applied::{applied_rows, pair};
-use crate::calls::{carries_behind, first_carry, is_running};
+use crate::calls::{carries_behind, is_running};
 use crate::carries::Carry;
-use crate::parts::{
-    item_part, link_part, link_parts, number_parts, part, parts, sum_parts, table_facts,
-};
-use crate::windows::{number_column, plain_part, sum_column};
+use crate::parts::{item_part, link_part, link_parts, part, parts, table_facts};
+use crate::windows::{plain_part, window_column};
 use kql_bound::{BExpr, Link};
 use kql_cells::Kind;
-use kql_functions::{DynamicFunc, Func, Window, result_kind};
+use kql_functions::{DynamicFunc, Func, result_kind};
 use kql_meaning::kind_of;
 use kql_values::{Table, Vector};
 use std::alloc::{AllocError, Global};
@@ -20,7 +18,7 @@ use std::alloc::{AllocError, Global};
 /// The values of an expression at so many rows from one on. The carries of its calls of `row_cumsum` and `row_number` are those of the
 /// rows before these, in the order in which the calls stand; others may stand behind them, and before the first row there may be none.
 #[cycle(column)]
-#[tactic(auto, using(crate::proofs::FitSteps::window_parts, crate::proofs::DownSteps::down_steps))]
+#[tactic(auto, using(crate::proofs::DownSteps::down_steps))]
 pub(crate) fn column(
     alloc: Global,
     e: &BExpr,
@@ -61,18 +59,7 @@ pub(crate) fn column(
             let left = formed(values, whole, t, from, count, carries);
             path_column(alloc, left, steps, t, from, count, rest)
         }
-        BExpr::Window(f, args) => match f {
-            Window::Prev => plain_part(alloc, e, t, from, count, carries),
-            Window::Next => plain_part(alloc, e, t, from, count, carries),
-            Window::RowCumsum => {
-                let args = sum_parts(e, args, t, from, count, carries);
-                sum_column(alloc, args, t, from, count, &first_carry(carries))
-            }
-            Window::RowNumber => {
-                let args = number_parts(e, args, t, from, count, carries);
-                number_column(alloc, args, t, from, count, &first_carry(carries))
-            }
-        },
+        BExpr::Window(f, args) => window_column(alloc, e, *f, args, t, from, count, carries),
         BExpr::Aggregate(_, _) => plain_part(alloc, e, t, from, count, carries),
     }
 }

@@ -1,22 +1,55 @@
 //! What `row_cumsum` and `row_number` give at so many rows from one on, from the columns of their arguments.
 ghost use Rattle.std.specs.Prelude.{◌≡◌, ◌≤◌, ◌+◌, IfOk, length, slice_get};
+ghost use Rattle.kql_bound.specs.declared.expr.BExpr.TheVariants as expr;
 ghost use Rattle.kql_functions.specs.declared.window.Window.TheVariants as window;
 ghost use Rattle.window_ops.specs.Calls.{call_of, carry_of, term_named};
 ghost use Rattle.window_ops.specs.Columns.{given_from, values_from, window_down};
 ghost use Rattle.window_ops.specs.Fitting.{AllFitRows, FitsRows, IsReady};
 
+use crate::calls::first_carry;
 use crate::carries::Carry;
+use crate::parts::{number_parts, sum_parts};
 use crate::running::{row_numbers, running_sums};
-use kql_bound::BExpr;
+use kql_bound::{BExpr, Exprs};
 use kql_functions::Window;
 use kql_meaning::kind_of;
 use kql_scalar::Located;
 use kql_values::{Table, Vector};
 use std::alloc::{AllocError, Global};
 
-/// What `row_cumsum` gives, from the carry of the rows before these.
+/// What a window function gives.
+#[tactic(auto, using(crate::proofs::FitSteps::window_parts, crate::proofs::DownSteps::window_steps))]
+pub(crate) fn window_column(
+    alloc: Global,
+    e: &BExpr,
+    f: Window,
+    args: &Exprs,
+    t: &Table,
+    from: usize,
+    count: usize,
+    carries: &[Carry],
+) -> Result<Vector, AllocError>
+    requires window { e.now ≡ expr.Window f args.now }
+    requires ready { IsReady e.now t.now from count carries.now }
+    ensures values { IfOk result (λ v. v ≡ values_from e.now t.now from count) }
+{
+    match f {
+        Window::Prev => plain_part(alloc, e, t, from, count, carries),
+        Window::Next => plain_part(alloc, e, t, from, count, carries),
+        Window::RowCumsum => {
+            let args = sum_parts(e, args, t, from, count, carries);
+            sum_column(alloc, args, t, from, count, &first_carry(carries))
+        }
+        Window::RowNumber => {
+            let args = number_parts(e, args, t, from, count, carries);
+            number_column(alloc, args, t, from, count, &first_carry(carries))
+        }
+    }
+}
+
+// What `row_cumsum` gives, from the carry of the rows before these.
 #[tactic(auto, using(crate::proofs::WindowSteps::sum_steps))]
-pub(crate) fn sum_column(
+fn sum_column(
     alloc: Global,
     args: &[BExpr],
     t: &Table,
@@ -42,9 +75,9 @@ pub(crate) fn sum_column(
     }
 }
 
-/// What `row_number` gives, from the carry of the rows before these.
+// What `row_number` gives, from the carry of the rows before these.
 #[tactic(auto, using(crate::proofs::WindowSteps::number_steps))]
-pub(crate) fn number_column(
+fn number_column(
     alloc: Global,
     args: &[BExpr],
     t: &Table,

@@ -1,4 +1,3 @@
-use Rattle.kql_trial.specs.Queries.{stored_queries}
 use Rattle.kql_program.proofs.TrialFacts.{LeadsTo}
 use Rattle.kql_program.proofs.trial.stored_lines.Given as goal
 
