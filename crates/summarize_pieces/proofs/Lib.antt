@@ -1,0 +1,10 @@
+mod ColumnSteps
+mod FinishSteps
+mod GroupSteps
+mod JoinLaws
+mod JoinSteps
+mod KeyLists
+mod KeySteps
+mod NeighbourLaws
+mod PassSteps
+mod PlanSteps

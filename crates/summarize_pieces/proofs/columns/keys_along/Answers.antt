@@ -1,0 +1,6 @@
+use Rattle.std.proofs.Common.{rules}
+use Rattle.summarize_pieces.proofs.ColumnSteps.{keys-step}
+use Rattle.summarize_pieces.proofs.columns.keys_along.Goals as goal
+
+pub keys-preserved : goal.keys-preserved
+keys-preserved c = keys-step c.args.keys.now c.args.t.now c.args.from c.args.to c.keys.key-index c.key-item.result c.keys.vectors.items c.push.new.self.items c.in_ok-vector.vector (search rules) c.key-item.is c.keys.invariant c.in_ok-vector.ensures.values c.in_ok-push.ensures.items

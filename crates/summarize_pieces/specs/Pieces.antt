@@ -1,0 +1,185 @@
+-- The groups of a range of a table's rows, with what the aggregates keep of each.
+use Rattle.std.specs.Prelude.{◌≡◌, ◌≤◌, ◌<◌, ◌-◌, ◌==◌, ◌&&◌, ℕ, ℤ, Bool, true, false, List, [], ◌∷◌, filter, flat_map, length, map, take, if◌then◌else◌, FitsSigned, Some}
+use Rattle.std.specs.Int.{w64}
+use Rattle.std.specs.List.{AllByRecursion, list_all}
+use Rattle.kql_cells.specs.Keys.{same_keys}
+use Rattle.kql_cells.specs.Table.{Grid}
+use Rattle.kql_cells.specs.declared.schema.Column.{Column}
+use Rattle.kql_cells.specs.declared.value.Value.{Value}
+use Rattle.kql_values.specs.Grids.{HaveLength, row_of}
+use Rattle.kql_keys.specs.Numbers.{distinct}
+use Rattle.kql_functions.specs.declared.aggregate.Aggregate.{Aggregate}
+use Rattle.kql_functions.specs.declared.aggregate.Aggregate.TheVariants as aggregate
+use Rattle.kql_bound.specs.declared.expr.BExpr.{BExpr, out-BExpr}
+use Rattle.kql_bound.specs.declared.expr.BExpr.TheOpen.{BExpr-F}
+use Rattle.kql_bound.specs.declared.parts.BItem.{BItem}
+use Rattle.kql_bound.specs.declared.parts.GroupPlan.{GroupPlan}
+use Rattle.kql_meaning.specs.Expressions.{val, values_in}
+use Rattle.kql_meaning.specs.FittingOperators.{summarize_fits}
+use Rattle.kql_meaning.specs.Groups.{key_by}
+use Rattle.kql_meaning.specs.Results.{has_one_result}
+use Rattle.kql_meaning.specs.Values.{number_of}
+use Rattle.kql_scalar_fns.specs.Arguments.{argument}
+use Rattle.kql_fit_laws.specs.LawsOfRows.{IsTable}
+use Rattle.kql_scalar.specs.Rows.{rows}
+use Rattle.agg_folds.specs.Calls.{call_of, needs}
+use Rattle.agg_folds.specs.Folds.{folded}
+use Rattle.agg_folds.specs.States.{Kept, fold_of}
+use Rattle.agg_folds.specs.declared.call.FoldCall.{FoldCall}
+use Rattle.summarize_op.specs.Grouped.{AreFormed}
+
+-- The plans whose groups come in pieces: each item is a call of an aggregate with one result column. `take_any` is none of them, since
+-- without a row it gives what its column's type has there.
+
+unfoldable pub is_folded : Aggregate → List BExpr → Bool
+is_folded aggregate.TakeAny args = false
+is_folded f args = has_one_result f args
+
+abbrev pub is_folded_step : BExpr-F BExpr → Bool
+is_folded_step (BExpr-F.Aggregate f args) = is_folded f args
+is_folded_step _ = false
+
+unfoldable pub is_folded_call : BExpr → Bool
+is_folded_call e = is_folded_step (out-BExpr e)
+
+unfoldable pub comes_in_pieces : GroupPlan → Bool
+comes_in_pieces g = list_all (λ (b : BItem). is_folded_call b.expr) g.items
+
+-- The calls of items, in order.
+
+abbrev pub call_step : BExpr-F BExpr → List (Aggregate × List BExpr)
+call_step (BExpr-F.Aggregate f args) = (f, args) ∷ []
+call_step _ = []
+
+unfoldable pub call_in : BExpr → List (Aggregate × List BExpr)
+call_in e = call_step (out-BExpr e)
+
+unfoldable pub calls_of : List BItem → List (Aggregate × List BExpr)
+calls_of items = flat_map (λ (b : BItem). call_in b.expr) items
+
+-- The keys of the rows of a range, each once, in order of first occurrence. Without keys all rows are one group, also where there is none.
+unfoldable pub keys_in : List BItem → Grid → ℕ → ℕ → List (List Value)
+keys_in [] t from to = [] ∷ []
+keys_in (key ∷ keys) t from to = distinct same_keys (map (key_by (key ∷ keys) t) (rows from to))
+
+-- The rows of a range that have a key.
+unfoldable pub rows_with : List BItem → Grid → ℕ → ℕ → List Value → List ℕ
+rows_with keys t from to k = filter (λ i. same_keys (key_by keys t i) k) (rows from to)
+
+-- What the arguments that a call reads are at a row and at rows, and what its fold keeps of them.
+
+unfoldable pub args_of : Aggregate × List BExpr → Grid → ℕ → List Value
+args_of (f, args) t i = values_in (take (needs f) args) t i []
+
+unfoldable pub args_at : Aggregate × List BExpr → Grid → List ℕ → List (List Value)
+args_at c t is = map (args_of c t) is
+
+unfoldable pub call_over : Aggregate × List BExpr → List Column → FoldCall
+call_over (f, args) columns = call_of f args columns
+
+unfoldable pub state_in : Aggregate × List BExpr → List BItem → Grid → ℕ → ℕ → List Value → Kept
+state_in c keys t from to k = fold_of (call_over c t.columns) (args_at c t (rows_with keys t from to k))
+
+-- What a call gives for the rows of a range that have a key.
+unfoldable pub value_for : Aggregate × List BExpr → List BItem → Grid → ℕ → ℕ → List Value → Value
+value_for c keys t from to k = folded (call_over c t.columns) (args_at c t (rows_with keys t from to k))
+
+-- What is known of groups: how many rows they are made of, how many values a key has, the key of each group in their order, and for each
+-- call what is kept of each group.
+pub record Grouped : Type 0 where
+  pub count : ℕ
+  pub width : ℕ
+  pub keys : List (List Value)
+  pub states : List (List Kept)
+
+-- The groups of the rows of a range.
+unfoldable pub groups_in : GroupPlan → Grid → ℕ → ℕ → Grouped
+groups_in g t from to = record {
+  count = to - from;
+  width = length g.keys;
+  keys = keys_in g.keys t from to;
+  states = map (λ c. map (state_in c g.keys t from to) (keys_in g.keys t from to)) (calls_of g.items);
+}
+
+-- The first argument of each call is stored at each row of a range: a number there has 64 bits.
+pub record AreStored (g : GroupPlan) (t : Grid) (from to : ℕ) : Type 0 where
+  pub each : AllByRecursion (λ c. (i : ℕ) → from ≤ i → i < to → (n : ℤ) → number_of (argument (args_of c t i) 0) ≡ Some n → FitsSigned w64 n) (calls_of g.items)
+
+-- What groups are: those of the rows of a range.
+pub record AreGroupsOf (g : GroupPlan) (t : Grid) (from to : ℕ) (x : Grouped) : Type 0 where
+  pub groups : x ≡ groups_in g t from to
+  pub stored : AreStored g t from to
+
+-- Groups of a range of a table, and of the range behind it.
+pub record AreNeighbours (a b : Grouped) : Type 0 where
+  pub plan : GroupPlan
+  pub table : Grid
+  pub from : ℕ
+  pub middle : ℕ
+  pub to : ℕ
+  pub fits : summarize_fits plan table.columns ≡ true
+  pub whole : IsTable table
+  pub first : from ≤ middle
+  pub second : middle ≤ to
+  pub range : to ≤ length table.lines
+  pub left : AreGroupsOf plan table from middle a
+  pub right : AreGroupsOf plan table middle to b
+
+-- The groups of all rows of some table with these columns.
+pub record AreAllGroups (g : GroupPlan) (columns : List Column) (x : Grouped) : Type 0 where
+  pub table : Grid
+  pub whole : IsTable table
+  pub named : table.columns ≡ columns
+  pub groups : x ≡ groups_in g table 0 (length table.lines)
+
+-- What is read of the rows of a range before they are grouped: how many values a key has, the key of each row, and for each call the values
+-- of the arguments that it reads.
+
+pub record Called : Type 0 where
+  pub call : FoldCall
+  pub columns : List (List Value)
+
+pub record Piece : Type 0 where
+  pub width : ℕ
+  pub keys : List (List Value)
+  pub calls : List Called
+
+unfoldable pub values_along : BExpr → Grid → ℕ → ℕ → List Value
+values_along e t from to = map (λ i. val e t i []) (rows from to)
+
+unfoldable pub columns_along : List BExpr → Grid → ℕ → ℕ → List (List Value)
+columns_along es t from to = map (λ e. values_along e t from to) es
+
+unfoldable pub called : Grid → ℕ → ℕ → Aggregate × List BExpr → Called
+called t from to (f, args) = record { call = call_of f args t.columns; columns = columns_along (take (needs f) args) t from to }
+
+unfoldable pub piece_of : GroupPlan → Grid → ℕ → ℕ → Piece
+piece_of g t from to = record {
+  width = length g.keys;
+  keys = map (key_by g.keys t) (rows from to);
+  calls = map (called t from to) (calls_of g.items);
+}
+
+-- Without keys all rows are one group, also where there is none.
+unfoldable pub group_keys : ℕ → List (List Value) → List (List Value)
+group_keys width keys = if (width == 0) && (length keys == 0) then [] ∷ [] else distinct same_keys keys
+
+-- Columns of so many well formed values.
+pub record CanBeFolded (count : ℕ) (c : Called) : Type 0 where
+  pub long : HaveLength count c.columns
+  pub form : AreFormed c.columns
+
+pub record ColumnsStored (count : ℕ) (columns : List (List Value)) : Type 0 where
+  pub each : (i : ℕ) → i < count → (n : ℤ) → number_of (argument (row_of columns i) 0) ≡ Some n → FitsSigned w64 n
+
+-- A piece that was read of a table with a plan that fits its columns.
+pub record IsRead (p : Piece) : Type 0 where
+  pub plan : GroupPlan
+  pub table : Grid
+  pub from : ℕ
+  pub to : ℕ
+  pub fits : summarize_fits plan table.columns ≡ true
+  pub whole : IsTable table
+  pub order : from ≤ to
+  pub range : to ≤ length table.lines
+  pub piece : p ≡ piece_of plan table from to

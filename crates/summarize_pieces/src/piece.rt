@@ -1,0 +1,164 @@
+//! What is read of the rows of a piece before they are grouped.
+ghost use Rattle.std.specs.Prelude.{◌≡◌, ◌≤◌, ◌++◌, IfOk, IsTrue, OnOk, is_some, length, map, take};
+ghost use Rattle.std.specs.List.{list_all};
+ghost use Rattle.kql_meaning.specs.FittingExpressions.{call_or_expr_fits, scope_of};
+ghost use Rattle.kql_meaning.specs.FittingOperators.{answer_if, group_item_fits, summarize_fits};
+ghost use Rattle.kql_meaning.specs.Summarize.{group_columns};
+ghost use Rattle.kql_meaning.specs.declared.position.Position.TheVariants as position;
+ghost use Rattle.summarize_op.specs.Calls.{IsCall};
+ghost use Rattle.summarize_pieces.specs.Pieces.{call_in, called, calls_of, piece_of};
+
+use crate::columns::{columns_along, keys_along};
+use agg_folds::{FoldCall, fold_call, needs};
+use kql_bound::{BExpr, BItem, GroupPlan};
+use kql_functions::Aggregate;
+use kql_values::{Rows, Table, Vector};
+use std::alloc::{AllocError, Global};
+use std::marker::Model;
+
+/// What the arguments of a call are at the rows of a piece.
+#[derive(Drop)]
+pub(crate) struct CallRows {
+    pub(crate) call: FoldCall,
+    pub(crate) columns: Vec<Vector>,
+}
+
+impl Model for CallRows {
+    ghost use Rattle.std.specs.Coded.{codes};
+    ghost use Rattle.kql_cells.specs.contracts.dynamic.Dyn as dynamic;
+    ghost use Rattle.summarize_pieces.specs.Pieces.{Called};
+
+    ghost Value = { Called };
+
+    ghost coded = { Prim.hlevel (codes, dynamic.the_row.coded) };
+
+    ghost view = { λ c. record { call = c.call; columns = c.columns.items } };
+}
+
+/// What the keys and the arguments of the calls are at the rows of a piece. Groups lend these values, so they live until the table of the
+/// groups is made; no row of the table is looked at after they are read.
+#[derive(Drop)]
+pub struct PieceRows {
+    pub(crate) width: usize,
+    pub(crate) keys: Rows,
+    pub(crate) calls: Vec<CallRows>,
+}
+
+impl Model for PieceRows {
+    ghost use Rattle.std.specs.Coded.{codes};
+    ghost use Rattle.kql_cells.specs.contracts.dynamic.Dyn as dynamic;
+    ghost use Rattle.summarize_pieces.specs.Pieces.{IsRead, Piece};
+
+    ghost Value = { Piece };
+
+    ghost coded = { Prim.hlevel (codes, dynamic.the_row.coded) };
+
+    ghost view = { λ p. record { width = p.width; keys = p.keys; calls = p.calls.items } };
+
+    ghost invariant = { λ p. IsRead (record { width = p.width; keys = p.keys; calls = p.calls.items }) };
+}
+
+/// Reads the rows from one on and before another of a table, for the groups of a plan.
+#[tactic(auto, using(crate::proofs::PlanSteps::plan_steps))]
+pub fn piece_rows(
+    alloc: Global,
+    t: &Table,
+    g: &GroupPlan,
+    from: usize,
+    to: usize,
+) -> Result<PieceRows, AllocError>
+    requires fits { IsTrue (is_some (answer_if (summarize_fits g.now t.now.columns) (group_columns g.now t.now.columns))) }
+    requires order { from ≤ to }
+    requires range { to ≤ length t.now.lines }
+    ensures rows { IfOk result (λ p. p ≡ piece_of g.now t.now from to) }
+{
+    let _count = t.len();
+    let _columns = t.schema().columns();
+    let columns = keys_along(alloc, t, g.keys.as_slice(), from, to)?;
+    let keys = Rows::from_columns(alloc, to - from, columns);
+    let calls = call_rows(alloc, t, g.items.as_slice(), from, to)?;
+    Ok(PieceRows {
+        width: g.keys.len(),
+        keys,
+        calls,
+    })
+}
+
+// What the calls of items take of the rows.
+#[tactic(auto, using(crate::proofs::PlanSteps::item_steps))]
+fn call_rows(
+    alloc: Global,
+    t: &Table,
+    items: &[BItem],
+    from: usize,
+    to: usize,
+) -> Result<Vec<CallRows>, AllocError>
+    requires fits { IsTrue (list_all (group_item_fits t.now.columns) items.now) }
+    requires order { from ≤ to }
+    requires range { to ≤ length t.now.lines }
+    ensures calls { IfOk result (λ cs. cs.items ≡ map (called t.now from to) (calls_of items.now)) }
+{
+    let mut calls = Vec::new(alloc);
+    'items: for item in items {
+        push_call(alloc, &mut calls, t, &item.expr, from, to)?;
+    }
+    Ok(calls)
+}
+
+// What the call that an item is takes of the rows, if it is one.
+#[tactic(auto, using(crate::proofs::PlanSteps::call_steps), unfolding(crate::specs::Pieces::call_in))]
+fn push_call(
+    alloc: Global,
+    calls: &mut Vec<CallRows>,
+    t: &Table,
+    e: &BExpr,
+    from: usize,
+    to: usize,
+) -> Result<(), AllocError>
+    requires fits { IsTrue (call_or_expr_fits e.now (scope_of t.now.columns) position.Group) }
+    requires order { from ≤ to }
+    requires range { to ≤ length t.now.lines }
+    ensures calls { OnOk result (calls.new.items ≡ calls.old.items ++ map (called t.now from to) (call_in e.now)) }
+{
+    match e {
+        BExpr::Aggregate(f, args) => {
+            let call = one_call(alloc, t, *f, args.as_slice(), from, to)?;
+            calls.push(call)?;
+            Ok(())
+        }
+        BExpr::Literal(_) => Ok(()),
+        BExpr::Column(_) => Ok(()),
+        BExpr::Step(_) => Ok(()),
+        BExpr::Call(_, _) => Ok(()),
+        BExpr::Chain(_, _) => Ok(()),
+        BExpr::Path(_, _) => Ok(()),
+        BExpr::Window(_, _) => Ok(()),
+    }
+}
+
+#[tactic(auto, using(crate::proofs::PlanSteps::one_steps), unfolding(crate::specs::Pieces::called))]
+fn one_call(
+    alloc: Global,
+    t: &Table,
+    f: Aggregate,
+    args: &[BExpr],
+    from: usize,
+    to: usize,
+) -> Result<CallRows, AllocError>
+    requires call { IsCall t.now.columns f args.now }
+    requires order { from ≤ to }
+    requires range { to ≤ length t.now.lines }
+    ensures call { IfOk result (λ c. c ≡ called t.now from to (f, args.now)) }
+{
+    let call = fold_call(alloc, f, args, t.schema().columns())?;
+    let columns = columns_along(alloc, t, first_args(args, needs(f)), from, to)?;
+    Ok(CallRows { call, columns })
+}
+
+// The first of these, up to a number.
+#[tactic(auto, using(crate::proofs::ColumnSteps::first_steps))]
+fn first_args(args: &[BExpr], n: usize) -> &[BExpr]
+    ensures first { result.now ≡ take n args.now }
+{
+    if n < args.len() { &args[..n] } else { args }
+}
