@@ -15,11 +15,11 @@ fn file(alloc: Global, path: &str, text: &str) -> Result<(String, Vec<u8>), Allo
     Ok((path, bytes))
 }
 
-// The words of a query's command.
-fn words_of(alloc: Global, seat: &Seat) -> Result<Vec<String>, AllocError> {
+// The words of a query's command: this one, where the seat has no words.
+fn words_of(alloc: Global, seat: &Seat, command: &str) -> Result<Vec<String>, AllocError> {
     let mut words = Vec::new(alloc);
     if seat.words.is_empty() {
-        words.push(String::from_str(alloc, "run")?)?;
+        words.push(String::from_str(alloc, command)?)?;
     }
     for word in &seat.words {
         words.push(String::from_str(alloc, word.as_str())?)?;
@@ -67,19 +67,21 @@ fn answer_to(
     }
 }
 
-/// What the program answers a query over the tables of the seat, or to all words where they begin with `$ `: the text, or the line of a refusal.
+/// What the program answers a query over the tables of the seat by a command, or to all words where they begin with `$ `: the text, or the line of
+/// a refusal.
 pub(crate) fn answer(
     rt: &(impl Threads + Sync),
     alloc: Global,
     seat: &Seat,
+    command: &str,
     asked: &str,
 ) -> Result<String, AllocError> {
-    if let Some(command) = asked.strip_prefix("$ ") {
-        let words = words_in(alloc, command)?;
+    if let Some(all) = asked.strip_prefix("$ ") {
+        let words = words_in(alloc, all)?;
         let mut shelf = shelf_of(alloc, "print 1", &seat.tables)?;
         return answer_to(rt, alloc, &words, &mut shelf);
     }
-    let words = words_of(alloc, seat)?;
+    let words = words_of(alloc, seat, command)?;
     let mut shelf = shelf_of(alloc, asked, &seat.tables)?;
     answer_to(rt, alloc, &words, &mut shelf)
 }

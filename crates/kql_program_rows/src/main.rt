@@ -2,7 +2,8 @@
 //!
 //! A line of the input that begins with `#` is a heading, which tells what the lines under it show and forgets the tables so far. A line
 //! `NAME=TEXT` gives the table NAME its text of CSV, and a line `> WORDS` the words in front of the query's, which are `run` where there is no such
-//! line. Every other line is a row: a query, a tab, and the text that it is answered, or `! ` and the line of its refusal. `⏎` stands for the end of
+//! line. Every other line is a row: a query, a tab, and the text that it is answered, or `! ` and the line of its refusal; where there is no `> `, `plain` must
+//! answer the same. `⏎` stands for the end of
 //! a line, and none stands at the end of a text. A row that begins with `$ ` has all words of the command in place of a query, where the file `q` has
 //! the query `print 1`. The rows are written by hand from the reference of the language. The output tells the rows that are
 //! answered otherwise, and how many there are.
@@ -45,6 +46,20 @@ fn counted(
     })
 }
 
+// Whether `plain` answers a query as `run` does, and tells it where it does not. A seat with words of its own names its command.
+fn is_plain_same(rt: &HostRuntime, seat: &Seat, asked: &str, found: &str) -> io::Result<bool> {
+    if !seat.words.is_empty() || asked.starts_with("$ ") {
+        return Ok(true);
+    }
+    let plain = answer(rt, rt.alloc(), seat, "plain", asked)?;
+    if plain.as_str() == found {
+        return Ok(true);
+    }
+    let plain = plain.as_str();
+    println!(rt; "{asked}: by plain {plain}, not {found}")?;
+    Ok(false)
+}
+
 fn main(rt: HostRuntime) -> io::Result<ExitCode> {
     let mut seat = Seat::new(rt.alloc());
     let mut counts = Counts { rows: 0, wrong: 0 };
@@ -55,8 +70,11 @@ fn main(rt: HostRuntime) -> io::Result<ExitCode> {
         } else if let Some(words) = line.strip_prefix("> ") {
             seat.set_words(rt.alloc(), words)?;
         } else if let Some((asked, wanted)) = line.split_once('\t') {
-            let found = answer(&rt, rt.alloc(), &seat, asked)?;
+            let found = answer(&rt, rt.alloc(), &seat, "run", asked)?;
             counts = counted(&rt, counts, asked, found.as_str(), wanted)?;
+            if !is_plain_same(&rt, &seat, asked, found.as_str())? {
+                counts.wrong = counts.wrong.saturating_add(1);
+            }
         } else if let Some((name, text)) = line.split_once('=') {
             seat.add_table(rt.alloc(), name, text)?;
         } else {
