@@ -1,0 +1,2 @@
+mod CountedFacts
+mod PieceFacts
