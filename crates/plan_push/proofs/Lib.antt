@@ -1,0 +1,10 @@
+pub mod ChosenSteps
+pub mod DriveSteps
+pub mod FrontViewSteps
+pub mod InnerSteps
+pub mod ProgramSteps
+pub mod RuleTable
+pub mod SettleSteps
+pub mod SettledSteps
+pub mod TermSteps
+pub mod ViewSteps

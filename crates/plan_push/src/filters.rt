@@ -1,0 +1,394 @@
+//! The rules that carry a filter or a `take` in front of another operator, and the merge of two filters.
+ghost use Rattle.std.specs.Prelude.{◌≡◌, ◌∷◌, ◌++◌, [], ◌&&◌, IfOk, Some, not};
+ghost use Rattle.kql_bound.specs.declared.plan.Op.TheVariants as op;
+ghost use Rattle.kql_meaning.specs.FittingOperators.{expand_names};
+ghost use Rattle.kql_meaning.specs.Parse.{pattern_names};
+ghost use Rattle.kql_meaning.specs.Items.{items_names};
+ghost use Rattle.kql_meaning.specs.Tables.{has_column, is_name_among};
+ghost use Rattle.plan_rules.specs.Reads.{reads_only};
+ghost use Rattle.plan_rules.specs.Rules.{conjoined, expand_then_filter, extend_then_filter, extend_then_take, goes_by_left, is_left_key, is_unique, join_then_filter, parse_then_filter, project_then_take, reads_some, sort_then_filter, terms_of, two_filters, unique_then_filter, when};
+
+use crate::rules::one;
+use crate::views::{expand_of, extend_of, filter_of, parse_of, project_of, sort_of, take_of};
+use kql_bound::{
+    BExpr, BItems, Expand, ExpandItem, Exprs, JoinKind, JoinPlan, Op, Ops, ParsePlan, Pattern,
+    Plan, clone_expand, clone_expr, clone_exprs, clone_items, clone_join, clone_keys, clone_parse,
+    clone_plan,
+};
+use kql_cells::{Column, Names};
+use kql_columns::{items_names, names_of, pattern_columns};
+use kql_functions::{Func, LogicFunc};
+use kql_items::Items;
+use plan_terms::{are_plain, is_plain, reads_among, reads_left_keys, reads_none, reads_others};
+use std::alloc::{AllocError, Global};
+
+// A filter alone, as a copy.
+fn filter_alone(alloc: Global, q: &BExpr) -> Result<Ops, AllocError>
+    ensures one { IfOk result (λ ops. ops ≡ op.Where q.now ∷ []) }
+{
+    let copy = clone_expr(alloc, q)?;
+    one(alloc, Op::Where(copy))
+}
+
+// Two filters.
+
+fn one_term(alloc: Global, e: &BExpr) -> Result<Exprs, AllocError>
+    ensures one { IfOk result (λ es. es ≡ e.now ∷ []) }
+{
+    let copy = clone_expr(alloc, e)?;
+    let mut terms = Items::new(alloc);
+    terms.push(copy)?;
+    Ok(terms)
+}
+
+// The terms of an `and`, and any other expression alone.
+#[tactic(auto, using(crate::proofs::TermSteps::terms_steps))]
+fn terms_of(alloc: Global, e: &BExpr) -> Result<Exprs, AllocError>
+    ensures terms { IfOk result (λ es. es ≡ terms_of e.now) }
+{
+    match e {
+        BExpr::Literal(_) => one_term(alloc, e),
+        BExpr::Column(_) => one_term(alloc, e),
+        BExpr::Step(_) => one_term(alloc, e),
+        BExpr::Call(f, args) => {
+            if *f == Func::Logic(LogicFunc::And) {
+                clone_exprs(alloc, args)
+            } else {
+                one_term(alloc, e)
+            }
+        }
+        BExpr::Chain(_, _) => one_term(alloc, e),
+        BExpr::Path(_, _) => one_term(alloc, e),
+        BExpr::Window(_, _) => one_term(alloc, e),
+        BExpr::Aggregate(_, _) => one_term(alloc, e),
+    }
+}
+
+// `where p`, `where q`: `where` of both.
+#[tactic(auto, unfolding(plan_rules::specs::Rules::conjoined, plan_rules::specs::Rules::two_filters))]
+pub(crate) fn two_filters(alloc: Global, x: &Op, y: &Op) -> Result<Option<Ops>, AllocError>
+    ensures rule { IfOk result (λ o. o ≡ two_filters x.now y.now) }
+{
+    let (Some(p), Some(q)) = (filter_of(x), filter_of(y)) else {
+        return Ok(None);
+    };
+    if !is_plain(q) {
+        return Ok(None);
+    }
+    let mut terms = terms_of(alloc, p)?;
+    let more = terms_of(alloc, q)?;
+    terms.append(more)?;
+    let ops = one(
+        alloc,
+        Op::Where(BExpr::Call(Func::Logic(LogicFunc::And), terms)),
+    )?;
+    Ok(Some(ops))
+}
+
+// In front of `extend`, `project` and `sort`.
+
+fn reads_unset(alloc: Global, items: &BItems, q: &BExpr) -> Result<bool, AllocError>
+    ensures unset { IfOk result (λ b. b ≡ reads_only (λ n. not (is_name_among (items_names items.now) n)) q.now) }
+{
+    let names = items_names(alloc, items.as_slice())?;
+    reads_others(alloc, q, names.as_slice())
+}
+
+// Plain `extend I`, `where q`, q reads nothing that I sets: `where q`, `extend I`.
+#[tactic(auto, unfolding(plan_rules::specs::Rules::extend_then_filter))]
+pub(crate) fn extend_then_filter(alloc: Global, x: &Op, y: &Op) -> Result<Option<Ops>, AllocError>
+    ensures rule { IfOk result (λ o. o ≡ extend_then_filter x.now y.now) }
+{
+    let (Some(items), Some(q)) = (extend_of(x), filter_of(y)) else {
+        return Ok(None);
+    };
+    if !are_plain(items.as_slice()) {
+        return Ok(None);
+    }
+    if !reads_unset(alloc, items, q)? {
+        return Ok(None);
+    }
+    let mut ops = filter_alone(alloc, q)?;
+    let items = clone_items(alloc, items)?;
+    ops.push(Op::Extend(items))?;
+    Ok(Some(ops))
+}
+
+// `sort K`, `where q`: `where q`, `sort K`.
+#[tactic(auto, unfolding(plan_rules::specs::Rules::sort_then_filter))]
+pub(crate) fn sort_then_filter(alloc: Global, x: &Op, y: &Op) -> Result<Option<Ops>, AllocError>
+    ensures rule { IfOk result (λ o. o ≡ sort_then_filter x.now y.now) }
+{
+    let (Some(keys), Some(q)) = (sort_of(x), filter_of(y)) else {
+        return Ok(None);
+    };
+    if !is_plain(q) {
+        return Ok(None);
+    }
+    let mut ops = filter_alone(alloc, q)?;
+    let keys = clone_keys(alloc, keys)?;
+    ops.push(Op::Sort(keys))?;
+    Ok(Some(ops))
+}
+
+// Plain `extend I`, `take n`: `take n`, `extend I`.
+#[tactic(auto, unfolding(plan_rules::specs::Rules::extend_then_take))]
+pub(crate) fn extend_then_take(alloc: Global, x: &Op, y: &Op) -> Result<Option<Ops>, AllocError>
+    ensures rule { IfOk result (λ o. o ≡ extend_then_take x.now y.now) }
+{
+    let (Some(items), Some(n)) = (extend_of(x), take_of(y)) else {
+        return Ok(None);
+    };
+    if !are_plain(items.as_slice()) {
+        return Ok(None);
+    }
+    let mut ops = one(alloc, Op::Take(n))?;
+    let items = clone_items(alloc, items)?;
+    ops.push(Op::Extend(items))?;
+    Ok(Some(ops))
+}
+
+// Plain `project I`, `take n`: `take n`, `project I`.
+#[tactic(auto, unfolding(plan_rules::specs::Rules::project_then_take))]
+pub(crate) fn project_then_take(alloc: Global, x: &Op, y: &Op) -> Result<Option<Ops>, AllocError>
+    ensures rule { IfOk result (λ o. o ≡ project_then_take x.now y.now) }
+{
+    let (Some(items), Some(n)) = (project_of(x), take_of(y)) else {
+        return Ok(None);
+    };
+    if !are_plain(items.as_slice()) {
+        return Ok(None);
+    }
+    let mut ops = one(alloc, Op::Take(n))?;
+    let items = clone_items(alloc, items)?;
+    ops.push(Op::Project(items))?;
+    Ok(Some(ops))
+}
+
+// In front of `mv-expand` and `parse`.
+
+#[tactic(auto, unfolding(kql_meaning::specs::FittingOperators::expand_names))]
+fn expand_names(alloc: Global, items: &[ExpandItem]) -> Result<Names, AllocError>
+    ensures names { IfOk result (λ ns. ns ≡ expand_names items.now) }
+{
+    let mut names = Items::with_capacity(alloc, items.len())?;
+    for item in items {
+        let name = item.name.copy(alloc)?;
+        names.push(name)?;
+    }
+    Ok(names)
+}
+
+fn reads_unexpanded(alloc: Global, expand: &Expand, q: &BExpr) -> Result<bool, AllocError>
+    ensures unset { IfOk result (λ b. b ≡ reads_only (λ n. not (is_name_among (expand_names expand.now.items) n)) q.now) }
+{
+    let names = expand_names(alloc, expand.items.as_slice())?;
+    reads_others(alloc, q, names.as_slice())
+}
+
+// `mv-expand X`, `where q`, q reads nothing that X sets: swapped.
+#[tactic(auto, unfolding(plan_rules::specs::Rules::expand_then_filter))]
+pub(crate) fn expand_then_filter(alloc: Global, x: &Op, y: &Op) -> Result<Option<Ops>, AllocError>
+    ensures rule { IfOk result (λ o. o ≡ expand_then_filter x.now y.now) }
+{
+    let (Some(expand), Some(q)) = (expand_of(x), filter_of(y)) else {
+        return Ok(None);
+    };
+    if !reads_unexpanded(alloc, expand, q)? {
+        return Ok(None);
+    }
+    let mut ops = filter_alone(alloc, q)?;
+    let expand = clone_expand(alloc, expand)?;
+    ops.push(Op::MvExpand(expand))?;
+    Ok(Some(ops))
+}
+
+#[tactic(auto, unfolding(kql_meaning::specs::Parse::pattern_names))]
+fn pattern_names(alloc: Global, pattern: &Pattern) -> Result<Names, AllocError>
+    ensures names { IfOk result (λ ns. ns ≡ pattern_names pattern.now) }
+{
+    let columns = pattern_columns(alloc, pattern.as_slice())?;
+    names_of(alloc, columns.as_slice())
+}
+
+fn reads_unparsed(alloc: Global, parse: &ParsePlan, q: &BExpr) -> Result<bool, AllocError>
+    ensures unset { IfOk result (λ b. b ≡ reads_only (λ n. not (is_name_among (pattern_names parse.now.pattern) n)) q.now) }
+{
+    let names = pattern_names(alloc, &parse.pattern)?;
+    reads_others(alloc, q, names.as_slice())
+}
+
+// `parse X`, `where q`, q reads nothing that X sets: swapped.
+#[tactic(auto, unfolding(plan_rules::specs::Rules::parse_then_filter))]
+pub(crate) fn parse_then_filter(alloc: Global, x: &Op, y: &Op) -> Result<Option<Ops>, AllocError>
+    ensures rule { IfOk result (λ o. o ≡ parse_then_filter x.now y.now) }
+{
+    let (Some(parse), Some(q)) = (parse_of(x), filter_of(y)) else {
+        return Ok(None);
+    };
+    if !reads_unparsed(alloc, parse, q)? {
+        return Ok(None);
+    }
+    let mut ops = filter_alone(alloc, q)?;
+    let parse = clone_parse(alloc, parse)?;
+    ops.push(Op::Parse(parse))?;
+    Ok(Some(ops))
+}
+
+// In front of a join.
+
+fn goes_by_left(kind: JoinKind) -> bool
+    ensures left { result ≡ goes_by_left kind }
+{
+    match kind {
+        JoinKind::InnerUnique => false,
+        JoinKind::Inner => true,
+        JoinKind::LeftOuter => true,
+        JoinKind::RightOuter => false,
+        JoinKind::FullOuter => false,
+        JoinKind::LeftSemi => true,
+        JoinKind::LeftAnti => true,
+        JoinKind::RightSemi => false,
+        JoinKind::RightAnti => false,
+    }
+}
+
+fn is_unique(kind: JoinKind) -> bool
+    ensures unique { result ≡ is_unique kind }
+{
+    match kind {
+        JoinKind::InnerUnique => true,
+        JoinKind::Inner => false,
+        JoinKind::LeftOuter => false,
+        JoinKind::RightOuter => false,
+        JoinKind::FullOuter => false,
+        JoinKind::LeftSemi => false,
+        JoinKind::LeftAnti => false,
+        JoinKind::RightSemi => false,
+        JoinKind::RightAnti => false,
+    }
+}
+
+// A filter in front of a join.
+fn filter_and_join(
+    alloc: Global,
+    join: &JoinPlan,
+    right: &Plan,
+    q: &BExpr,
+) -> Result<Option<Ops>, AllocError>
+    ensures swapped { IfOk result (λ o. o ≡ Some (op.Where q.now ∷ op.Join join.now right.now ∷ [])) }
+{
+    let mut ops = filter_alone(alloc, q)?;
+    let join = clone_join(alloc, join)?;
+    let right = clone_plan(alloc, right)?;
+    ops.push(Op::Join(join, right))?;
+    Ok(Some(ops))
+}
+
+fn by_left(
+    alloc: Global,
+    columns: &[Column],
+    join: &JoinPlan,
+    right: &Plan,
+    q: &BExpr,
+) -> Result<Option<Ops>, AllocError>
+    ensures rule { IfOk result (λ o. o ≡ when (goes_by_left join.now.kind && (reads_only (λ n. has_column n columns.now) q.now && reads_some q.now)) (op.Where q.now ∷ op.Join join.now right.now ∷ [])) }
+{
+    if !goes_by_left(join.kind) {
+        return Ok(None);
+    }
+    if !reads_among(alloc, q, columns)? {
+        return Ok(None);
+    }
+    if reads_none(alloc, q)? {
+        return Ok(None);
+    }
+    filter_and_join(alloc, join, right, q)
+}
+
+fn by_firsts(
+    alloc: Global,
+    columns: &[Column],
+    join: &JoinPlan,
+    right: &Plan,
+    q: &BExpr,
+) -> Result<Option<Ops>, AllocError>
+    ensures rule { IfOk result (λ o. o ≡ when (is_unique join.now.kind && (reads_only (is_left_key join.now.on columns.now) q.now && reads_some q.now)) (op.Where q.now ∷ op.Join join.now right.now ∷ [])) }
+{
+    if !is_unique(join.kind) {
+        return Ok(None);
+    }
+    if !reads_left_keys(alloc, q, join.on.as_slice(), columns)? {
+        return Ok(None);
+    }
+    if reads_none(alloc, q)? {
+        return Ok(None);
+    }
+    filter_and_join(alloc, join, right, q)
+}
+
+// A join by left rows, `where q`, q reads left columns alone: `where q` before it.
+#[tactic(auto, using(crate::proofs::FrontViewSteps::join_steps), unfolding(plan_rules::specs::Rules::join_then_filter))]
+pub(crate) fn join_then_filter(
+    alloc: Global,
+    columns: &[Column],
+    x: &Op,
+    y: &Op,
+) -> Result<Option<Ops>, AllocError>
+    ensures rule { IfOk result (λ o. o ≡ join_then_filter columns.now x.now y.now) }
+{
+    let Some(q) = filter_of(y) else {
+        return Ok(None);
+    };
+    match x {
+        Op::Where(_) => Ok(None),
+        Op::Extend(_) => Ok(None),
+        Op::Project(_) => Ok(None),
+        Op::Take(_) => Ok(None),
+        Op::Count => Ok(None),
+        Op::Serialize => Ok(None),
+        Op::Sort(_) => Ok(None),
+        Op::Top(_, _) => Ok(None),
+        Op::Summarize(_) => Ok(None),
+        Op::MakeSeries(_) => Ok(None),
+        Op::MvExpand(_) => Ok(None),
+        Op::Parse(_) => Ok(None),
+        Op::Join(join, right) => by_left(alloc, columns, join, right, q),
+        Op::Union(_, _) => Ok(None),
+        Op::Scan(_) => Ok(None),
+        Op::Partition(_, _) => Ok(None),
+    }
+}
+
+// `join` innerunique, `where q`, q reads left key columns alone: `where q` before it.
+#[tactic(auto, using(crate::proofs::FrontViewSteps::join_steps), unfolding(plan_rules::specs::Rules::unique_then_filter))]
+pub(crate) fn unique_then_filter(
+    alloc: Global,
+    columns: &[Column],
+    x: &Op,
+    y: &Op,
+) -> Result<Option<Ops>, AllocError>
+    ensures rule { IfOk result (λ o. o ≡ unique_then_filter columns.now x.now y.now) }
+{
+    let Some(q) = filter_of(y) else {
+        return Ok(None);
+    };
+    match x {
+        Op::Where(_) => Ok(None),
+        Op::Extend(_) => Ok(None),
+        Op::Project(_) => Ok(None),
+        Op::Take(_) => Ok(None),
+        Op::Count => Ok(None),
+        Op::Serialize => Ok(None),
+        Op::Sort(_) => Ok(None),
+        Op::Top(_, _) => Ok(None),
+        Op::Summarize(_) => Ok(None),
+        Op::MakeSeries(_) => Ok(None),
+        Op::MvExpand(_) => Ok(None),
+        Op::Parse(_) => Ok(None),
+        Op::Join(join, right) => by_firsts(alloc, columns, join, right, q),
+        Op::Union(_, _) => Ok(None),
+        Op::Scan(_) => Ok(None),
+        Op::Partition(_, _) => Ok(None),
+    }
+}

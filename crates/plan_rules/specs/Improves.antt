@@ -1,0 +1,40 @@
+-- What each use of a rule does: it keeps what the operators mean, and the load falls.
+use Rattle.std.specs.Prelude.{◌≤◌, ◌<◌, Bool, List, [], ◌∷◌, IsSome, length, map}
+use Rattle.kql_cells.specs.declared.schema.Column.{Column}
+use Rattle.kql_bound.specs.declared.plan.Op.{Op}
+use Rattle.kql_bound.specs.declared.plan.Plan.{Plan}
+use Rattle.kql_bound.specs.declared.plan.Program.{Program}
+use Rattle.kql_meaning.specs.Fits.{Known, program_columns}
+use Rattle.plan_rules.specs.Becomes.{Becomes, EachBecomes, PlanBecomes, ProgramBecomes}
+use Rattle.plan_rules.specs.Weight.{IsLighter, in_order, ops_weight, plan_weight, program_weight}
+
+pub record Improves (k : Known) (inside : Bool) (cs : List Column) (xs ys : List Op) : Type 0 where
+  pub becomes : Becomes k inside cs xs ys
+  pub lighter : IsLighter (ops_weight ys) (ops_weight xs)
+  pub no_longer : length ys ≤ length xs
+
+pub record PlanImproves (k : Known) (p q : Plan) : Type 0 where
+  pub becomes : PlanBecomes k p q
+  pub lighter : IsLighter (plan_weight q) (plan_weight p)
+  pub no_longer : length q.ops ≤ length p.ops
+
+-- As many lets, and in the main plan and in each let no more operators.
+abbrev pub AreNoLonger : List Plan → List Plan → Type 0
+AreNoLonger [] [] = Unit {0}
+AreNoLonger (p ∷ ps) (q ∷ qs) = (length p.ops ≤ length q.ops) × AreNoLonger ps qs
+AreNoLonger _ _ = ⊥
+
+pub record IsNoLonger (p q : Program) : Type 0 where
+  pub lets : AreNoLonger p.lets q.lets
+  pub main : length p.main.ops ≤ length q.main.ops
+
+pub record ProgramImproves (p q : Program) : Type 0 where
+  pub becomes : ProgramBecomes p q
+  pub lighter : (program_weight q).load < (program_weight p).load
+  pub no_longer : IsNoLonger q p
+  pub fits : IsSome (program_columns p) → IsSome (program_columns q)
+
+-- One of several plans becomes another.
+pub record PlansImprove (k : Known) (ps qs : List Plan) : Type 0 where
+  pub becomes : EachBecomes k ps qs
+  pub lighter : IsLighter (in_order (map plan_weight qs)) (in_order (map plan_weight ps))

@@ -1,0 +1,26 @@
+-- What each rule keeps: where it fires, the operators become others that fit what these fit, mean the same, and are lighter.
+use Rattle.std.specs.Prelude.{◌≡◌, Bool, List, [], ◌∷◌, Option, Some}
+use Rattle.kql_cells.specs.declared.schema.Column.{Column}
+use Rattle.kql_bound.specs.declared.plan.Op.{Op}
+use Rattle.kql_meaning.specs.Fits.{Known}
+use Rattle.plan_rules.specs.Improves.{Improves}
+
+-- A rule on one operator.
+abbrev pub OneImproves : (Op → Option (List Op)) → Type 0
+OneImproves rule = (k : Known) (inside : Bool) (cs : List Column) (x : Op) (zs : List Op) → rule x ≡ Some zs → Improves k inside cs (x ∷ []) zs
+
+-- A rule on two neighbours.
+abbrev pub PairImproves : (Op → Op → Option (List Op)) → Type 0
+PairImproves rule = (k : Known) (inside : Bool) (cs : List Column) (x y : Op) (zs : List Op) → rule x y ≡ Some zs → Improves k inside cs (x ∷ y ∷ []) zs
+
+-- The same of rules that look at the columns before them.
+
+abbrev pub OneImprovesOver : (List Column → Op → Option (List Op)) → Type 0
+OneImprovesOver rule = (k : Known) (inside : Bool) (cs : List Column) (x : Op) (zs : List Op) → rule cs x ≡ Some zs → Improves k inside cs (x ∷ []) zs
+
+abbrev pub PairImprovesOver : (List Column → Op → Op → Option (List Op)) → Type 0
+PairImprovesOver rule = (k : Known) (inside : Bool) (cs : List Column) (x y : Op) (zs : List Op) → rule cs x y ≡ Some zs → Improves k inside cs (x ∷ y ∷ []) zs
+
+-- And of one that looks at what a plan may name.
+abbrev pub PairImprovesIn : (Known → List Column → Op → Op → Option (List Op)) → Type 0
+PairImprovesIn rule = (k : Known) (inside : Bool) (cs : List Column) (x y : Op) (zs : List Op) → rule k cs x y ≡ Some zs → Improves k inside cs (x ∷ y ∷ []) zs

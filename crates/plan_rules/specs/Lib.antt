@@ -1,0 +1,9 @@
+pub mod Becomes
+pub mod Constants
+pub mod Improves
+pub mod LawsOfRules
+pub mod OwnNames
+pub mod Reads
+pub mod Rules
+pub mod Views
+pub mod Weight
