@@ -85,3 +85,21 @@ pub(crate) fn answer(
     let mut shelf = shelf_of(alloc, asked, &seat.tables)?;
     answer_to(rt, alloc, &words, &mut shelf)
 }
+
+/// What `plain` answers a query, where that is otherwise than `run` answers it. A seat with words of its own names its command.
+pub(crate) fn other_by_plain(
+    rt: &(impl Threads + Sync),
+    alloc: Global,
+    seat: &Seat,
+    asked: &str,
+    found: &str,
+) -> Result<Option<String>, AllocError> {
+    if !seat.words.is_empty() || asked.starts_with("$ ") {
+        return Ok(None);
+    }
+    let plain = answer(rt, alloc, seat, "plain", asked)?;
+    if plain.as_str() == found {
+        return Ok(None);
+    }
+    Ok(Some(plain))
+}

@@ -12,7 +12,7 @@
 mod answers;
 mod seat;
 
-use crate::answers::answer;
+use crate::answers::{answer, other_by_plain};
 use crate::seat::Seat;
 use std::io;
 use std::process::ExitCode;
@@ -46,20 +46,6 @@ fn counted(
     })
 }
 
-// Whether `plain` answers a query as `run` does, and tells it where it does not. A seat with words of its own names its command.
-fn is_plain_same(rt: &HostRuntime, seat: &Seat, asked: &str, found: &str) -> io::Result<bool> {
-    if !seat.words.is_empty() || asked.starts_with("$ ") {
-        return Ok(true);
-    }
-    let plain = answer(rt, rt.alloc(), seat, "plain", asked)?;
-    if plain.as_str() == found {
-        return Ok(true);
-    }
-    let plain = plain.as_str();
-    println!(rt; "{asked}: by plain {plain}, not {found}")?;
-    Ok(false)
-}
-
 fn main(rt: HostRuntime) -> io::Result<ExitCode> {
     let mut seat = Seat::new(rt.alloc());
     let mut counts = Counts { rows: 0, wrong: 0 };
@@ -72,7 +58,9 @@ fn main(rt: HostRuntime) -> io::Result<ExitCode> {
         } else if let Some((asked, wanted)) = line.split_once('\t') {
             let found = answer(&rt, rt.alloc(), &seat, "run", asked)?;
             counts = counted(&rt, counts, asked, found.as_str(), wanted)?;
-            if !is_plain_same(&rt, &seat, asked, found.as_str())? {
+            if let Some(plain) = other_by_plain(&rt, rt.alloc(), &seat, asked, found.as_str())? {
+                let plain = plain.as_str();
+                println!(rt; "{asked}: by plain {plain}")?;
                 counts.wrong = counts.wrong.saturating_add(1);
             }
         } else if let Some((name, text)) = line.split_once('=') {
