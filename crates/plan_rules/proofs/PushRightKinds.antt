@@ -251,7 +251,7 @@ known-becomes k inside cs j p q zs h = record {
   keeps = λ ds e.
       let t = two-columns k inside cs (V.Join j p) (V.Where q) ds e in
       let rc = joined-there j cs t.0 (plan_columns p k) (outside-some inside (joined_columns j cs (plan_columns p k)) t.0 (sym (join-out j p k inside cs) ∙ t.1)) in
-      (h (rc.1 ∙ ap (λ c. Some c) (sym (plan-makes-its p k rc.0 rc.1)))).keeps ds e
+      (h (rc.1 ∙ ap (λ c. Some c) (sym (plan-makes-its p k rc.0 rc.1)))).keeps ds e;
 }
 
 pub join_then_right_filter-improves : EachPlanKeeps → (k : Known) (inside : Bool) (cs : List Column) (x y : Op) (zs : List Op) → join_then_right_filter k cs x y ≡ Some zs → Improves k inside cs (x ∷ y ∷ []) zs
