@@ -3,6 +3,7 @@ pub mod ChoiceSteps
 pub mod ColumnSteps
 pub mod FormFacts
 pub mod JoinSteps
+pub mod LentSteps
 pub mod LocatedSteps
 pub mod MeansSteps
 pub mod NodeSteps

@@ -1,6 +1,7 @@
 pub mod Chains
 pub mod Choices
 pub mod Evaluated
+pub mod Held
 pub mod Joins
 pub mod Means
 pub mod Opposites

@@ -1,13 +1,16 @@
 //! What operators call.
-ghost use Rattle.std.specs.Prelude.{◌≡◌, ◌<◌, ◌≤◌, ◌-◌, [], All, IfOk, IfSome, filter, length, map};
+ghost use Rattle.std.specs.Prelude.{◌≡◌, ◌<◌, ◌≤◌, ◌-◌, [], All, IfOk, filter, length, map};
 ghost use Rattle.kql_cells.specs.Values.{IsWellFormed};
 ghost use Rattle.kql_meaning.specs.Expressions.{val};
+ghost use Rattle.kql_meaning.specs.FittingExpressions.{is_plain_column};
 ghost use Rattle.kql_scalar.specs.Evaluated.{AreSound};
+ghost use Rattle.kql_scalar.specs.Held.{held, is_lent};
 ghost use Rattle.kql_scalar.specs.Rows.{passes, passes_with, rows};
 ghost use Rattle.kql_scalar.specs.Scalar.{IsScalar};
 ghost use Rattle.kql_scalar.specs.Shown.{shown};
 
 use crate::lent::Lent;
+use crate::lent_column::LentColumn;
 use crate::locate::locate;
 use crate::node::Located;
 use crate::rows::{passes_with, places_in};
@@ -85,13 +88,20 @@ impl Located {
         values_at(alloc, &self.node, self.kind, t, from, to)
     }
 
-    /// The vector of the table itself that has the values at all rows, where the expression is a column.
-    pub fn lent_column<'a>(&self, t: &'a Table) -> Option<&'a Vector>
+    /// The values at all rows: the table's own vector where the expression is a column alone that is there, else one that is made.
+    pub fn lent_column<'a>(&self, alloc: Global, t: &'a Table) -> Result<LentColumn<'a>, AllocError>
         requires columns { t.now.columns ≡ self.now.columns }
-        ensures values { IfSome result (λ v. v.now ≡ map (λ i. val self.now.expr t.now i []) (rows 0 (length t.now.lines))) }
-        ensures count { IfSome result (λ v. length v.now ≡ length t.now.lines) }
+        ensures values { IfOk result (λ c. held c ≡ map (λ i. val self.now.expr t.now i []) (rows 0 (length t.now.lines))) }
+        ensures count { IfOk result (λ c. length (held c) ≡ length t.now.lines) }
+        ensures lent { IfOk result (λ c. is_lent c ≡ is_plain_column self.now.columns self.now.expr) }
     {
-        lent_values(&self.node, t)
+        match lent_values(&self.node, t) {
+            Some(vector) => Ok(LentColumn::Lent(vector)),
+            None => {
+                let vector = self.column_of(alloc, t, 0, t.len())?;
+                Ok(LentColumn::Made(vector))
+            }
+        }
     }
 
     /// The places of these rows at which the value is true, rising.

@@ -1,6 +1,7 @@
 //! The values of a part at the rows of a range, as a vector.
-ghost use Rattle.std.specs.Prelude.{◌≡◌, ◌<◌, ◌≤◌, ◌++◌, ◌∷◌, [], IfOk, IfSome, OnOk, OnErr, Some, length, map};
+ghost use Rattle.std.specs.Prelude.{◌≡◌, ◌<◌, ◌≤◌, ◌++◌, ◌∷◌, [], IfOk, IfSome, OnOk, OnErr, Some, is_some, length, map};
 ghost use Rattle.kql_meaning.specs.Expressions.{val};
+ghost use Rattle.kql_meaning.specs.FittingExpressions.{is_plain_column};
 ghost use Rattle.kql_meaning.specs.Tables.{cell_in};
 ghost use Rattle.kql_scalar.specs.Means.{IsPlaced, means};
 ghost use Rattle.kql_scalar.specs.Rows.{rows};
@@ -62,16 +63,23 @@ fn column_at(
     t.column(place).slice(alloc, from, to)
 }
 
-/// The vector of the table itself that has a part's values at all rows, where the part is a column.
-#[tactic(auto, using(crate::proofs::ColumnSteps::range_steps))]
+/// The vector of the table itself that has a part's values at all rows: just where the part is a column that is there.
+#[tactic(auto, using(crate::proofs::ColumnSteps::range_steps, crate::proofs::LentSteps::lent_steps))]
 pub(crate) fn lent_values<'a>(node: &Node, t: &'a Table) -> Option<&'a Vector>
     requires placed { IsPlaced t.now.columns node.now }
+    ensures lent { is_some result ≡ is_plain_column t.now.columns (means node.now) }
     ensures values { IfSome result (λ v. v.now ≡ map (λ i. val (means node.now) t.now i []) (rows 0 (length t.now.lines))) }
     ensures count { IfSome result (λ v. length v.now ≡ length t.now.lines) }
 {
     match node {
         Node::Column(_, place) => Some(whole_column(t, *place)),
-        _ => None,
+        Node::Literal(_)
+        | Node::Missing(_)
+        | Node::Step(_)
+        | Node::Call(..)
+        | Node::Chain(..)
+        | Node::Path(..)
+        | Node::Window(..) => None,
     }
 }
 

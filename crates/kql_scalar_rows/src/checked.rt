@@ -4,7 +4,7 @@ ghost use Rattle.kql_scalar.specs.Evaluated.{AreSound};
 ghost use Rattle.kql_scalar.specs.Scalar.{IsScalar};
 
 use crate::cells::{cell_text, count_of, text_at};
-use crate::columns::wrong_range;
+use crate::columns::{wrong_cell, wrong_range};
 use crate::trees::bound;
 use bind_expr::Scope;
 use kql_bound::BExpr;
@@ -115,7 +115,8 @@ fn wrong_lent(
     Ok(None)
 }
 
-// What is wrong with the columns and places, of the whole table and inside of it.
+// What is wrong with the columns and places, of the whole table and inside of it. The whole column is asked for twice: as one that may be
+// lent, and as one that is made.
 fn wrong_ranges(
     alloc: Global,
     located: &Located,
@@ -125,6 +126,11 @@ fn wrong_ranges(
 ) -> Result<Option<String>, AllocError>
     requires columns { t.now.columns ≡ located.now.columns }
 {
+    let lent = located.lent_column(alloc, t)?;
+    let told = wrong_cell(alloc, lent.as_vector(), kind, texts, 0)?;
+    if told.is_some() {
+        return Ok(told);
+    }
     let whole = wrong_range(alloc, located, kind, t, texts, 0, t.len())?;
     if whole.is_some() || t.len() < TO {
         return Ok(whole);

@@ -7,8 +7,8 @@ use kql_scalar::Located;
 use kql_values::{Table, Vector};
 use std::alloc::{AllocError, Global};
 
-// The first cell of a column, whose first row is `from`, that is not as said.
-fn wrong_cell(
+/// The first cell of a column, whose first row is `from`, that is not as said.
+pub(crate) fn wrong_cell(
     alloc: Global,
     column: &Vector,
     kind: Kind,
