@@ -1,7 +1,7 @@
 -- Functions of the values that columns have at each place.
-use Rattle.std.proofs.Common.{◌≡◌, ◌<◌, ◌+◌, ◌++◌, ℕ, zero, suc, List, [], ◌∷◌, get_or, length, map, take, refl, ap, ap₂, sym, ◌∙◌, subst, arith}
+use Rattle.std.proofs.Common.{◌≡◌, ◌<◌, ◌+◌, ◌++◌, ℕ, List, [], ◌∷◌, get_or, length, map, take, refl, ap, ap₂, sym, ◌∙◌, subst, arith}
 use Rattle.std.specs.Prelude.{All}
-use Rattle.std.specs.List.{AllByRecursion, range_with_len}
+use Rattle.std.specs.List.{AllByRecursion}
 use Rattle.std.proofs.lemmas.List.{map-append, take_more}
 use Rattle.std.proofs.lemmas.List.Elements.{All-from_recursion, recursion_from_All}
 use Rattle.std.proofs.lemmas.List.FromFn.{map-range_with_len_more}
@@ -11,7 +11,7 @@ use Rattle.kql_cells.specs.declared.cell.CellRef.{CellRef}
 use Rattle.kql_cells.specs.declared.value.Value.{Value}
 use Rattle.kql_cells.specs.declared.value.Value.TheVariants as value
 use Rattle.kql_values.specs.Grids.{HaveLength, row_of}
-use Rattle.kql_values.proofs.GridLaws.{HaveLength-at, row_of-more, row_of-none}
+use Rattle.kql_values.proofs.GridLaws.{row_of-more}
 use Rattle.kql_functions.specs.declared.func.Func.{Func}
 use Rattle.kql_scalar_fns.specs.Applied.{applied}
 use Rattle.kql_scalar_fns.specs.Arguments.{AreWellFormed}

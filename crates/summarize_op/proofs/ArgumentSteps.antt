@@ -1,12 +1,11 @@
 -- The values of arguments at all rows.
 use Rattle.std.proofs.Common.{◌≡◌, ◌<◌, ◌≤◌, ◌+◌, ◌-◌, ◌++◌, ℕ, zero, suc, Bool, true, List, [], ◌∷◌, get_or, length, map, take, refl, ap, ap₂, sym, ◌∙◌, subst, arith}
-use Rattle.std.specs.Prelude.{◌&&◌, All, None, Option, Some}
+use Rattle.std.specs.Prelude.{◌&&◌, None, Option, Some}
 use Rattle.std.specs.List.{AllByRecursion, list_all, range_with_len}
 use Rattle.std.proofs.lemmas.Bool.{and_parts}
 use Rattle.std.proofs.lemmas.List.{map-append, take_more}
 use Rattle.std.proofs.lemmas.List.Elements.{All-from_recursion}
 use Rattle.std.proofs.lemmas.List.FromFn.{get_or-map-range_with_len, length-map-range_with_len}
-use Rattle.kql_cells.specs.Seen.{value_at}
 use Rattle.kql_cells.specs.Table.{Grid}
 use Rattle.kql_cells.specs.Values.{IsWellFormed}
 use Rattle.kql_cells.specs.declared.schema.Column.{Column}
@@ -19,7 +18,7 @@ use Rattle.kql_functions.specs.declared.aggregate.Aggregate.{Aggregate}
 use Rattle.kql_bound.specs.declared.expr.BExpr.{BExpr}
 use Rattle.kql_meaning.specs.declared.position.Position.TheVariants as position
 use Rattle.kql_meaning.specs.Expressions.{kind_of, val, values_in}
-use Rattle.kql_meaning.specs.FittingExpressions.{aggregate_takes, expr_fits, scope_of, takes_aggregate, takes_columns}
+use Rattle.kql_meaning.specs.FittingExpressions.{aggregate_takes, expr_fits, scope_of, takes_aggregate}
 use Rattle.kql_meaning.specs.RowByRow.{is_plain}
 use Rattle.kql_meaning.specs.Tables.{places, places_below}
 use Rattle.kql_meaning.proofs.ExpressionFitLaws.{aggregate-checked}

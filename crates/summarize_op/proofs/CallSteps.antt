@@ -1,11 +1,9 @@
 -- A call over groups is the value of its folds.
-use Rattle.std.proofs.Common.{◌≡◌, ◌≢◌, ◌<◌, ◌≤◌, ◌+◌, ◌==◌, ℕ, zero, suc, Bool, true, List, [], ◌∷◌, length, map, take, refl, ap, ap₂, sym, ◌∙◌, subst, inl, inr, arith}
-use Rattle.std.specs.Prelude.{All}
+use Rattle.std.proofs.Common.{◌≡◌, ◌≢◌, ◌<◌, ◌≤◌, ◌+◌, ◌==◌, ℕ, suc, Bool, true, List, [], ◌∷◌, length, map, take, refl, ap, ap₂, sym, ◌∙◌, subst, inl, inr, arith}
 use Rattle.std.specs.List.{AllByRecursion, list_all, range_with_len}
 use Rattle.std.proofs.lemmas.Bool.{cases_Bool}
 use Rattle.std.proofs.lemmas.List.Elements.{All-from_recursion}
-use Rattle.std.proofs.lemmas.List.FromFn.{length-map-range_with_len}
-use Rattle.kql_cells.specs.Table.{Grid, gathered}
+use Rattle.kql_cells.specs.Table.{Grid}
 use Rattle.kql_cells.specs.Values.{IsWellFormed}
 use Rattle.kql_cells.specs.declared.schema.Column.{Column}
 use Rattle.kql_cells.specs.declared.value.Value.{Value}
@@ -18,14 +16,13 @@ use Rattle.kql_functions.specs.declared.aggregate.Aggregate.TheVariants as aggre
 use Rattle.kql_bound.specs.declared.expr.BExpr.{BExpr}
 use Rattle.kql_bound.specs.declared.expr.BExpr.TheVariants as V
 use Rattle.kql_meaning.specs.declared.position.Position.TheVariants as position
-use Rattle.kql_meaning.specs.Aggregates.{aggregated}
-use Rattle.kql_meaning.specs.Expressions.{aggregate_kind, kind_of, kinds_in, reading, val, values_in}
-use Rattle.kql_meaning.specs.FittingExpressions.{aggregate_takes, expr_fits, scope_of}
+use Rattle.kql_meaning.specs.Expressions.{aggregate_kind, kinds_in, val, values_in}
+use Rattle.kql_meaning.specs.FittingExpressions.{aggregate_takes}
 use Rattle.kql_meaning.specs.RowByRow.{is_plain}
 use Rattle.kql_meaning.specs.Tables.{places}
 use Rattle.kql_meaning.proofs.ListLaws.{every-map-range}
 use Rattle.kql_meaning.proofs.ValueLaws.{val-Aggregate}
-use Rattle.kql_fit_laws.specs.LawsOfExpressions.{FitsKnown, RecordsFit, no_steps}
+use Rattle.kql_fit_laws.specs.LawsOfExpressions.{RecordsFit, no_steps}
 use Rattle.kql_fit_laws.specs.LawsOfRows.{IsTable}
 use Rattle.kql_fit_laws.proofs.AggregateRows.{aggregate-known, call-parts}
 use Rattle.kql_fit_laws.proofs.ExpressionLaws.{expressions_keep}

@@ -1,5 +1,5 @@
 -- The groups by one key or more.
-use Rattle.std.proofs.Common.{◌≡◌, ◌<◌, ◌≤◌, ◌++◌, ℕ, zero, suc, Bool, true, List, [], ◌∷◌, filter, length, map, get_or, refl, ap, ap₂, sym, ◌∙◌, subst, inl, inr, arith, Bor}
+use Rattle.std.proofs.Common.{◌≡◌, ◌<◌, ◌≤◌, ◌++◌, ℕ, Bool, true, List, [], ◌∷◌, filter, length, map, get_or, refl, ap, ap₂, sym, ◌∙◌, subst, inl, inr, arith, Bor}
 use Rattle.std.specs.Prelude.{All, not}
 use Rattle.std.specs.List.{AllByRecursion, range_with_len}
 use Rattle.std.proofs.lemmas.Bool.{cases_Bool}
@@ -14,7 +14,6 @@ use Rattle.kql_cells.specs.declared.value.Value.TheVariants as value
 use Rattle.kql_values.specs.Grids.{HaveLength, row_of, rows_of}
 use Rattle.kql_values.proofs.GridLaws.{HaveLength-gathered, rows_of-length}
 use Rattle.kql_keys.specs.Numbers.{distinct, first_places, numbers_of}
-use Rattle.kql_keys.specs.Places.{places_of}
 use Rattle.kql_keys.proofs.KeyLaws.{group-rows}
 use Rattle.kql_keys.proofs.NumberLaws.{firsts-are, is_first}
 use Rattle.kql_bound.specs.declared.parts.BItem.{BItem}

@@ -1,18 +1,16 @@
 -- One pass over rows, with a fold for each group.
-use Rattle.std.proofs.Common.{◌≡◌, ◌≢◌, ◌<◌, ◌≤◌, ◌+◌, ◌^◌, ◌==◌, ◌++◌, ℕ, zero, suc, Bool, true, false, List, [], ◌∷◌, get_or, set, length, map, take, refl, ap, sym, ◌∙◌, subst, inl, inr, arith, if◌then◌else◌}
+use Rattle.std.proofs.Common.{◌≡◌, ◌≢◌, ◌<◌, ◌≤◌, ◌+◌, ◌^◌, ◌==◌, ◌++◌, ℕ, true, false, List, [], ◌∷◌, get_or, set, length, map, take, refl, ap, sym, ◌∙◌, subst, inl, inr, arith}
 use Rattle.std.specs.Prelude.{All}
 use Rattle.std.specs.List.{AllByRecursion, range_with_len}
 use Rattle.std.proofs.lemmas.Bool.{cases_Bool}
 use Rattle.std.proofs.lemmas.Bool.Decides.{nat_tests}
 use Rattle.std.proofs.lemmas.List.{append-nil, ext_get_or, get_or-set_other, get_or-set_same, length-map, length-set, length-take-le, map-append}
-use Rattle.std.proofs.lemmas.List.Elements.{All-from_recursion, recursion_from_All}
+use Rattle.std.proofs.lemmas.List.Elements.{recursion_from_All}
 use Rattle.std.proofs.lemmas.List.FromFn.{get_or-map-range_with_len, length-map-range_with_len, map-range_with_len_more}
-use Rattle.kql_cells.specs.Seen.{seen, value_at}
-use Rattle.kql_cells.specs.Values.{IsWellFormed}
-use Rattle.kql_cells.specs.declared.cell.CellRef.{CellRef}
+use Rattle.kql_cells.specs.Seen.{value_at}
 use Rattle.kql_cells.specs.declared.value.Value.{Value}
-use Rattle.kql_values.specs.Grids.{HaveLength, row_of}
-use Rattle.kql_keys.specs.Places.{places_of, times}
+use Rattle.kql_values.specs.Grids.{row_of}
+use Rattle.kql_keys.specs.Places.{places_of}
 use Rattle.kql_keys.proofs.PlaceFacts.{places-more, places-size, times-low}
 use Rattle.kql_scalar_fns.specs.Arguments.{AreWellFormed}
 use Rattle.agg_folds.specs.Folds.{folded}

@@ -1,6 +1,6 @@
 -- Columns at one row of each group.
-use Rattle.std.proofs.Common.{◌≡◌, ◌<◌, ◌≤◌, ◌+◌, ◌++◌, ℕ, zero, suc, Bool, true, false, List, [], ◌∷◌, get_or, length, map, take, drop, refl, ap, ap₂, sym, ◌∙◌, subst, inl, inr, arith}
-use Rattle.std.specs.Prelude.{◌&&◌, ◌≢◌, All, Option, None, Some, bytes_eq, slice_get, slice_index_or}
+use Rattle.std.proofs.Common.{◌≡◌, ◌<◌, ◌+◌, ◌++◌, ℕ, zero, suc, true, List, [], ◌∷◌, get_or, length, map, take, refl, ap, ap₂, sym, ◌∙◌, subst, inl, inr, arith}
+use Rattle.std.specs.Prelude.{◌≢◌, All, Option, None, Some, bytes_eq, slice_get, slice_index_or}
 use Rattle.std.specs.List.{AllByRecursion, list_all, range_with_len}
 use Rattle.std.proofs.lemmas.Bool.{and_parts, cases_Bool}
 use Rattle.std.proofs.lemmas.List.{get_or-map, length-map, map-append, take_more}
@@ -10,13 +10,13 @@ use Rattle.std.proofs.lemmas.Option.{slice_get_within}
 use Rattle.std.proofs.lemmas.Slice.Eq.{bytes_eq-Decides}
 use Rattle.kql_cells.specs.Keys.{absent}
 use Rattle.kql_cells.specs.Named.{IsAbsent, column_name, place_of}
-use Rattle.kql_cells.specs.Seen.{cell_at, row_at, value_at}
+use Rattle.kql_cells.specs.Seen.{row_at, value_at}
 use Rattle.kql_cells.specs.Table.{Grid, IsGrid, gathered}
 use Rattle.kql_cells.specs.declared.schema.Column.{Column}
 use Rattle.kql_cells.specs.declared.value.Value.{Value}
 use Rattle.kql_cells.specs.declared.value.Value.TheVariants as value
 use Rattle.kql_values.specs.Grids.{HaveLength, column_at, row_of}
-use Rattle.kql_values.specs.Moves.{IsWithin, column_of, value_or}
+use Rattle.kql_values.specs.Moves.{IsWithin, value_or}
 use Rattle.kql_keys.specs.Places.{places_by, places_of}
 use Rattle.kql_bound.specs.declared.expr.BExpr.{BExpr, out-BExpr, roll-BExpr, roll-out-BExpr}
 use Rattle.kql_bound.specs.declared.expr.BExpr.TheOpen.{BExpr-F}

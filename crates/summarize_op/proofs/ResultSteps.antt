@@ -1,15 +1,12 @@
 -- The result columns of calls.
-use Rattle.std.proofs.Common.{◌≡◌, ◌≢◌, ◌<◌, ◌≤◌, ◌+◌, ◌++◌, ℕ, zero, suc, Bool, true, false, List, [], ◌∷◌, get_or, length, map, take, drop, refl, ap, ap₂, sym, ◌∙◌, subst, inl, inr, arith}
-use Rattle.std.specs.Prelude.{◌&&◌, All, Option, None, Some, slice_get, slice_index_or}
-use Rattle.std.specs.List.{AllByRecursion, list_all, range_with_len}
+use Rattle.std.proofs.Common.{◌≡◌, ◌≢◌, ◌<◌, ◌≤◌, ℕ, true, false, List, [], ◌∷◌, get_or, length, take, drop, refl, ap, ap₂, sym, ◌∙◌, subst, arith}
+use Rattle.std.specs.Prelude.{All, Option, slice_get, slice_index_or}
+use Rattle.std.specs.List.{list_all, range_with_len}
 use Rattle.std.proofs.lemmas.Bool.{and_parts}
 use Rattle.std.proofs.lemmas.List.FromFn.{get_or-map-range_with_len, length-map-range_with_len}
-use Rattle.kql_cells.specs.Seen.{value_at}
 use Rattle.kql_cells.specs.Table.{Grid}
 use Rattle.kql_cells.specs.declared.schema.Column.{Column}
 use Rattle.kql_cells.specs.declared.value.Value.{Value}
-use Rattle.kql_cells.specs.declared.value.Value.TheVariants as value
-use Rattle.kql_values.specs.Grids.{HaveLength}
 use Rattle.kql_values.specs.Moves.{IsWithin}
 use Rattle.kql_keys.specs.Places.{places_of}
 use Rattle.kql_functions.specs.Kinds.{has_order}
@@ -20,12 +17,11 @@ use Rattle.kql_bound.specs.declared.expr.BExpr.TheOpen.{BExpr-F}
 use Rattle.kql_bound.specs.declared.expr.BExpr.TheVariants as V
 use Rattle.kql_scalar_fns.specs.Arguments.{AreWellFormed}
 use Rattle.kql_meaning.specs.Aggregates.{aggregated}
-use Rattle.kql_meaning.specs.Expressions.{kind_of, reading, val, values_in}
+use Rattle.kql_meaning.specs.Expressions.{kind_of, val, values_in}
 use Rattle.kql_meaning.specs.FittingExpressions.{aggregate_takes, best_of, first_row_of, has_kind, is_plain_column}
 use Rattle.kql_meaning.specs.Readings.{reading_at}
-use Rattle.kql_meaning.specs.Results.{compared_values, greatest_row, least_row, results, results_step}
+use Rattle.kql_meaning.specs.Results.{results, results_step}
 use Rattle.kql_meaning.specs.RowByRow.{is_plain}
-use Rattle.kql_meaning.specs.Tables.{places}
 use Rattle.kql_meaning.proofs.JoinLaws.{map-map}
 use Rattle.kql_meaning.proofs.ValueLaws.{val-Aggregate}
 use Rattle.kql_fit_laws.specs.LawsOfRows.{IsTable}
@@ -34,11 +30,11 @@ use Rattle.agg_folds.specs.Folds.{chosen_row}
 use Rattle.agg_folds.specs.Laws.{argument_rows as fold_rows}
 use Rattle.agg_folds.specs.declared.call.FoldCall.{FoldCall}
 use Rattle.agg_folds.proofs.FoldLaws.{chosen-is-greatest, chosen-is-least}
-use Rattle.summarize_op.specs.Calls.{HasOne, IsCall, best_row, best_rows, is_best, is_first}
+use Rattle.summarize_op.specs.Calls.{IsCall, best_row, best_rows, is_best, is_first}
 use Rattle.summarize_op.specs.Columns.{AreColumns}
 use Rattle.summarize_op.specs.Grouped.{AreNumbers, over}
 use Rattle.summarize_op.specs.Groups.{group_at, zeros}
-use Rattle.summarize_op.specs.Passes.{AreArguments, argument_columns, folded_over, group_args}
+use Rattle.summarize_op.specs.Passes.{argument_columns, folded_over, group_args}
 use Rattle.summarize_op.specs.Picks.{all_picked, at_row, chosen_over, picked, picked_rows}
 use Rattle.summarize_op.proofs.ArgumentSteps.{args-plain, arguments-formed, arguments-long, call-takes, first-arguments, first-plain}
 use Rattle.summarize_op.proofs.CallSteps.{call-formed, columns-long, folded-is, group-columns, rows-of-group}

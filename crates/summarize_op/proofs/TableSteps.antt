@@ -1,29 +1,29 @@
 -- The table of the groups.
-use Rattle.std.proofs.Common.{◌≡◌, ◌<◌, ◌++◌, ℕ, Bool, true, false, List, [], length, map, refl, ap, ap₂, sym, ◌∙◌, subst, arith, rules}
-use Rattle.std.specs.Prelude.{◌&&◌, All, None, Option, Some, is_some, if◌then◌else◌}
+use Rattle.std.proofs.Common.{◌≡◌, ◌++◌, ℕ, Bool, true, false, List, [], map, refl, ap, ap₂, sym, ◌∙◌, subst, arith, rules}
+use Rattle.std.specs.Prelude.{Some, is_some}
 use Rattle.std.specs.List.{list_all, range_with_len}
 use Rattle.std.proofs.lemmas.Bool.{and_parts}
 use Rattle.kql_cells.specs.Named.{HasDistinctNames, column_name}
-use Rattle.kql_cells.specs.Table.{Grid, IsGrid, RowFits}
+use Rattle.kql_cells.specs.Table.{Grid, IsGrid}
 use Rattle.kql_cells.specs.declared.schema.Column.{Column}
 use Rattle.kql_cells.specs.declared.value.Value.{Value}
 use Rattle.kql_values.specs.Grids.{HaveLength, row_of, rows_of}
 use Rattle.kql_values.proofs.GridLaws.{HaveLength-append}
 use Rattle.kql_bound.specs.declared.parts.BItem.{BItem}
 use Rattle.kql_bound.specs.declared.parts.GroupPlan.{GroupPlan}
-use Rattle.kql_bound.specs.declared.plan.Op.{Op, the_lemmas}
+use Rattle.kql_bound.specs.declared.plan.Op.{the_lemmas}
 use Rattle.kql_bound.specs.declared.plan.Op.TheOpen.{Op-F}
 use Rattle.kql_bound.specs.declared.plan.Op.TheVariants as O
 use Rattle.kql_meaning.specs.Fits.{Known}
-use Rattle.kql_meaning.specs.FittingOperators.{answer_if, columns_if, group_item_fits, is_empty, key_item_fits, summarize_fits}
+use Rattle.kql_meaning.specs.FittingOperators.{answer_if, columns_if, group_item_fits, key_item_fits, summarize_fits}
 use Rattle.kql_meaning.specs.Items.{items_values}
-use Rattle.kql_meaning.specs.Plans.{World, op_means}
+use Rattle.kql_meaning.specs.Plans.{World}
 use Rattle.kql_meaning.specs.Summarize.{group_columns, group_rows, summarize_table}
 use Rattle.kql_meaning.proofs.OperatorFitLaws.{op-Summarize}
 use Rattle.kql_fit_laws.proofs.ItemLaws.{each_summarize_keeps}
 use Rattle.kql_fit_laws.proofs.RowFacts.{answer-some}
 use Rattle.kql_fit_laws.proofs.RowLaws.{means}
-use Rattle.kql_fit_laws.specs.LawsOfRows.{IsTable, IsTableOf}
+use Rattle.kql_fit_laws.specs.LawsOfRows.{IsTable}
 use Rattle.summarize_op.specs.Columns.{AreColumns}
 use Rattle.summarize_op.specs.Grouped.{AreNumbers}
 use Rattle.summarize_op.specs.Groups.{AreGroups, group_at}

@@ -1,5 +1,5 @@
 -- Calls of aggregates over groups.
-use Rattle.std.specs.Prelude.{◌≡◌, ◌<◌, Bool, ℕ, List, [], true, false, map}
+use Rattle.std.specs.Prelude.{◌≡◌, Bool, ℕ, List, [], true, false, map}
 use Rattle.std.specs.List.{range_with_len}
 use Rattle.kql_cells.specs.Table.{Grid}
 use Rattle.kql_cells.specs.declared.schema.Column.{Column}

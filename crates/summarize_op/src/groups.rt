@@ -4,12 +4,13 @@ ghost use Rattle.std.specs.List.{list_all};
 ghost use Rattle.kql_cells.specs.Seen.{value_at};
 ghost use Rattle.kql_values.specs.Grids.{HaveLength};
 ghost use Rattle.kql_meaning.specs.FittingOperators.{key_item_fits};
+ghost use Rattle.kql_scalar.specs.Held.{held};
 ghost use Rattle.summarize_op.specs.Groups.{AreGroups, key_columns, values_down, zeros};
 
 use kql_bound::BItem;
 use kql_items::Items;
 use kql_keys::{Numbered, number_keys};
-use kql_scalar::Located;
+use kql_scalar::{LentColumn, Located};
 use kql_values::{Table, Vector};
 use std::alloc::{AllocError, Global};
 
@@ -68,9 +69,9 @@ fn keyed_groups(alloc: Global, t: &Table, keys: &[BItem]) -> Result<Groups, Allo
     ensures groups { IfOk result (λ g. AreGroups keys.now t.now g.columns.items g.numbers g.count) }
     ensures small { IfOk result (λ g. g.count < 2 ^ 63) }
 {
-    let vectors = key_vectors(alloc, t, keys)?;
-    let lent = lent(alloc, vectors.as_slice())?;
-    let Numbered { numbers, firsts } = number_keys(alloc, lent.as_slice(), t.len())?;
+    let held = key_vectors(alloc, t, keys)?;
+    let vectors = lent(alloc, held.as_slice())?;
+    let Numbered { numbers, firsts } = number_keys(alloc, vectors.as_slice(), t.len())?;
     let columns = gathered(alloc, vectors.as_slice(), firsts.as_slice(), t.len())?;
     let count = firsts.as_slice().len();
     Ok(Groups {
@@ -80,11 +81,15 @@ fn keyed_groups(alloc: Global, t: &Table, keys: &[BItem]) -> Result<Groups, Allo
     })
 }
 
-// The values of each key at all rows.
+// The values of each key at all rows. A key that is a column is read where it stands.
 #[tactic(auto, using(crate::proofs::KeySteps::key_steps))]
-fn key_vectors(alloc: Global, t: &Table, keys: &[BItem]) -> Result<Vec<Vector>, AllocError>
+fn key_vectors<'a>(
+    alloc: Global,
+    t: &'a Table,
+    keys: &[BItem],
+) -> Result<Vec<LentColumn<'a>>, AllocError>
     requires fits { IsTrue (list_all (key_item_fits t.now.columns) keys.now) }
-    ensures values { IfOk result (λ vs. vs.items ≡ key_columns keys.now t.now) }
+    ensures values { IfOk result (λ vs. map held vs.items ≡ key_columns keys.now t.now) }
 {
     let mut vectors = Vec::new(alloc);
     'keys: for key in keys {
@@ -95,21 +100,22 @@ fn key_vectors(alloc: Global, t: &Table, keys: &[BItem]) -> Result<Vec<Vector>, 
 }
 
 #[tactic(auto, using(crate::proofs::KeySteps::scalar_steps))]
-fn key_vector(alloc: Global, t: &Table, key: &BItem) -> Result<Vector, AllocError>
+fn key_vector<'a>(alloc: Global, t: &'a Table, key: &BItem) -> Result<LentColumn<'a>, AllocError>
     requires fits { IsTrue (key_item_fits t.now.columns key.now) }
-    ensures values { IfOk result (λ v. v ≡ values_down key.now t.now) }
+    ensures values { IfOk result (λ v. held v ≡ values_down key.now t.now) }
 {
     let located = Located::new(alloc, &key.expr, t.schema())?;
-    located.column_of(alloc, t, 0, t.len())
+    located.lent_column(alloc, t)
 }
 
-// Vectors, lent one by one.
-fn lent<'a>(alloc: Global, vectors: &'a [Vector]) -> Result<Vec<&'a Vector>, AllocError>
-    ensures same { IfOk result (λ ls. map (λ c. c.now) ls.items ≡ vectors.now) }
+// The vectors of columns, one by one.
+#[tactic(auto, using(crate::proofs::KeySteps::lent_steps))]
+fn lent<'a>(alloc: Global, columns: &'a [LentColumn<'a>]) -> Result<Vec<&'a Vector>, AllocError>
+    ensures same { IfOk result (λ ls. map (λ c. c.now) ls.items ≡ map held columns.now) }
 {
-    let mut lent = Vec::with_capacity(alloc, vectors.len())?;
-    for vector in vectors {
-        lent.push(vector)?;
+    let mut lent = Vec::with_capacity(alloc, columns.len())?;
+    for column in columns {
+        lent.push(column.as_vector())?;
     }
     Ok(lent)
 }
@@ -118,13 +124,13 @@ fn lent<'a>(alloc: Global, vectors: &'a [Vector]) -> Result<Vec<&'a Vector>, All
 #[tactic(auto, using(crate::proofs::KeySteps::gather_steps))]
 fn gathered(
     alloc: Global,
-    vectors: &[Vector],
+    vectors: &[&Vector],
     places: &[usize],
     count: usize,
 ) -> Result<Vec<Vector>, AllocError>
-    requires long { HaveLength count vectors.now }
+    requires long { HaveLength count (map (λ c. c.now) vectors.now) }
     requires within { All (λ i. i < count) places.now }
-    ensures values { IfOk result (λ vs. vs.items ≡ map (λ v. map (value_at v) places.now) vectors.now) }
+    ensures values { IfOk result (λ vs. vs.items ≡ map (λ v. map (value_at v) places.now) (map (λ c. c.now) vectors.now)) }
 {
     let mut gathered = Vec::with_capacity(alloc, vectors.len())?;
     for vector in vectors {

@@ -1,4 +1,4 @@
-use Rattle.std.proofs.Common.{◌∙◌, ap, refl, rules, subst, sym}
+use Rattle.std.proofs.Common.{◌∙◌, ap, rules, subst, sym}
 use Rattle.kql_bound.specs.declared.expr.BExpr.{BExpr}
 use Rattle.summarize_op.specs.Grouped.{AreFormed, applied_to_both, over}
 use Rattle.summarize_op.proofs.PartSteps.{grouped_link}
