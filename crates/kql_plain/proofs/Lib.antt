@@ -1,7 +1,10 @@
 pub mod FitSteps
 pub mod LetSteps
+pub mod MovedSteps
 pub mod OperatorSteps
 pub mod PartitionSteps
 pub mod PlanSteps
 pub mod ProgramSteps
+pub mod ReadingSteps
+pub mod SameMeaning
 pub mod SourceSteps

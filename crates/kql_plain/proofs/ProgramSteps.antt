@@ -1,6 +1,6 @@
 -- A program that fits the schemas of a catalogue: its lets fit the tables there, and its plan these and the tables of the lets.
 use Rattle.std.proofs.Common.{◌≡◌, ℕ, true, List, [], ◌∷◌, length, refl, sym, ap, ◌∙◌, subst}
-use Rattle.std.specs.Prelude.{All, None, Option, Some, bytes_eq, find, fold, is_some, option_and_then, option_map}
+use Rattle.std.specs.Prelude.{All, None, Option, Some, bytes_eq, find, is_some, option_map}
 use Rattle.std.proofs.lemmas.Bool.{and_parts}
 use Rattle.std.proofs.lemmas.Slice.Eq.{bytes_eq-Decides}
 use Rattle.std.proofs.lemmas.List.{nil_from_length}
@@ -11,8 +11,8 @@ use Rattle.kql_cells.specs.declared.schemas.NamedSchema.{NamedSchema}
 use Rattle.kql_values.specs.Kept.{all_named, named_of}
 use Rattle.kql_values.specs.declared.catalogue.Named as kept
 use Rattle.kql_bound.specs.declared.plan.Program.{Program}
-use Rattle.kql_meaning.specs.Fits.{fits, has_columns, known_of, let_after, lets_columns, plan_columns, program_columns, table_columns, tables_stand}
-use Rattle.kql_meaning.specs.Plans.{lets_mean, means, plan_means}
+use Rattle.kql_meaning.specs.Fits.{fits, has_columns, known_of, lets_columns, program_columns, table_columns, tables_stand}
+use Rattle.kql_meaning.specs.Plans.{lets_mean, means}
 use Rattle.kql_meaning.proofs.MemberLaws.{member-contains}
 use Rattle.kql_fit_laws.proofs.FittingLaws.{all-stand}
 use Rattle.kql_fit_laws.proofs.JoinRows.{all-of}
@@ -20,8 +20,7 @@ use Rattle.kql_fit_laws.proofs.KnownValues.{found-holds}
 use Rattle.kql_fit_laws.proofs.RowFacts.{of-all}
 use Rattle.kql_fit_laws.specs.LawsOfFitting.{AreTables}
 use Rattle.kql_fit_laws.specs.LawsOfRows.{IsTable}
-use Rattle.kql_plain.specs.AtHand.{AreAtHand, IsSo, LetsFit, PlanFits, world_of}
-use Rattle.kql_plain.proofs.LetSteps.{behind-lets, lets-start}
+use Rattle.kql_plain.specs.AtHand.{AreAtHand, FitBehind, IsSo, means_behind, with_lets, world_of}
 use Rattle.kql_plain.proofs.SourceSteps.{is-there, schema-columns, table_found}
 
 -- The tables of a catalogue are tables.
@@ -52,29 +51,17 @@ at-hand own catalogue stand name f = stands own catalogue name stand (find (λ s
 is-so : (own : List NamedSchema) (catalogue : List Named) → All (λ (n : Named). IsTable n.table) catalogue → tables_stand own (schemas_of catalogue) ≡ true → IsSo (known_of own []) (world_of catalogue [])
 is-so own catalogue tables stand = ((all-stand own catalogue (are-tables catalogue tables) stand, tt), at-hand own catalogue stand)
 
--- The lets and the plan of a program.
+-- A program: its lets, and its plan behind them.
 
-some-lets : (o : Option (List (List Column))) (main : List (List Column) → Option (List Column)) → is_some (option_and_then main o) ≡ true → is_some o ≡ true
-some-lets None main f = absurd cc
-some-lets (Some ls) main f = refl
-
-pub lets-fit : (p : Program) (catalogue : List Named) → All (λ (n : Named). IsTable n.table) catalogue → fits p (schemas_of catalogue) ≡ true → LetsFit p.lets catalogue []
-unfolding LetsFit fits program_columns lets_columns
-lets-fit p catalogue tables f =
+pub program-fits : (p : Program) (catalogue : List Named) → All (λ (n : Named). IsTable n.table) catalogue → fits p (schemas_of catalogue) ≡ true → FitBehind p.lets p.main catalogue []
+unfolding FitBehind fits program_columns lets_columns
+program-fits p catalogue tables f =
     let parts = and_parts (tables_stand p.tables (schemas_of catalogue)) (is_some (program_columns p)) f in
-    (p.tables, [], is-so p.tables catalogue tables parts.0, some-lets (fold (let_after p.tables) (Some []) p.lets) (λ ls. plan_columns p.main (known_of p.tables ls)) parts.1)
+    (p.tables, [], is-so p.tables catalogue tables parts.0, parts.1)
 
-pub main-fits : (p : Program) (catalogue : List Named) → All (λ (n : Named). IsTable n.table) catalogue → fits p (schemas_of catalogue) ≡ true → PlanFits p.main (world_of catalogue (lets_mean p.lets catalogue))
-unfolding fits program_columns lets_columns
-main-fits p catalogue tables f =
-    let parts = and_parts (tables_stand p.tables (schemas_of catalogue)) (is_some (program_columns p)) f in
-    subst (λ ts. PlanFits p.main (world_of catalogue ts)) (lets-start p.lets catalogue) (behind-lets p.lets p.main catalogue [] p.tables [] (is-so p.tables catalogue tables parts.0) parts.1)
-
-pub program-means : (p : Program) (catalogue : List Named) → means p catalogue ≡ plan_means p.main (world_of catalogue (lets_mean p.lets catalogue))
-unfolding means
+pub program-means : (p : Program) (catalogue : List Named) → means_behind p.lets p.main catalogue [] ≡ means p catalogue
+unfolding means means_behind with_lets lets_mean
 program-means p catalogue = refl
-
-pub ruleset program_steps = (lets-fit, main-fits, program-means)
 
 -- Where the first is a table and the others are, all are.
 pub all-tables : (left more : List kept.Named) (n : kept.Named) → left ≡ n ∷ more → IsTable n.table → All (λ (m : Named). IsTable m.table) (all_named more) → All (λ (m : Named). IsTable m.table) (all_named left)

@@ -1,5 +1,5 @@
 -- The tables at hand while a program is evaluated, and that its parts fit them.
-use Rattle.std.specs.Prelude.{ℕ, Bool, IsTrue, List, Some, bytes_eq, find, fold, is_some, map}
+use Rattle.std.specs.Prelude.{ℕ, Bool, IsTrue, List, [], ◌∷◌, ◌++◌, Some, bytes_eq, find, fold, is_some, map, option_and_then}
 use Rattle.kql_cells.specs.Catalogues.{Named, table_name}
 use Rattle.kql_cells.specs.Table.{Grid}
 use Rattle.kql_cells.specs.declared.schema.Column.{Column}
@@ -47,6 +47,14 @@ OpFits o w t = (k : Known) × (inside : Bool) × IsSo k w × IsTable t × IsTrue
 unfoldable pub OpsFit : List Op → World → Grid → Type 0
 OpsFit ops w t = (k : Known) × (inside : Bool) × IsSo k w × IsTable t × IsTrue (is_some (ops_columns ops k inside t.columns))
 
--- Lets fit the tables of a catalogue where these tables of lets stand before them.
-unfoldable pub LetsFit : List Plan → List Named → List Grid → Type 0
-LetsFit lets tables made = (schemas : List NamedSchema) × (columns : List (List Column)) × IsSo (known_of schemas columns) (world_of tables made) × IsTrue (is_some (fold (let_after schemas) (Some columns) lets))
+-- The tables of lets behind those that stand already, each over those before it.
+unfoldable pub with_lets : List Plan → List Named → List Grid → List Grid
+with_lets lets tables made = fold (λ done p. done ++ plan_means p (world_of tables done) ∷ []) made lets
+
+-- What a plan means behind lets, where these tables of lets stand before them.
+unfoldable pub means_behind : List Plan → Plan → List Named → List Grid → Grid
+means_behind lets main tables made = plan_means main (world_of tables (with_lets lets tables made))
+
+-- Lets, and a plan behind them, fit the tables of a catalogue where these tables of lets stand before them.
+unfoldable pub FitBehind : List Plan → Plan → List Named → List Grid → Type 0
+FitBehind lets main tables made = (schemas : List NamedSchema) × (columns : List (List Column)) × IsSo (known_of schemas columns) (world_of tables made) × IsTrue (is_some (option_and_then (λ ls. plan_columns main (known_of schemas ls)) (fold (let_after schemas) (Some columns) lets)))

@@ -1,2 +1,5 @@
 pub mod AtHand
 pub mod Inputs
+pub mod Marks
+pub mod Moved
+pub mod Readings

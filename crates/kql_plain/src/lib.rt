@@ -8,6 +8,7 @@ mod keys;
 mod lets;
 mod plans;
 mod programs;
+mod readings;
 mod sources;
 
 pub use programs::plain;

@@ -1,5 +1,5 @@
 //! Plans: a source, and operators one after another, each a call of the crate that has its body.
-ghost use Rattle.std.specs.Prelude.{◌≡◌, ◌∷◌, [], false, is_some, map, IfOk, IfSome, IsTrue};
+ghost use Rattle.std.specs.Prelude.{◌≡◌, ◌<◌, ◌∷◌, [], false, is_some, length, map, Some, IfOk, IfSome, IsFalse, IsTrue, OnOk};
 ghost use Rattle.kql_bound.specs.declared.plan.Op.TheVariants as operator;
 ghost use Rattle.kql_cells.specs.Named.{HasDistinctNames, column_name, place_of};
 ghost use Rattle.kql_meaning.specs.FittingOperators.{items_fit};
@@ -8,16 +8,19 @@ ghost use Rattle.kql_meaning.specs.Partition.{partition_table};
 ghost use Rattle.kql_meaning.specs.Plans.{one_after_another, op_means, plan_means};
 ghost use Rattle.kql_meaning.specs.Project.{project_table};
 ghost use Rattle.kql_meaning.specs.Scan.{scan_table};
+ghost use Rattle.kql_meaning.specs.Sources.{let_table};
 ghost use Rattle.kql_meaning.specs.declared.position.Position.TheVariants as position;
 ghost use Rattle.scan_ops.specs.Steps.{scan_answers};
 ghost use Rattle.kql_plain.specs.AtHand.{OpFits, OpsFit, PlanFits, PlansFit, plans_mean, world_of};
 ghost use Rattle.kql_plain.specs.Inputs.{input_table};
+ghost use Rattle.kql_plain.specs.Moved.{left_behind, moved_let};
+ghost use Rattle.kql_plain.specs.Readings.{is_let_not, ops_name};
 
 use crate::input::{Input, lent_tables};
 use crate::keys::{emptied, rows_by_key};
 use crate::sources::source_table;
 use join_op::join_tables;
-use kql_bound::{BItem, Op, Plan, ScanPlan};
+use kql_bound::{BItem, Op, Plan, ScanPlan, Source};
 use kql_values::{Catalogue, Table};
 use order_ops::{sort_rows, top_rows};
 use parse_op::parse_rows;
@@ -25,12 +28,73 @@ use row_ops::count_rows;
 use scan_ops::{scan_keyed, scan_owned, scan_rows};
 use series_op::series_rows;
 use std::alloc::{AllocError, Global};
+use std::mem::replace;
 use summarize_op::summarize_rows;
 use table_ops::{expand_rows, union_tables};
 use window_ops::{extend_rows, project_rows, where_rows, window_rows};
 
-/// The table of a plan: its source, and then its operators.
+/// The table of a plan: its source, and then its operators. Where the source is the last reading of a let, the let's table is moved, and
+/// its columns stay in its place, without rows.
 pub(crate) fn plan_table(
+    alloc: Global,
+    plan: &Plan,
+    catalogue: &Catalogue,
+    lets: &mut [Table],
+    is_last: bool,
+) -> Result<Table, AllocError>
+    requires fits { PlanFits plan.now (world_of catalogue.now lets.old) }
+    requires last { IsTrue is_last → IsTrue (is_let_not (λ i. ops_name i plan.now.ops) plan.now.source) }
+    ensures table { IfOk result (λ t. t ≡ plan_means plan.now (world_of catalogue.now lets.old)) }
+    ensures lets { OnOk result (lets.new ≡ left_behind (moved_let is_last plan.now.source) lets.old) }
+{
+    match moved_let(&plan.source, is_last) {
+        Some(at) => {
+            let table = moved_table(alloc, at, plan.ops.as_slice(), catalogue, lets)?;
+            Ok(table)
+        }
+        None => {
+            let table = lent_table(alloc, plan, catalogue, lets)?;
+            Ok(table)
+        }
+    }
+}
+
+// The let whose table a source takes.
+#[tactic(auto, unfolding(crate::specs::Moved::moved_let))]
+fn moved_let(source: &Source, is_last: bool) -> Option<usize>
+    ensures at { result ≡ moved_let is_last source.now }
+{
+    match source {
+        Source::Table(_) => None,
+        Source::Let(at) => { if is_last { Some(*at) } else { None } }
+        Source::Range { .. } => None,
+        Source::Print(_) => None,
+    }
+}
+
+// What operators that do not name a let make of its table, which is moved.
+fn moved_table(
+    alloc: Global,
+    at: usize,
+    ops: &[Op],
+    catalogue: &Catalogue,
+    lets: &mut [Table],
+) -> Result<Table, AllocError>
+    requires there { at < length lets.old }
+    requires fits { OpsFit ops.now (world_of catalogue.now lets.old) (let_table lets.old at) }
+    requires free { IsFalse (ops_name at ops.now) }
+    ensures table { IfOk result (λ t. t ≡ one_after_another (map op_means ops.now) (world_of catalogue.now lets.old) (let_table lets.old at)) }
+    ensures lets { OnOk result (lets.new ≡ left_behind (Some at) lets.old) }
+{
+    let empty = emptied(alloc, &lets[at])?;
+    let table = replace(&mut lets[at], empty);
+    let made = ops_input(alloc, ops, catalogue, lets, Input::Owned(table))?;
+    let table = made.into_table(alloc)?;
+    Ok(table)
+}
+
+// The table of a plan. One of the catalogue or of a let is read where it stands, and copied where the plan changes it.
+fn lent_table(
     alloc: Global,
     plan: &Plan,
     catalogue: &Catalogue,

@@ -6,22 +6,20 @@ ghost use Rattle.kql_fit_laws.specs.LawsOfRows.{IsTable};
 ghost use Rattle.kql_meaning.specs.Fits.{fits};
 ghost use Rattle.kql_meaning.specs.Plans.{means};
 
-use crate::lets::let_tables;
-use crate::plans::plan_table;
+use crate::lets::table_behind;
 use kql_bound::Program;
 use kql_values::{Catalogue, Named, Table};
 use std::alloc::{AllocError, Global};
 
 /// The table of a program that fits the schemas of a catalogue: its lets one after another, and then its plan. Want of memory alone stands in
 /// its place.
-#[tactic(auto, using(crate::proofs::ProgramSteps::program_steps))]
 pub fn plain(alloc: Global, p: &Program, catalogue: &Catalogue) -> Result<Table, AllocError>
     requires fits { IsTrue (fits p.now (schemas_of catalogue.now)) }
     ensures table { IfOk result (λ t. t ≡ means p.now catalogue.now) }
 {
     know_tables(catalogue.tables());
-    let lets = let_tables(alloc, p.lets.as_slice(), catalogue)?;
-    plan_table(alloc, &p.main, catalogue, lets.as_slice())
+    let table = table_behind(alloc, p.lets.as_slice(), &p.main, catalogue)?;
+    Ok(table)
 }
 
 // Each table's rows fit its columns, and no two of these have one name: so tables are made.

@@ -1,0 +1,16 @@
+use Rattle.std.proofs.Common.{◌∙◌}
+use Rattle.kql_plain.proofs.MovedSteps.{moved-fits, moved-left, moved-means}
+use Rattle.kql_plain.proofs.plans.moved_table.Goals as goal
+
+pub ops_input-requires : goal.ops_input-requires
+ops_input-requires c = record {
+  fits = moved-fits c.args.ops.now c.args.catalogue.now c.args.lets.now c.args.at c.index-lets-at.result c.index-lets-at-2.result c.replace-table.new.dest c.in_ok-empty.empty c.replace-table.result
+      c.requires.there c.in_ok-empty.ensures.rows c.replace-table.ensures.after c.replace-table.ensures.value c.requires.fits;
+}
+
+pub returns : goal.returns
+returns c = record {
+  table = moved-means c.args.ops.now c.args.catalogue.now c.args.lets.now c.args.at c.index-lets-at-2.result c.replace-table.new.dest c.replace-table.result c.in_ok-table.table
+      c.requires.there c.replace-table.ensures.value c.requires.free (c.in_ok-table.ensures.table ∙ c.in_ok-made.ensures.table);
+  lets = moved-left c.args.lets.now c.args.at c.index-lets-at.result c.replace-table.new.dest c.in_ok-empty.empty c.requires.there c.in_ok-empty.ensures.rows c.replace-table.ensures.after;
+}
