@@ -1,7 +1,11 @@
 pub mod CellBack
+pub mod CutFacts
+pub mod FeedFacts
 pub mod FieldFacts
 pub mod HeaderFacts
+pub mod LaneFacts
 pub mod LoadFacts
+pub mod MarkFacts
 pub mod OutputFacts
 pub mod PlainFacts
 pub mod RecordsLeftFacts

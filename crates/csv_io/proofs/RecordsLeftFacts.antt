@@ -71,14 +71,14 @@ fuel-by cfg n m s xs (Some p) e a b less =
     ∙ sym (records-some cfg m s xs p e))
 
 -- more turns than enough read no more
-fuel : (cfg : Config) (n m : ℕ) (s : State) (xs : List ℕ) → Enough cfg n s xs → Enough cfg m s xs → records_from cfg n s xs ≡ records_from cfg m s xs
+pub fuel : (cfg : Config) (n m : ℕ) (s : State) (xs : List ℕ) → Enough cfg n s xs → Enough cfg m s xs → records_from cfg n s xs ≡ records_from cfg m s xs
 fuel cfg zero m s xs (inl a) b = absurd (omega arith)
 fuel cfg zero m s xs (inr a) b = records-none cfg zero s xs a ∙ sym (records-none cfg m s xs a)
 fuel cfg (suc n) zero s xs a (inl b) = absurd (omega arith)
 fuel cfg (suc n) zero s xs a (inr b) = records-none cfg (suc n) s xs b ∙ sym (records-none cfg zero s xs b)
 fuel cfg (suc n) (suc m) s xs a b = fuel-by cfg n m s xs (next_record cfg s [] [] xs) refl a b (λ t ys c d. fuel cfg n m t ys c d)
 
-left-some : (s : State) (xs : List ℕ) (p : Read) → next_record default_config s [] [] xs ≡ Some p → left_of s (Some xs) ≡ p.0 ∷ left_of p.1 (Some p.2)
+pub left-some : (s : State) (xs : List ℕ) (p : Read) → next_record default_config s [] [] xs ≡ Some p → left_of s (Some xs) ≡ p.0 ∷ left_of p.1 (Some p.2)
 left-some s xs p e =
     rw (add-one (length xs)) (records-some default_config (length xs) s xs p e
     ∙ ap (λ l. p.0 ∷ l) (fuel default_config (length xs) (length p.2 + 1) p.1 p.2

@@ -1,9 +1,12 @@
 pub mod Cells
+pub mod Cuts
 pub mod Faults
 pub mod Header
+pub mod Lines
 pub mod Load
 pub mod Next
 pub mod RecordsLeft
 pub mod Reload
+pub mod Runs
 pub mod Text
 pub mod TextRecords

@@ -1,12 +1,12 @@
 ghost use Rattle.std.specs.Prelude.{◌≡◌, ◌++◌, ◌∷◌, [], true, false, MatchOption, OnOk, ⊤, map};
 ghost use Rattle.std.specs.List.{after_last, before_last, list_any};
-ghost use Rattle.csv.specs.Records.{AllText, fields_of};
+ghost use Rattle.csv.specs.Records.{AllText};
 ghost use Rattle.csv_io.specs.Faults.{Reads};
 ghost use Rattle.csv_io.specs.Header.{column_faults, column_of, header_faults, is_colon, is_left_out, is_refused_word, kind_by, name_by, type_in, type_of_word};
 
 use crate::fault::{BAD_COLUMN, COLUMN_TWICE, DataFault, refused};
 use crate::fields::field;
-use csv::ByteRecord;
+use crate::line::Line;
 use kql_cells::{Column, KText, Kind, Schema};
 use std::alloc::Global;
 
@@ -25,9 +25,9 @@ pub(crate) enum TypeWord {
 }
 
 // The columns that a header names.
-pub(crate) fn read_header(alloc: Global, line: &ByteRecord) -> Result<Schema, DataFault>
-    requires { AllText (fields_of line.now) }
-    ensures { Reads (header_faults [] (fields_of line.now)) (map column_of (fields_of line.now)) result }
+pub(crate) fn read_header(alloc: Global, line: &Line<'_>) -> Result<Schema, DataFault>
+    requires { AllText line.now }
+    ensures { Reads (header_faults [] line.now) (map column_of line.now) result }
 {
     let mut schema = Schema::new(alloc);
     for j in 0..line.len() {

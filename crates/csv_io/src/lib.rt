@@ -2,10 +2,13 @@
 #![tactic(auto)]
 
 mod cells;
+mod cut;
 mod fault;
 mod feed;
 mod fields;
 mod header;
+mod lanes;
+mod line;
 mod loading;
 mod output;
 mod print;

@@ -1,5 +1,5 @@
 ghost use Rattle.std.specs.Prelude.{◌≡◌, ◌+◌, [], Ok, IfErr, IfOk, OnOk, length};
-ghost use Rattle.csv.specs.Records.{AllText, fields_of};
+ghost use Rattle.csv.specs.Records.{AllText};
 ghost use Rattle.csv_io.specs.Faults.{IsFaultOf, Reads};
 ghost use Rattle.csv_io.specs.Load.{cell_faults, cell_of, cells_of, faults_of, file_records, grid_of, loaded, row_faults, rows_faults, rows_grid};
 ghost use Rattle.csv_io.specs.Next.{IsNext};
@@ -11,7 +11,7 @@ use crate::fault::{BAD_CELL, BAD_LENGTH, DataFault, NO_HEADER, NOT_UTF8, refused
 use crate::feed::Feed;
 use crate::fields::field;
 use crate::header::read_header;
-use csv::ByteRecord;
+use crate::line::Line;
 use kql_cells::{Kind, Schema};
 use kql_dynamic::parse_json;
 use kql_values::{Table, TableBuilder};
@@ -44,42 +44,42 @@ fn load_text(alloc: Global, text: &str) -> Result<Table, DataFault>
     ensures { Reads (faults_of (file_records text.now)) (grid_of (file_records text.now)) result }
 {
     let mut feed = Feed::new(alloc, text.as_bytes());
-    let mut record = ByteRecord::new(alloc);
-    if feed.next(&mut record)? {
-        let schema = read_header(alloc, &record)?;
-        load_rows(alloc, schema, feed, record)
+    let mut line = Line::new(alloc);
+    if feed.next(&mut line)? {
+        let schema = read_header(alloc, &line)?;
+        load_rows(alloc, schema, feed, line)
     } else {
         Err(refused(NO_HEADER, 0, 0))
     }
 }
 
-// The table of the records that are left; `record` is used again for each.
-fn load_rows(
+// The table of the records that are left; `line` is used again for each.
+fn load_rows<'a>(
     alloc: Global,
     schema: Schema,
-    feed: Feed<'_>,
-    record: ByteRecord,
+    feed: Feed<'a>,
+    line: Line<'a>,
 ) -> Result<Table, DataFault>
     requires { AllRecordsText feed }
     ensures { Reads (rows_faults schema 1 feed.entry) (rows_grid schema feed.entry) result }
 {
     let mut feed = feed;
-    let mut record = record;
+    let mut line = line;
     let mut table = TableBuilder::new(alloc, schema)?;
-    'records: while feed.next(&mut record)? {
-        read_row(alloc, &mut table, &record)?;
+    'records: while feed.next(&mut line)? {
+        read_row(alloc, &mut table, &line)?;
         table.end_row()?;
     }
     Ok(table.finish())
 }
 
 // Adds the cells of a record.
-fn read_row(alloc: Global, table: &mut TableBuilder, line: &ByteRecord) -> Result<(), DataFault>
-    requires text { AllText (fields_of line.now) }
+fn read_row(alloc: Global, table: &mut TableBuilder, line: &Line<'_>) -> Result<(), DataFault>
+    requires text { AllText line.now }
     requires fresh { table.old.row ≡ [] }
-    ensures read { Reads (row_faults table.old.grid.columns (length table.old.grid.lines + 1) (fields_of line.now)) tt result }
+    ensures read { Reads (row_faults table.old.grid.columns (length table.old.grid.lines + 1) line.now) tt result }
     ensures grid { OnOk result (table.new.grid ≡ table.old.grid) }
-    ensures row { OnOk result (table.new.row ≡ cells_of table.old.grid.columns (fields_of line.now)) }
+    ensures row { OnOk result (table.new.row ≡ cells_of table.old.grid.columns line.now) }
     ensures whole { OnOk result (length table.new.row ≡ length table.old.grid.columns) }
 {
     let number = table.len() as u64 + 1;

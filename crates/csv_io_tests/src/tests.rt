@@ -133,6 +133,25 @@ const TABLES: &[(&str, &str, &str)] = &[
         "llllll",
         "x\n-9223372036854775808\n9223372036854775807\n7\n0\n-7\n1\n",
     ),
+    // The first field in quotes stands in a later record.
+    ("a,b\n1,2\n\"3\",4\n5,6\n", "tttttt", "a,b\n1,2\n3,4\n5,6\n"),
+    ("a,b\n\n1,\"2\"\n", "tt", "a,b\n1,2\n"),
+    ("a,b\r1,2\r\"3\",4\r", "tttt", "a,b\n1,2\n3,4\n"),
+    (
+        "a,b\r\n1,2\r\n\"x\r\ny\",4\r\n\r\n5,6\r\n",
+        "tttttt",
+        "a,b\n1,2\n\"x\r\ny\",4\n5,6\n",
+    ),
+    // A byte order mark is left out at the start of the file alone.
+    ("a\n\u{feff}x\n\"y\"\n", "tt", "a\n\u{feff}x\ny\n"),
+    ("a,b\n\u{feff},\"q\"\n", "tt", "a,b\n\u{feff},q\n"),
+    ("a\n1\n\u{feff}\"b\n", "tt", "a\n1\n\"\u{feff}\"\"b\"\n"),
+    // Fields of 15, 16, 17, 31, 32 and 33 bytes.
+    (
+        "a,b,c\nabcdefghijklmno,abcdefghijklmnop,abcdefghijklmnopq\n0123456789abcdef0123456789abcde,0123456789abcdef0123456789abcdef,0123456789abcdef0123456789abcdef0",
+        "tttttt",
+        "a,b,c\nabcdefghijklmno,abcdefghijklmnop,abcdefghijklmnopq\n0123456789abcdef0123456789abcde,0123456789abcdef0123456789abcdef,0123456789abcdef0123456789abcdef0\n",
+    ),
 ];
 
 #[test]

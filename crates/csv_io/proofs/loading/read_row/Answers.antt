@@ -1,14 +1,13 @@
 use Rattle.std.proofs.Common.{◌≡◌, ◌≤◌, ◌<◌, ◌+◌, ◌∙◌, ap, arith, length, refl, sym}
 use Rattle.std.proofs.lemmas.Grind.{common_steps}
 use Rattle.std.proofs.lemmas.Result.{err_from_is_err_and}
-use Rattle.csv.specs.Records.{fields_of}
 use Rattle.csv_io.proofs.FieldFacts.{next-at}
 use Rattle.csv_io.proofs.LoadFacts.{cells-end, cells-fault, row-even, row-uneven}
 use Rattle.csv_io.proofs.loading.read_row.Goals as goal
 
 pub returns-then-len-width-clause-read : goal.returns-then-len-width-clause-read
 returns-then-len-width-clause-read c =
-    let fields = fields_of c.args.line.now in
+    let fields = c.args.line.now in
     let width = c.len-width.ensures.count ∙ ap length c.schema.ensures.columns in
     let uneven = row-uneven c.args.table.now.grid.columns (length c.args.table.now.grid.lines + 1) fields (λ e. c.if-len-width.true (c.len-2.ensures ∙ e ∙ sym width)) in
     rw (uneven, c.refused.ensures, c.len-then-len-width.ensures, c.len.ensures.count) refl
@@ -23,7 +22,7 @@ read_cell-requires c =
 pub returns-in_err-read_cell-clause-read : goal.returns-in_err-read_cell-clause-read
 returns-in_err-read_cell-clause-read c =
     let p = err_from_is_err_and c.from_residual.result c.from_residual.ensures.1 in
-    let fields = fields_of c.args.line.now in
+    let fields = c.args.line.now in
     let schema = c.args.table.now.grid.columns in
     let width = c.len-width.ensures.count ∙ ap length c.schema.ensures.columns in
     let columns = c.columns.ensures.columns ∙ c.schema-in-loop-j.ensures.columns ∙ ap (λ g. g.columns) c.loop-j.invariant.grid in
@@ -36,7 +35,7 @@ returns-in_err-read_cell-clause-read c =
 
 pub returns-clause-read : goal.returns-clause-read
 returns-clause-read c =
-    let fields = fields_of c.args.line.now in
+    let fields = c.args.line.now in
     let schema = c.args.table.now.grid.columns in
     let width = c.len-width.ensures.count ∙ ap length c.schema.ensures.columns in
     let even : length fields ≡ length schema = sym c.len-2.ensures ∙ (c.if-len-width.false ∙ width) in

@@ -1,11 +1,10 @@
 use Rattle.std.proofs.Common.{◌≡◌, ◌+◌, ◌++◌, drop, length}
-use Rattle.csv.specs.Records.{fields_of}
 use Rattle.csv_io.specs.Load.{cells_faults, cells_of}
 use Rattle.csv_io.proofs.loading.read_row.Given as goal
 
 abbrev pub invariant-loop-j : goal.invariant-loop-j
 invariant-loop-j l =
-    let fields = fields_of l.line in
+    let fields = l.line in
     let columns = l.initial.table.grid.columns in
     record {
       grid : l.table.grid ≡ l.initial.table.grid;

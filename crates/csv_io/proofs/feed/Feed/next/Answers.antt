@@ -1,12 +1,8 @@
-use Rattle.csv.specs.Records.{fields_of}
-use Rattle.csv_io.specs.RecordsLeft.{Gives, records_left}
-use Rattle.csv_io.proofs.RecordsLeftFacts.{answer-same, plain-read}
+use Rattle.std.proofs.Common.{◌∙◌, sym}
+use Rattle.csv_io.proofs.FeedFacts.{feed-end}
 use Rattle.csv_io.proofs.feed.Feed.next.Goals as goal
 
-pub returns : goal.returns
-returns c =
-    let e = c.read_byte_record.ensures in
-    let r = plain-read c.self.inside.rdr c.read_byte_record.new.self c.read_byte_record.result (fields_of c.read_byte_record.new.row) c.self.invariant
-    e.failed e.goes e.flexible e.ready e.reads e.fails e.why in
-    let f = answer-same c.read_byte_record.result c.answered.result (λ found. Gives found (records_left c.self.inside.rdr) (fields_of c.read_byte_record.new.row) (records_left c.read_byte_record.new.self)) c.answered.ensures r.1 in
-    rw (← c.self.view_is) f
+pub returns-then-start-self : goal.returns-then-start-self
+returns-then-start-self c =
+    let f = c.self.inside in
+    sym c.self.view_is ∙ feed-end f.text.now f.at c.text_start-start.result f.reader c.if-is_none.ensures c.text_start-start.ensures.same c.if-start-self.true

@@ -1,0 +1,73 @@
+-- From the mask of one load to the bytes that pass a test.
+use Rattle.std.proofs.Common.{◌≡◌, ℕ, ◌+◌, ◌-◌, ◌*◌, ◌%◌, ◌^◌, ◌<◌, ◌≤◌, eqb, Bool, true, false, not, List, [], ◌∷◌, map, length, get_or, Fits, w8, refl, sym, ap, ap₂, ◌∙◌, subst, arith, inl, inr}
+use Rattle.std.proofs.lemmas.Bool.{agree_below, agree_below_at, cases_Bool, not-true, not-false, cases_eq, eq-eqb, ne_eqb, cond-true, cond-false}
+use Rattle.std.proofs.lemmas.Simd.{below_from_Fits, chunk-fits, map-map, mask_l-mod, length-chunk, get_or-chunk, leading_from_mask_l, trailing_mask_l}
+use Rattle.std.proofs.lemmas.List.{length-map}
+use Rattle.std.proofs.lemmas.List.Sums.{prefix_len-le-length, prefix_len_passes, prefix_len_stops}
+use Rattle.std.specs.List.{prefix_len}
+use lib.Lanes.{Each1, chunk, zip2, mask_l, top}
+use Rattle.csv_io.specs.Runs.{IsRunOf, first_set, marks}
+
+zip2-map : (h : ℕ → ℕ → ℕ) (f g : ℕ → ℕ) (xs : List ℕ) → zip2 h (map f xs) (map g xs) ≡ map (λ x. h (f x) (g x)) xs
+zip2-map h f g [] = refl
+zip2-map h f g (x ∷ xs) = ap (λ r. h (f x) (g x) ∷ r) (zip2-map h f g xs)
+
+-- an operation on two vectors that were computed lane by lane from v
+pub joined : (h : ℕ → ℕ → ℕ) (f g : ℕ → ℕ) (v : List ℕ) {a b : List ℕ} → a ≡ map f v → b ≡ map g v → zip2 h a b ≡ map (λ x. h (f x) (g x)) v
+joined h f g v p q = ap₂ (zip2 h) p q ∙ zip2-map h f g v
+
+run-is : (p : ℕ → Bool) (v : List ℕ) (n : ℕ) → length v ≡ n → n ≤ 64 → first_set (mask_l (map p v)) n ≡ prefix_len (λ x. not (p x)) v
+run-is p v n long few =
+    elim (cases_eq (mask_l (map p v)) 0) [
+      | inl none ↦ cond-true _ _ _ (eq-eqb _ _ none) ∙ sym (leading_from_mask_l p v none ∙ long)
+      | inr some ↦ cond-false _ _ _ (ne_eqb _ _ some) ∙ trailing_mask_l p 64 v (omega arith) (omega arith)
+    ]
+
+marks-mask : (q stops : ℕ → Bool) (v : List ℕ) → agree_below stops (λ x. not (q x)) 256 ≡ true → Each1 (λ x. x < 256) v → mask_l (map stops v) ≡ marks q v
+marks-mask q stops [] all e = refl
+marks-mask q stops (x ∷ v) all e =
+    let at = agree_below_at stops (λ x. not (q x)) 256 x all e.0 in
+    let more = marks-mask q stops v all e.1 in
+    elim (cases_Bool (q x)) [ inl t ↦ rw (at, t, more) refl | inr f ↦ rw (at, f, more) refl ]
+
+-- the marks of one load
+pub marks-of : (q : ℕ → Bool) (d : List ℕ) (i n : ℕ) (z : List ℕ) → i + n ≤ length d → n ≤ 64 → ((k : ℕ) → Fits w8 (get_or d k 0))
+    → (f : ℕ → ℕ) → z ≡ map f (chunk i n d) → agree_below (λ x. top 7 (f x)) (λ x. not (q x)) 256 ≡ true → mask_l (map (top 7) z) % 2 ^ 64 ≡ marks q (chunk i n d)
+marks-of q d i n z room few fits f lanes all =
+    let v = chunk i n d in
+    let p : ℕ → Bool = λ x. top 7 (f x) in
+    let mask = ap (λ l. mask_l l % 2 ^ 64) (ap (map (top 7)) lanes ∙ map-map (top 7) f v) ∙ mask_l-mod (map p v) 64 (omega (arith, length-map v p, length-chunk i n d room)) in
+    mask ∙ marks-mask q p v all (below_from_Fits w8 v (chunk-fits w8 i n d fits))
+
+module _ (q : ℕ → Bool) (d : List ℕ) (i n r : ℕ) (z : List ℕ) (room : i + n ≤ length d) (few : n ≤ 64)
+    (fits : (k : ℕ) → Fits w8 (get_or d k 0)) (found : r ≡ first_set (mask_l (map (top 7) z) % 2 ^ 64) n)
+    (f : ℕ → ℕ) (lanes : z ≡ map f (chunk i n d)) where
+  abbrev stops : ℕ → Bool
+  stops x = top 7 (f x)
+
+  long : length (chunk i n d) ≡ n
+  long = length-chunk i n d room
+
+  counted : r ≡ prefix_len (λ x. not (stops x)) (chunk i n d)
+  counted =
+      let v = chunk i n d in
+      let mask = ap (λ l. mask_l l % 2 ^ 64) (ap (map (top 7)) lanes ∙ map-map (top 7) f v) ∙ mask_l-mod (map stops v) 64 (omega (arith, length-map v stops, long)) in
+      found ∙ ap (λ m. first_set m n) mask ∙ run-is stops v n long few
+
+  goes-on : (k : ℕ) → i ≤ k → k < i + r → stops (get_or d k 0) ≡ false
+  goes-on k from to =
+      let back : i + (k - i) ≡ k = omega arith in
+      let bound = prefix_len-le-length (λ x. not (stops x)) (chunk i n d) in
+      let at = get_or-chunk i n d (k - i) 0 (omega (arith, counted, long)) ∙ ap (λ j. get_or d j 0) back in
+      subst (λ x. stops x ≡ false) at (not-true _ (prefix_len_passes (λ x. not (stops x)) (chunk i n d) (k - i) 0 (omega (arith, counted))))
+
+  -- a lane stops just where the test fails
+  pub run-of : agree_below stops (λ x. not (q x)) 256 ≡ true → IsRunOf n q d i r
+  run-of all = (
+    omega (arith, counted, long, prefix_len-le-length (λ x. not (stops x)) (chunk i n d)),
+    λ k from to. not-false _ (sym (agree_below_at stops (λ x. not (q x)) 256 (get_or d k 0) all (fits k).fits) ∙ goes-on k from to),
+    λ short.
+        let at = ap (λ j. get_or (chunk i n d) j 0) (sym counted) ∙ get_or-chunk i n d r 0 short in
+        let set = subst (λ x. stops x ≡ true) at (not-false _ (prefix_len_stops (λ x. not (stops x)) (chunk i n d) 0 (omega (arith, counted, long)))) in
+        not-true _ (sym (agree_below_at stops (λ x. not (q x)) 256 (get_or d (i + r) 0) all (fits (i + r)).fits) ∙ set),
+  )
