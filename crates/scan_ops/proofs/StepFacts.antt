@@ -183,18 +183,36 @@ pub ruleset steps_facts = (step-scalar, steps-more)
 
 -- The test of the steps.
 
-pub set-more : (sets : List BItem) (k : ℕ) (b : BItem) → k < length sets → b ≡ get_or sets k b → All (λ (b : BItem). IsScalar b.expr) (take k sets) → IsScalar b.expr → All (λ (b : BItem). IsScalar b.expr) (take (k + 1) sets)
-set-more sets k b lt is h here =
-    subst (All (λ (b : BItem). IsScalar b.expr)) (sym (take_more sets k b lt ∙ ap (λ (x : BItem). take k sets ++ x ∷ []) (sym is))) (All-push (λ (b : BItem). IsScalar b.expr) (take k sets) b h here)
+abbrev IsSetScalar : BItem → Type 0
+IsSetScalar b = IsScalar b.expr
 
-pub sets-all : (sets : List BItem) (k : ℕ) → length sets ≤ k → All (λ (b : BItem). IsScalar b.expr) (take k sets) → AreSetsScalar sets
-sets-all sets k le h = record { each = subst (All (λ (b : BItem). IsScalar b.expr)) (take_all k sets le) h }
+all-more : {X : Type 0} (P : X → Type 0) (xs : List X) (k : ℕ) (x : X) → k < length xs → x ≡ get_or xs k x → All P (take k xs) → P x → All P (take (k + 1) xs)
+all-more P xs k x lt is h p = subst (All P) (sym (take_more xs k x lt ∙ ap (λ y. take k xs ++ y ∷ []) (sym is))) (All-push P (take k xs) x h p)
 
-pub step-more : (steps : List ScanStep) (k : ℕ) (s : ScanStep) → k < length steps → s ≡ get_or steps k s → All IsStepScalar (take k steps) → IsScalar s.condition → AreSetsScalar s.sets → All IsStepScalar (take (k + 1) steps)
-step-more steps k s lt is h condition sets =
-    subst (All IsStepScalar) (sym (take_more steps k s lt ∙ ap (λ (x : ScanStep). take k steps ++ x ∷ []) (sym is))) (All-push IsStepScalar (take k steps) s h (record { condition = condition; sets = sets }))
+pub sets-none : AreSetsScalar []
+sets-none = record { each = λ k d l. absurd (omega arith) }
 
-pub steps-all : (steps : List ScanStep) (k : ℕ) → length steps ≤ k → All IsStepScalar (take k steps) → AreStepsScalar steps
-steps-all steps k le h = record { each = subst (All IsStepScalar) (take_all k steps le) h }
+pub sets-more : (sets : List BItem) (k : ℕ) (b : BItem) → k < length sets → b ≡ get_or sets k b → AreSetsScalar (take k sets) → IsScalar b.expr → AreSetsScalar (take (k + 1) sets)
+sets-more sets k b lt is h here = record { each = all-more IsSetScalar sets k b lt is h.each here }
 
-pub ruleset test_facts = (set-more, sets-all, step-more, steps-all)
+pub sets-end : (sets : List BItem) (k : ℕ) → length sets ≤ k → AreSetsScalar (take k sets) → AreSetsScalar sets
+sets-end sets k le h = record { each = subst (All IsSetScalar) (take_all k sets le) h.each }
+
+pub sets-item : (sets : List BItem) (k : ℕ) (b : BItem) → k < length sets → b ≡ get_or sets k b → AreSetsScalar sets → IsScalar b.expr
+sets-item sets k b lt is h = subst IsSetScalar (sym is) (h.each k b lt)
+
+pub steps-none : AreStepsScalar []
+steps-none = record { each = λ k d l. absurd (omega arith) }
+
+pub step-more : (steps : List ScanStep) (k : ℕ) (s : ScanStep) → k < length steps → s ≡ get_or steps k s → AreStepsScalar (take k steps) → IsStepScalar s → AreStepsScalar (take (k + 1) steps)
+step-more steps k s lt is h here = record { each = all-more IsStepScalar steps k s lt is h.each here }
+
+pub steps-end : (steps : List ScanStep) (k : ℕ) → length steps ≤ k → AreStepsScalar (take k steps) → AreStepsScalar steps
+steps-end steps k le h = record { each = subst (All IsStepScalar) (take_all k steps le) h.each }
+
+pub ruleset test_facts = (sets-none, sets-more, sets-end, sets-item, steps-none, step-more, steps-end, step-scalar)
+
+pub step-made : (s : ScanStep) → IsScalar s.condition → AreSetsScalar s.sets → IsStepScalar s
+step-made s condition sets = record { condition = condition; sets = sets }
+
+pub ruleset one_facts = (step-made, condition-scalar, sets-scalar)

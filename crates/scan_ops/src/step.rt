@@ -1,5 +1,5 @@
 //! A step of a scan whose condition and assignments are located.
-ghost use Rattle.std.specs.Prelude.{◌≡◌, ◌<◌, find, length, map, All, IfOk, IfSome, IsTrue};
+ghost use Rattle.std.specs.Prelude.{◌≡◌, ◌↔◌, ◌<◌, find, length, map, All, IfOk, IfSome, IsTrue};
 ghost use Rattle.std.specs.Option.{option_copied};
 ghost use Rattle.kql_cells.specs.Seen.{seen};
 ghost use Rattle.kql_cells.specs.Values.{IsWellFormed};
@@ -230,19 +230,27 @@ fn set_of<'a>(sets: &'a [BItem], name: &str) -> Option<&'a BItem>
 /// Whether no aggregate stands in the steps, and each of their literals is well formed.
 #[tactic(auto, using(crate::proofs::StepFacts::test_facts))]
 pub fn are_steps_scalar(steps: &[ScanStep]) -> bool
-    ensures scalar { IsTrue result → AreStepsScalar steps.now }
+    ensures scalar { IsTrue result ↔ AreStepsScalar steps.now }
 {
     'each: for step in steps {
-        if !is_scalar(&step.condition) || !are_sets_scalar(step.sets.as_slice()) {
+        if !is_step_scalar(step) {
             return false;
         }
     }
     true
 }
 
+// The same of one step.
+#[tactic(auto, using(crate::proofs::StepFacts::one_facts))]
+fn is_step_scalar(step: &ScanStep) -> bool
+    ensures scalar { IsTrue result ↔ IsStepScalar step.now }
+{
+    is_scalar(&step.condition) && are_sets_scalar(step.sets.as_slice())
+}
+
 #[tactic(auto, using(crate::proofs::StepFacts::test_facts))]
 fn are_sets_scalar(sets: &[BItem]) -> bool
-    ensures scalar { IsTrue result → AreSetsScalar sets.now }
+    ensures scalar { IsTrue result ↔ AreSetsScalar sets.now }
 {
     'each: for set in sets {
         if !is_scalar(&set.expr) {
