@@ -1,6 +1,6 @@
 //! What a terminal shows of a refused query: its line, a caret under the place, and a sentence.
 
-use crate::help::sentence;
+use kql_help::topic_text;
 use std::alloc::{AllocError, Global};
 use std::rt::Files;
 use std::{fs, io};
@@ -29,8 +29,20 @@ pub(crate) fn show<R: Files + Eprint + AllocGlobal>(
 
 /// Tells what a code means.
 pub(crate) fn tell<R: Eprint + AllocGlobal>(rt: &R, code: u32) -> io::Result<()> {
-    let meaning = sentence(code);
+    let topic = format!(in rt.alloc(); "{code}")?;
+    let meaning = sentence(topic.as_str());
     eprintln!(rt; "{meaning} More: kql help {code}")
+}
+
+// The sentence that says what a code means, which is the second part of its text.
+fn sentence(topic: &str) -> &'static str {
+    let Some(text) = topic_text(topic) else {
+        return "";
+    };
+    match text.split("\n\n").nth(1) {
+        Some(sentence) => sentence,
+        None => "",
+    }
 }
 
 // The text of a plain file that is no longer than a query.

@@ -3,7 +3,6 @@
 
 mod caret;
 mod help;
-mod topics;
 
 use help::{Help, help_of};
 use kql_outside::{DirShelf, OpenGate, StreamSink};

@@ -1,4 +1,4 @@
-//! What `kql help TOPIC` prints, a text for each topic and each code of a refusal.
+//! The texts.
 
 pub(crate) mod file_codes;
 pub(crate) mod functions;

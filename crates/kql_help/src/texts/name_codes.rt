@@ -1,17 +1,21 @@
 //! The codes of a query that is refused for its names and types.
 
-const UNKNOWN_COLUMN: &str = "\
+use crate::topic::Topic;
+
+pub(crate) const UNKNOWN_COLUMN: &str = "\
 401 UnknownColumn
 
 No column, constant or step column has that name.
 
     T | extend y = x + nosuch                  at nosuch
 
-Look at the spelling: names are compared by bytes, so X is not x; a name that is no
-word is written ['a b'], and a text stands in quotes.
+Look at the spelling: names are compared by bytes, so X is not x; a name that is
+no word is written ['a b'], and a text stands in quotes. An item reads the row as
+it came: extend y = x, z = y is extend y = x | extend z = y. Behind summarize and
+project only their columns are left.
 ";
 
-const UNKNOWN_FUNCTION: &str = "\
+pub(crate) const UNKNOWN_FUNCTION: &str = "\
 402 UnknownFunction
 
 There is no function of that name, or none in this place: aggregates stand in
@@ -19,15 +23,15 @@ summarize and make-series alone.
 
     T | extend y = sum(x)                      at sum
 
-kql help functions has the functions, and kql help kusto what to write for iif, notnull
-and others; a sum over all rows is summarize.
+kql help functions has the functions, and kql help kusto what to write for iif,
+notnull and others; a sum over all rows is summarize.
 ";
 
-const WRONG_ARGUMENTS: &str = "\
+pub(crate) const WRONG_ARGUMENTS: &str = "\
 403 WrongArguments
 
-The function takes another number of arguments, or no such argument: some must be a
-constant, a column alone or a known part word, and a * is for few.
+The function takes another number of arguments, or no such argument: some must
+be a constant, a column alone or a known part word, and a * is for few.
 
     T | extend y = abs(x, x)                   at abs
     T | extend y = datetime_add(\"fortnight\", 1, t)    at datetime_add
@@ -37,7 +41,7 @@ Give the arguments that the function takes; name the result of a call of several
 columns in an operator of its own.
 ";
 
-const WRONG_TYPE: &str = "\
+pub(crate) const WRONG_TYPE: &str = "\
 404 WrongType
 
 The sign or function does not take operands or arguments of these types, or the
@@ -47,11 +51,11 @@ expression has another type than its operator takes.
     T | extend y = abs(s)                      at abs
     T | extend y = d == d                      at ==
 
-Convert, as with tolong(s), or give the column its type in the file's header, as s:long;
-two dynamic values are compared when one of them is converted.
+Convert, as with tolong(s), or give the column its type in the file's header, as
+s:long; two dynamic values are compared when one of them is converted.
 ";
 
-const UNSUPPORTED_TYPE: &str = "\
+pub(crate) const UNSUPPORTED_TYPE: &str = "\
 405 UnsupportedType
 
 The language leaves out this type: int, real, double, decimal or guid.
@@ -61,7 +65,7 @@ The language leaves out this type: int, real, double, decimal or guid.
 Write long(5), or 5.
 ";
 
-const UNSUPPORTED_FUNCTION: &str = "\
+pub(crate) const UNSUPPORTED_FUNCTION: &str = "\
 406 UnsupportedFunction
 
 The language leaves out this function, whose results are no whole numbers or of
@@ -69,11 +73,11 @@ types that it leaves out.
 
     T | summarize avg(x)                       at avg
 
-There are no fractions: sum(x) / countif(isnotnull(x)) is the whole part of the mean;
-count_distinct(x) stands for dcount(x). kql help kusto has more.
+There are no fractions: sum(x) / countif(isnotnull(x)) is the whole part of the
+mean; count_distinct(x) stands for dcount(x). kql help kusto has more.
 ";
 
-const NOT_SERIALISED: &str = "\
+pub(crate) const NOT_SERIALISED: &str = "\
 407 NotSerialised
 
 A window function, or scan, stands over rows that have no order of their own.
@@ -83,18 +87,18 @@ A window function, or scan, stands over rows that have no order of their own.
 Put sort by or serialize before it.
 ";
 
-const WINDOW_HERE: &str = "\
+pub(crate) const WINDOW_HERE: &str = "\
 408 WindowHere
 
-No window function may stand here: in a key of sort, in summarize, in the arguments
-of prev, or in a running sum another running sum.
+No window function may stand here: in a key of sort, in summarize, in the
+arguments of prev, or in a running sum another running sum.
 
     T | serialize | summarize sum(prev(x))     at prev
 
 Give it a column of its own by extend first.
 ";
 
-const NO_MOMENT: &str = "\
+pub(crate) const NO_MOMENT: &str = "\
 409 NoMoment
 
 now and ago need the moment, and the command gives none.
@@ -104,36 +108,39 @@ now and ago need the moment, and the command gives none.
 Give it in front of the query file: kql run --now 2024-01-01 QUERY NAME=PATH ..
 ";
 
-const UNKNOWN_TABLE: &str = "\
+pub(crate) const UNKNOWN_TABLE: &str = "\
 410 UnknownTable
 
 No word of the command and no let gives a table of that name.
 
     Nosuch | count                             at Nosuch
 
-Give the file: Nosuch=path.csv. The constant of a let hides the file of its name.
+Give the file: Nosuch=path.csv. The constant of a let hides the file of its
+name.
 ";
 
-const COLUMN_TWICE: &str = "\
+pub(crate) const COLUMN_TWICE: &str = "\
 411 ColumnTwice
 
-Two columns of one result have one name, or one column is renamed twice; the place
-is the second.
+Two columns of one result have one name, or one column is renamed twice; the
+place is the second.
 
     T | project x, y = x, y = s                at the second y
 
 Give one of them another name.
 ";
 
-const TOO_MANY_COLUMNS: &str = "\
+pub(crate) const TOO_MANY_COLUMNS: &str = "\
 412 TooManyColumns
 
 The operator gives a result of more than 256 columns.
 
+    a table of 256 columns, | extend a = 1     at extend
+
 Leave columns out first, by project or project-away.
 ";
 
-const BAD_STEP: &str = "\
+pub(crate) const BAD_STEP: &str = "\
 413 BadStep
 
 The column that scan assigns to is not declared, or is assigned to twice in one
@@ -144,7 +151,7 @@ step; or here stands the 65th step.
 Declare it: scan declare (y:long) with ..
 ";
 
-const BAD_RANGE: &str = "\
+pub(crate) const BAD_RANGE: &str = "\
 414 BadRange
 
 A range has more than 1,000,000 rows, a series more than 100,000 bins, a step is
@@ -156,7 +163,7 @@ null or not positive, an end is null, or a count is null or negative.
 Give a step above 0 and a count of 0 or more.
 ";
 
-const TYPE_CLASH: &str = "\
+pub(crate) const TYPE_CLASH: &str = "\
 415 TypeClash
 
 The columns of a key of join, or of one name in union, are of two types.
@@ -166,7 +173,7 @@ The columns of a key of join, or of one name in union, are of two types.
 Convert one side, as by extend s = tostring(s).
 ";
 
-const NOT_IN_PARTITION: &str = "\
+pub(crate) const NOT_IN_PARTITION: &str = "\
 416 NotInPartition
 
 partition, join, lookup and union may not stand inside partition.
@@ -176,7 +183,7 @@ partition, join, lookup and union may not stand inside partition.
 Put it outside.
 ";
 
-const NAME_TWICE: &str = "\
+pub(crate) const NAME_TWICE: &str = "\
 417 NameTwice
 
 A let, or a step of scan, has a name that stands before.
@@ -186,7 +193,7 @@ A let, or a step of scan, has a name that stands before.
 Give it another name.
 ";
 
-const BAD_LITERAL: &str = "\
+pub(crate) const BAD_LITERAL: &str = "\
 418 BadLiteral
 
 The text of this literal does not read as its type.
@@ -197,7 +204,7 @@ The text of this literal does not read as its type.
 kql help literals has the forms; true, false and null are in lower case.
 ";
 
-const NO_COLUMNS: &str = "\
+pub(crate) const NO_COLUMNS: &str = "\
 419 NoColumns
 
 The operator gives a result without columns.
@@ -207,28 +214,82 @@ The operator gives a result without columns.
 Keep a column.
 ";
 
-/// The text of a code of these.
-pub(crate) fn code(number: u32) -> Option<&'static str> {
-    match number {
-        401 => Some(UNKNOWN_COLUMN),
-        402 => Some(UNKNOWN_FUNCTION),
-        403 => Some(WRONG_ARGUMENTS),
-        404 => Some(WRONG_TYPE),
-        405 => Some(UNSUPPORTED_TYPE),
-        406 => Some(UNSUPPORTED_FUNCTION),
-        407 => Some(NOT_SERIALISED),
-        408 => Some(WINDOW_HERE),
-        409 => Some(NO_MOMENT),
-        410 => Some(UNKNOWN_TABLE),
-        411 => Some(COLUMN_TWICE),
-        412 => Some(TOO_MANY_COLUMNS),
-        413 => Some(BAD_STEP),
-        414 => Some(BAD_RANGE),
-        415 => Some(TYPE_CLASH),
-        416 => Some(NOT_IN_PARTITION),
-        417 => Some(NAME_TWICE),
-        418 => Some(BAD_LITERAL),
-        419 => Some(NO_COLUMNS),
-        _ => None,
-    }
-}
+/// The topics of these texts.
+pub(crate) const TOPICS: &[Topic] = &[
+    Topic {
+        names: &["401"],
+        text: UNKNOWN_COLUMN,
+    },
+    Topic {
+        names: &["402"],
+        text: UNKNOWN_FUNCTION,
+    },
+    Topic {
+        names: &["403"],
+        text: WRONG_ARGUMENTS,
+    },
+    Topic {
+        names: &["404"],
+        text: WRONG_TYPE,
+    },
+    Topic {
+        names: &["405"],
+        text: UNSUPPORTED_TYPE,
+    },
+    Topic {
+        names: &["406"],
+        text: UNSUPPORTED_FUNCTION,
+    },
+    Topic {
+        names: &["407"],
+        text: NOT_SERIALISED,
+    },
+    Topic {
+        names: &["408"],
+        text: WINDOW_HERE,
+    },
+    Topic {
+        names: &["409"],
+        text: NO_MOMENT,
+    },
+    Topic {
+        names: &["410"],
+        text: UNKNOWN_TABLE,
+    },
+    Topic {
+        names: &["411"],
+        text: COLUMN_TWICE,
+    },
+    Topic {
+        names: &["412"],
+        text: TOO_MANY_COLUMNS,
+    },
+    Topic {
+        names: &["413"],
+        text: BAD_STEP,
+    },
+    Topic {
+        names: &["414"],
+        text: BAD_RANGE,
+    },
+    Topic {
+        names: &["415"],
+        text: TYPE_CLASH,
+    },
+    Topic {
+        names: &["416"],
+        text: NOT_IN_PARTITION,
+    },
+    Topic {
+        names: &["417"],
+        text: NAME_TWICE,
+    },
+    Topic {
+        names: &["418"],
+        text: BAD_LITERAL,
+    },
+    Topic {
+        names: &["419"],
+        text: NO_COLUMNS,
+    },
+];

@@ -1,6 +1,8 @@
 //! The codes of a query that is refused for its text.
 
-const BAD_CHARACTER: &str = "\
+use crate::topic::Topic;
+
+pub(crate) const BAD_CHARACTER: &str = "\
 101 BadCharacter
 
 A byte here begins no token, or is not UTF-8, in a string or a comment too.
@@ -11,7 +13,7 @@ Remove it, or save the query file in UTF-8. A name that is no word is written
 ['a b'], and ! before an expression not(..).
 ";
 
-const OPEN_TEXT: &str = "\
+pub(crate) const OPEN_TEXT: &str = "\
 102 OpenText
 
 A string or a literal of a type begins here and is not closed.
@@ -21,19 +23,19 @@ A string or a literal of a type begins here and is not closed.
 Close it on the same line; in a string a quote is written \\\".
 ";
 
-const BAD_NUMBER: &str = "\
+pub(crate) const BAD_NUMBER: &str = "\
 103 BadNumber
 
 A number, a timespan or a string with an escape is not written as one can be.
 
     5a, 1.5, \"a\\q\"
 
-Numbers are whole, up to 9223372036854775807, and end before a letter; a fraction
-needs a timespan's suffix, as 1.5h, and makes whole ticks; escapes are \\\\ \\\" \\' \\n
-\\r \\t.
+Numbers are whole, up to 9223372036854775807, and end before a letter; a
+fraction needs a timespan's suffix, as 1.5h, and makes whole ticks; escapes are
+\\\\ \\\" \\' \\n \\r \\t.
 ";
 
-const TEXT_TOO_LONG: &str = "\
+pub(crate) const TEXT_TOO_LONG: &str = "\
 104 TextTooLong
 
 The query file has more than 262,144 bytes; the place is 1:1.
@@ -41,7 +43,7 @@ The query file has more than 262,144 bytes; the place is 1:1.
 Make it shorter; data belongs into table files.
 ";
 
-const TOO_MANY_TOKENS: &str = "\
+pub(crate) const TOO_MANY_TOKENS: &str = "\
 105 TooManyTokens
 
 Here stands the 65,537th token of the query.
@@ -49,7 +51,7 @@ Here stands the 65,537th token of the query.
 Make the query shorter; data belongs into table files.
 ";
 
-const UNEXPECTED: &str = "\
+pub(crate) const UNEXPECTED: &str = "\
 201 Unexpected
 
 No query can go on with this word or sign, or end here, after what stands before it.
@@ -60,20 +62,23 @@ No query can go on with this word or sign, or end here, after what stands before
     T | where (a                               at the end: 1:13, or 2:1 where a line
                                                feed ends the file
 
-The word itself may be misspelt, or no operator of the language: kql help names those,
-and kql help kusto has what to write for others. Before it a |, a comma or a bracket may
-be missing. A reserved word as a name is written ['by'].
+The word itself, or the one before it, may be misspelt, or no operator of the
+language: kql help names those, and kql help kusto has what to write for others.
+Before it a |, a comma or a bracket may be missing. A reserved word as a name is
+written ['by'].
 ";
 
-const TOO_DEEP: &str = "\
+pub(crate) const TOO_DEEP: &str = "\
 202 TooDeep
 
 Here stands the 65th ( or [ that is open at once.
 
+    print and 65 times (, at 1:71
+
 Name parts by let or by extend.
 ";
 
-const TOO_MANY_OPERATORS: &str = "\
+pub(crate) const TOO_MANY_OPERATORS: &str = "\
 203 TooManyOperators
 
 Here stands the name of the 257th operator; the sources range, print and union
@@ -82,17 +87,38 @@ count too.
 Make the query shorter.
 ";
 
-/// The text of a code of these.
-pub(crate) fn code(number: u32) -> Option<&'static str> {
-    match number {
-        101 => Some(BAD_CHARACTER),
-        102 => Some(OPEN_TEXT),
-        103 => Some(BAD_NUMBER),
-        104 => Some(TEXT_TOO_LONG),
-        105 => Some(TOO_MANY_TOKENS),
-        201 => Some(UNEXPECTED),
-        202 => Some(TOO_DEEP),
-        203 => Some(TOO_MANY_OPERATORS),
-        _ => None,
-    }
-}
+/// The topics of these texts.
+pub(crate) const TOPICS: &[Topic] = &[
+    Topic {
+        names: &["101"],
+        text: BAD_CHARACTER,
+    },
+    Topic {
+        names: &["102"],
+        text: OPEN_TEXT,
+    },
+    Topic {
+        names: &["103"],
+        text: BAD_NUMBER,
+    },
+    Topic {
+        names: &["104"],
+        text: TEXT_TOO_LONG,
+    },
+    Topic {
+        names: &["105"],
+        text: TOO_MANY_TOKENS,
+    },
+    Topic {
+        names: &["201"],
+        text: UNEXPECTED,
+    },
+    Topic {
+        names: &["202"],
+        text: TOO_DEEP,
+    },
+    Topic {
+        names: &["203"],
+        text: TOO_MANY_OPERATORS,
+    },
+];

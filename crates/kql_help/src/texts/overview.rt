@@ -1,6 +1,8 @@
 //! Which topics and codes there are.
 
-const OVERVIEW: &str = "\
+use crate::topic::Topic;
+
+pub(crate) const OVERVIEW: &str = "\
 kql help TOPIC tells of one of these; kql --help has the words of the command.
 
     commands     run, plain, trial
@@ -17,7 +19,7 @@ kql help TOPIC tells of one of these; kql --help has the words of the command.
     refusals     codes names them all, and each code, as kql help 404
 ";
 
-const CODES: &str = "\
+pub(crate) const CODES: &str = "\
 Refusals, told in one line on standard error; kql help CODE has each
 
     kql: LINE:COLUMN: CODE NAME             the query, of which lines and columns
@@ -50,11 +52,14 @@ Status 4 is a file that could not be read, 5 an answer that could not be written
 6 no memory.
 ";
 
-/// The text of a topic of these.
-pub(crate) fn topic(name: &str) -> Option<&'static str> {
-    match name {
-        "overview" => Some(OVERVIEW),
-        "codes" => Some(CODES),
-        _ => None,
-    }
-}
+/// The topics of these texts.
+pub(crate) const TOPICS: &[Topic] = &[
+    Topic {
+        names: &["overview"],
+        text: OVERVIEW,
+    },
+    Topic {
+        names: &["codes"],
+        text: CODES,
+    },
+];
