@@ -18,13 +18,15 @@ kql: answers a query of the Kusto Query Language over tables in CSV files.
 
     kql run [--workers N] [--now T] QUERY NAME=PATH ..
     kql plain [--workers N] [--now T] QUERY NAME=PATH ..
+    kql explain [--workers N] [--now T] QUERY NAME=PATH ..
     kql trial ROWS SEED [--workers N]
 
 QUERY is the path of a file with the query, and each NAME=PATH gives the CSV file
 of a table. The answer is CSV on standard output. A query or file that is refused
 is told in one line on standard error, with its place. plain answers as run, one
-operator after another on one thread. trial answers five stored queries over a
-log of ROWS lines that SEED makes up, with a line for each.
+operator after another on one thread. explain prints the plan by which run
+answers. trial answers five stored queries over a log of ROWS lines that SEED
+makes up, with a line for each.
 
     --now T           the datetime that now() is, as 2024-03-01 or 2024-03-01T10:00
     --workers N       how many workers share the work, 1 to 64; without effect yet
@@ -88,6 +90,7 @@ fn query_path(words: &[String]) -> Option<&str> {
     let asked = match read_command(words).ok()? {
         Command::Run(asked) => asked,
         Command::Plain(asked) => asked,
+        Command::Explain(asked) => asked,
         Command::Trial(_) => return None,
     };
     Some(words.get(asked.query)?.as_str())

@@ -24,6 +24,7 @@ unfoldable pub of_queries : List Told
 of_queries =
     (codes "run" ∷ [], queries.RUN.now) ∷
     (codes "plain" ∷ [], queries.PLAIN.now) ∷
+    (codes "explain" ∷ [], queries.EXPLAIN.now) ∷
     (codes "trial" ∷ [], queries.TRIAL.now) ∷
     (codes "query" ∷ [], queries.QUERY.now) ∷
     (codes "literals" ∷ codes "words" ∷ [], queries.LITERALS.now) ∷

@@ -3,6 +3,7 @@ pub mod BoundFacts
 pub mod FileFacts
 pub mod MemoryFacts
 pub mod OutcomeFacts
+pub mod PlanFacts
 pub mod StepFacts
 pub mod TableFacts
 pub mod TopFacts

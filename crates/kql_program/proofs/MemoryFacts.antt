@@ -5,7 +5,7 @@ use Rattle.std.proofs.lemmas.List.{append-nil}
 use Rattle.kql_outside.specs.Causes.{Rose}
 use Rattle.kql_outside.specs.Memory.{SinkState, room_left}
 use Rattle.kql_program.specs.Answer.{Answers}
-use Rattle.kql_program.specs.Endings.{ending_of}
+use Rattle.kql_program.specs.Endings.{refused_as}
 use Rattle.kql_program.specs.Files.{Files}
 use Rattle.kql_program.specs.InMemory.{Answered, HaveRoomFor, RunsOut, in_memory}
 use Rattle.kql_program.specs.Lines.{line_of, memory_line}
@@ -25,7 +25,7 @@ never h = absurd (omega arith)
 bytes-of : (x y : List ℕ) → Some x ≡ Some y → x ≡ y
 bytes-of x y e = cc
 
-refused-answers : (words : List (List ℕ)) (files : Files) (o p e f : SinkState) (r : Refusal) (d : Ended) → Answers words files (Err r) → d ≡ ending_of words (Err r) → Some p.bytes ≡ Some o.bytes → Some f.bytes ≡ Some (e.bytes ++ line_of r)
+refused-answers : (words : List (List ℕ)) (files : Files) (o p e f : SinkState) (r : Refusal) (d : Ended) → Answers words files (Err r) → d ≡ refused_as r → Some p.bytes ≡ Some o.bytes → Some f.bytes ≡ Some (e.bytes ++ line_of r)
     → Answered words files o p e f d
 refused-answers words files o p e f r d i n q l = record {
   to = Err r;
@@ -39,7 +39,7 @@ text-answers : (words : List (List ℕ)) (files : Files) (o p e f : SinkState) (
 text-answers words files o p e f d h = record {
   to = Ok h.text;
   is = h.is;
-  ending = sym h.done;
+  ending = h.done;
   output = bytes-of p.bytes (o.bytes ++ h.text) h.whole;
   error = bytes-of f.bytes e.bytes h.quiet ∙ sym (append-nil e.bytes);
 }
@@ -51,7 +51,8 @@ long-line words files line b n o e z y (inr (inr (l, fails))) h = absurd (never 
 
 pub clean-ends : (words : List (List ℕ)) (files : Files) (o p e f : SinkState) (d : Ended) → Ends words (Answers words files) (outside 0 (in_memory o) (in_memory e)) (outside 0 (in_memory p) (in_memory f)) d → HaveRoomFor words files o e
     → Answered words files o p e f d ⊎ RunsOut o p e f d
-clean-ends words files o p e f ended.Table h room = inl (text-answers words files o p e f ended.Table h)
+clean-ends words files o p e f (ended.Table plan) h room = inl (text-answers words files o p e f (ended.Table plan) h)
+clean-ends words files o p e f (ended.Explained plan) h room = inl (text-answers words files o p e f (ended.Explained plan) h)
 clean-ends words files o p e f ended.PlainTable h room = inl (text-answers words files o p e f ended.PlainTable h)
 clean-ends words files o p e f ended.Trial h room = inl (text-answers words files o p e f ended.Trial h)
 clean-ends words files o p e f (ended.QueryRefused code place) h room = inl (refused-answers words files o p e f (refusal.Query code place) (ended.QueryRefused code place) h.is refl h.quiet h.line)

@@ -3,18 +3,21 @@ use Rattle.std.proofs.Common.{◌≡◌, ◌⊎◌, ◌∙◌, ℕ, List, refl, 
 use Rattle.std.specs.Prelude.{Option, Some, None, IfSome, IsSome, Result, Ok, Err}
 use Rattle.kql_outside.specs.Causes.{Rose}
 use Rattle.kql_outside.specs.Told.{appended}
+use Rattle.kql_bound.specs.declared.plan.Program.{Program}
+use Rattle.kql_plan_text.specs.Plans.{plan_text}
 use Rattle.kql_words.specs.Command.{command_of}
 use Rattle.kql_words.specs.Refusals.{Answer}
+use Rattle.kql_words.specs.declared.command.Asked.{Asked}
 use Rattle.kql_words.specs.declared.command.Command.{Command}
 use Rattle.kql_words.specs.declared.command.Command.TheVariants as command
 use Rattle.kql_words.specs.declared.refusal.Refusal.{Refusal}
 use Rattle.kql_words.specs.declared.refusal.Refusal.TheVariants as refusal
 use Rattle.kql_words.specs.declared.trial.Trial.{Trial}
 use Rattle.kql_program.specs.Answer.{Answers, AnswersCommand}
-use Rattle.kql_program.specs.Endings.{IsQuiet, done_as, done_of, ending_of, refused_as}
+use Rattle.kql_program.specs.Endings.{EndsAs, EndsAsAsked, IfExplained, IfPlan, IsEndingOf, IsQuiet, refused_as}
 use Rattle.kql_program.specs.Files.{Files}
 use Rattle.kql_program.specs.Lines.{line_of, memory_line}
-use Rattle.kql_program.specs.Outcomes.{Adds, Ends, EndsAsAnswered, FailsToRead, IsErrorLine, HasOutcome, IsAnswer, IsFaultless, IsLineOf, IsSame, OfAnswers, Outside, ReadsFiles, ReadsFor, RefusesNoWord, TriesFor, Writes, WritesStop, asked_in}
+use Rattle.kql_program.specs.Outcomes.{Adds, Ends, EndsAsAnswered, FailsToRead, IsDone, IsErrorLine, HasOutcome, IsAnswer, IsFaultless, IsLineOf, IsPlanFor, IsPlanText, IsSame, IsText, IsUnfinished, OfAnswers, Outside, ReadsFiles, ReadsFor, RefusesNoWord, SinkNow, TriesFor, Writes, WritesStop, asked_in}
 use Rattle.kql_program.specs.Refusals.{Finds, Reaches}
 use Rattle.kql_program.specs.Trials.{AnswersTrial}
 use Rattle.kql_program.specs.declared.ended.Ended.{Ended}
@@ -24,8 +27,9 @@ use Rattle.kql_program.specs.declared.refusal.Stop.TheVariants as stop
 
 ends-read : (words : List (List ℕ)) (Is : OfAnswers) (b n : Outside) (e : Ended) → Ends words Is b n e → e ≡ ended.ReadFault → Rose b.shelf_faults n.shelf_faults
 ends-read words Is b n ended.ReadFault h q = h.fails.cause
-ends-read words Is b n ended.Table h q = cc q
+ends-read words Is b n (ended.Table plan) h q = cc q
 ends-read words Is b n ended.PlainTable h q = cc q
+ends-read words Is b n (ended.Explained plan) h q = cc q
 ends-read words Is b n ended.Trial h q = cc q
 ends-read words Is b n (ended.QueryRefused code place) h q = cc q
 ends-read words Is b n (ended.Usage word code) h q = cc q
@@ -35,8 +39,9 @@ ends-read words Is b n ended.OutOfMemory h q = cc q
 
 ends-turn : (words : List (List ℕ)) (Is : OfAnswers) (b n : Outside) (e : Ended) → Ends words Is b n e → e ≡ ended.ReadFault → ReadsFiles words
 ends-turn words Is b n ended.ReadFault h q = h.fails.turn
-ends-turn words Is b n ended.Table h q = cc q
+ends-turn words Is b n (ended.Table plan) h q = cc q
 ends-turn words Is b n ended.PlainTable h q = cc q
+ends-turn words Is b n (ended.Explained plan) h q = cc q
 ends-turn words Is b n ended.Trial h q = cc q
 ends-turn words Is b n (ended.QueryRefused code place) h q = cc q
 ends-turn words Is b n (ended.Usage word code) h q = cc q
@@ -47,8 +52,9 @@ ends-turn words Is b n ended.OutOfMemory h q = cc q
 ends-write : (words : List (List ℕ)) (Is : OfAnswers) (b n : Outside) (e : Ended) → Ends words Is b n e → e ≡ ended.WriteFault → Rose b.out.faults n.out.faults ⊎ Rose b.err.faults n.err.faults
 ends-write words Is b n ended.WriteFault (inl h) q = inl h.cut.cause
 ends-write words Is b n ended.WriteFault (inr h) q = inr h.cut.cause
-ends-write words Is b n ended.Table h q = cc q
+ends-write words Is b n (ended.Table plan) h q = cc q
 ends-write words Is b n ended.PlainTable h q = cc q
+ends-write words Is b n (ended.Explained plan) h q = cc q
 ends-write words Is b n ended.Trial h q = cc q
 ends-write words Is b n (ended.QueryRefused code place) h q = cc q
 ends-write words Is b n (ended.Usage word code) h q = cc q
@@ -57,8 +63,9 @@ ends-write words Is b n ended.ReadFault h q = cc q
 ends-write words Is b n ended.OutOfMemory h q = cc q
 
 ends-quiet : (words : List (List ℕ)) (Is : OfAnswers) (b n : Outside) (e : Ended) → Ends words Is b n e → IsQuiet e → IsSame b.out n.out
-ends-quiet words Is b n ended.Table h q = absurd q
+ends-quiet words Is b n (ended.Table plan) h q = absurd q
 ends-quiet words Is b n ended.PlainTable h q = absurd q
+ends-quiet words Is b n (ended.Explained plan) h q = absurd q
 ends-quiet words Is b n ended.Trial h q = absurd q
 ends-quiet words Is b n ended.WriteFault h q = absurd q
 ends-quiet words Is b n (ended.QueryRefused code place) h q = h.quiet
@@ -67,10 +74,11 @@ ends-quiet words Is b n (ended.DataRefused file code row column) h q = h.quiet
 ends-quiet words Is b n ended.ReadFault h q = h.quiet
 ends-quiet words Is b n ended.OutOfMemory h q = h.quiet
 
-ends-complete : (words : List (List ℕ)) (Is : OfAnswers) (b n : Outside) (e : Ended) → Ends words Is b n e → IsFaultless b n → ((a : Answer (List ℕ)) × Is a × (e ≡ ending_of words a)) ⊎ (e ≡ ended.OutOfMemory)
-ends-complete words Is b n ended.Table h f = inl (Ok h.text, h.is, sym h.done)
-ends-complete words Is b n ended.PlainTable h f = inl (Ok h.text, h.is, sym h.done)
-ends-complete words Is b n ended.Trial h f = inl (Ok h.text, h.is, sym h.done)
+ends-complete : (words : List (List ℕ)) (Is : OfAnswers) (b n : Outside) (e : Ended) → Ends words Is b n e → IsFaultless b n → ((a : Answer (List ℕ)) × Is a × IsEndingOf words a e) ⊎ (e ≡ ended.OutOfMemory)
+ends-complete words Is b n (ended.Table plan) h f = inl (Ok h.text, h.is, h.done)
+ends-complete words Is b n ended.PlainTable h f = inl (Ok h.text, h.is, h.done)
+ends-complete words Is b n (ended.Explained plan) h f = inl (Ok h.text, h.is, h.done)
+ends-complete words Is b n ended.Trial h f = inl (Ok h.text, h.is, h.done)
 ends-complete words Is b n (ended.QueryRefused code place) h f = inl (Err (refusal.Query code place), h.is, refl)
 ends-complete words Is b n (ended.Usage word code) h f = inl (Err (refusal.Usage word code), h.is, refl)
 ends-complete words Is b n (ended.DataRefused file code row column) h f = inl (Err (refusal.Data file code row column), h.is, refl)
@@ -87,9 +95,12 @@ complete-told words (Some told) b n e h f = elim (ends-complete words (Answers w
   | inr q ↦ inr q
 ]
 
-pub outcome : (words : List (List ℕ)) (files : Option Files) (b n : Outside) (e : Ended) → Ends words (IsAnswer words files) b n e → HasOutcome words files b n e
-outcome words files b n e h = record {
+pub outcome : (words : List (List ℕ)) (files : Option Files) (b n : Outside) (e : Ended) → Ends words (IsAnswer words files) b n e → IfPlan (IsPlanFor words files (command_of words)) e
+    → IfExplained (λ plan. Adds b.out n.out (plan_text plan)) e → HasOutcome words files b n e
+outcome words files b n e h p x = record {
   ends = h;
+  plan = p;
+  explained = x;
   read = ends-read words (IsAnswer words files) b n e h;
   turn = ends-turn words (IsAnswer words files) b n e h;
   write = ends-write words (IsAnswer words files) b n e h;
@@ -108,11 +119,17 @@ no_command r = Err r
 abbrev no_text : Refusal → Answer (List ℕ)
 no_text r = Err r
 
+abbrev some_text : List ℕ → Answer (List ℕ)
+some_text t = Ok t
+
 command-same : (c d : Command) → command_is c ≡ command_is d → c ≡ d
 command-same c d e = cc
 
 command-refused : (q r : Refusal) → no_command q ≡ no_command r → q ≡ r
 command-refused q r e = cc
+
+text-same : (s t : List ℕ) → some_text s ≡ some_text t → s ≡ t
+text-same s t e = cc
 
 refused-same : (q r : Refusal) → no_text q ≡ no_text r → q ≡ r
 refused-same q r e = cc
@@ -121,28 +138,59 @@ refused-same q r e = cc
 tried : (c : Command) (t : Trial) (r : Result (List ℕ) Stop) → c ≡ command.Trial t → TriesFor c r → Finds (AnswersTrial t) r
 tried c t r e h = subst (λ (x : Command). TriesFor x r) e h
 
+-- what was explained where no files are told
+told-explained : (words : List (List ℕ)) (asked : Asked) (text : List ℕ) (e : Ended) → IsDone words None (command.Explain asked) text e → IsPlanText text
+told-explained words asked text (ended.Explained plan) h = record { plan = plan; is_settled = h.plan; is = h.explained }
+told-explained words asked text _ h = absurd h.ends
+
+explained-seen : (words : List (List ℕ)) (c : Command) (asked : Asked) (text seen : List ℕ) (e : Ended) → c ≡ command.Explain asked → text ≡ seen → IsDone words None c text e → IsPlanText seen
+explained-seen words c asked text seen e q s h = subst IsPlanText s (told-explained words asked text e (subst (λ (x : Command). IsDone words None x text e) q h))
+
 -- the text was made
-answer-ok : (words : List (List ℕ)) (files : Option Files) (c : Command) (text : List ℕ) → Ok c ≡ command_of words → IfSome files (λ told. Reaches (AnswersCommand words told (Ok c)) (Ok text)) → TriesFor c (Ok text)
-    → IsAnswer words files (Ok text)
-answer-ok words None c text e h t = record {
-  first = λ r q. cc (e ∙ q);
-  no_other = λ word code q. cc q;
-  trial = λ u q. tried c u (Ok text) (command-same c (command.Trial u) (e ∙ q)) t;
+answer-ok : (words : List (List ℕ)) (files : Option Files) (c : Command) (text : List ℕ) (e : Ended) → Ok c ≡ command_of words → IfSome files (λ told. Reaches (AnswersCommand words told (Ok c)) (Ok text)) → TriesFor c (Ok text)
+    → IsDone words files c text e → IsAnswer words files (Ok text)
+answer-ok words None c text e q h t d = record {
+  first = λ r f. cc (q ∙ f);
+  no_other = λ word code f. cc f;
+  trial = λ u f. tried c u (Ok text) (command-same c (command.Trial u) (q ∙ f)) t;
+  explained = λ asked seen f s. explained-seen words c asked text seen e (command-same c (command.Explain asked) (q ∙ f)) (text-same text seen s) d;
 }
-answer-ok words (Some told) c text e h t = subst (λ (x : Answer Command). AnswersCommand words told x (Ok text)) e h
+answer-ok words (Some told) c text e q h t d = subst (λ (x : Answer Command). AnswersCommand words told x (Ok text)) q h
 
-text-ends : (words : List (List ℕ)) (Is : OfAnswers) (b n : Outside) (c : Command) (text : List ℕ) → Is (Ok text) → Ok c ≡ command_of words → IsSame b.err n.err → Adds b.out n.out text → Ends words Is b n (done_of c)
-text-ends words Is b n (command.Run asked) text i e same w = record { text = text; is = i; done = ap done_as (sym e); whole = w; quiet = same }
-text-ends words Is b n (command.Plain asked) text i e same w = record { text = text; is = i; done = ap done_as (sym e); whole = w; quiet = same }
-text-ends words Is b n (command.Trial trial) text i e same w = record { text = text; is = i; done = ap done_as (sym e); whole = w; quiet = same }
+text-ends : (words : List (List ℕ)) (Is : OfAnswers) (b n : Outside) (c : Command) (e : Ended) → EndsAs c e → IsText words Is b n e → Ends words Is b n e
+text-ends words Is b n (command.Run asked) (ended.Table plan) h t = t
+text-ends words Is b n (command.Run asked) _ h t = absurd h
+text-ends words Is b n (command.Plain asked) ended.PlainTable h t = t
+text-ends words Is b n (command.Plain asked) _ h t = absurd h
+text-ends words Is b n (command.Explain asked) (ended.Explained plan) h t = t
+text-ends words Is b n (command.Explain asked) _ h t = absurd h
+text-ends words Is b n (command.Trial trial) ended.Trial h t = t
+text-ends words Is b n (command.Trial trial) _ h t = absurd h
 
-written-ends : (words : List (List ℕ)) (Is : OfAnswers) (b n : Outside) (c : Command) (text : List ℕ) (e : Ended) → Is (Ok text) → Ok c ≡ command_of words → IsSame b.err n.err → Writes b.out n.out text (done_of c) e → Ends words Is b n e
-written-ends words Is b n c text e i q same (inl w) = rw w.0 (text-ends words Is b n c text i q same w.1)
-written-ends words Is b n c text e i q same (inr w) = rw w.0 (inl (record { text = text; is = i; cut = w.1; quiet = same }))
+explained-adds : (b n : Outside) (text : List ℕ) (e : Ended) → IfExplained (λ plan. text ≡ plan_text plan) e → Adds b.out n.out text → IfExplained (λ plan. Adds b.out n.out (plan_text plan)) e
+explained-adds b n text (ended.Explained plan) h w = w ∙ ap (appended b.out.written) h
+explained-adds b n text _ h w = tt
 
-pub outcome-text : (words : List (List ℕ)) (files : Option Files) (b n : Outside) (c : Command) (text : List ℕ) (e : Ended) → Ok c ≡ command_of words
-    → IfSome files (λ told. Reaches (AnswersCommand words told (Ok c)) (Ok text)) → TriesFor c (Ok text) → IsSame b.err n.err → Writes b.out n.out text (done_of c) e → HasOutcome words files b n e
-outcome-text words files b n c text e q h t same w = outcome words files b n e (written-ends words (IsAnswer words files) b n c text e (answer-ok words files c text q h t) q same w)
+-- a text was written to its end
+written-whole : (words : List (List ℕ)) (files : Option Files) (b n : Outside) (c : Command) (text : List ℕ) (e : Ended) → Ok c ≡ command_of words → IsAnswer words files (Ok text) → IsDone words files c text e → IsSame b.err n.err
+    → Adds b.out n.out text → HasOutcome words files b n e
+written-whole words files b n c text e q i d same w =
+    let done : EndsAsAsked (command_of words) e = subst (λ (x : Answer Command). EndsAsAsked x e) q d.ends in
+    outcome words files b n e (text-ends words (IsAnswer words files) b n c e d.ends (record { text = text; is = i; done = done; whole = w; quiet = same }))
+    (subst (λ (x : Answer Command). IfPlan (IsPlanFor words files x) e) q d.plan) (explained-adds b n text e d.explained w)
+
+-- or left unfinished
+written-cut : (words : List (List ℕ)) (files : Option Files) (b n : Outside) (text : List ℕ) → IsAnswer words files (Ok text) → IsSame b.err n.err → IsUnfinished b.out n.out text → HasOutcome words files b n ended.WriteFault
+written-cut words files b n text i same w = outcome words files b n ended.WriteFault (inl (record { text = text; is = i; cut = w; quiet = same })) tt tt
+
+written : (words : List (List ℕ)) (files : Option Files) (b n : Outside) (c : Command) (text : List ℕ) (done e : Ended) → Ok c ≡ command_of words → IsAnswer words files (Ok text) → IsDone words files c text done → IsSame b.err n.err
+    → Writes b.out n.out text done e → HasOutcome words files b n e
+written words files b n c text done e q i d same (inl w) = subst (λ (x : Ended). HasOutcome words files b n x) (sym w.0) (written-whole words files b n c text done q i d same w.1)
+written words files b n c text done e q i d same (inr w) = subst (λ (x : Ended). HasOutcome words files b n x) (sym w.0) (written-cut words files b n text i same w.1)
+
+pub outcome-text : (words : List (List ℕ)) (files : Option Files) (b n : Outside) (c : Command) (text : List ℕ) (done e : Ended) → Ok c ≡ command_of words
+    → IfSome files (λ told. Reaches (AnswersCommand words told (Ok c)) (Ok text)) → TriesFor c (Ok text) → IsDone words files c text done → IsSame b.err n.err → Writes b.out n.out text done e → HasOutcome words files b n e
+outcome-text words files b n c text done e q h t d same w = written words files b n c text done e q (answer-ok words files c text done q h t d) d same w
 
 refused-ends : (words : List (List ℕ)) (Is : OfAnswers) (b n : Outside) (r : Refusal) → Is (Err r) → IsSame b.out n.out → n.err.written ≡ appended b.err.written (line_of r) → Ends words Is b n (refused_as r)
 refused-ends words Is b n (refusal.Query code place) i same w = record { is = i; quiet = same; line = w }
@@ -184,6 +232,7 @@ answer-refused words None c r e h t u = record {
   first = λ q f. cc (e ∙ f);
   no_other = λ word code f. absurd (u word code (ap (λ q. Err (stop.Refused q)) (refused-same r (refusal.Usage word code) f)));
   trial = λ x f. tried c x (Err (stop.Refused r)) (command-same c (command.Trial x) (e ∙ f)) t;
+  explained = λ asked text q f. cc f;
 }
 answer-refused words (Some told) c r e h t u = subst (λ (x : Answer Command). AnswersCommand words told x (Err r)) e h
 
@@ -199,12 +248,46 @@ stopped words files b n c stop.ReadFault e h t u f g = record {
 }
 stopped words files b n c stop.OutOfMemory e h t u f g = record { refused = λ r x. cc x; fault = λ x. cc x }
 
+-- no plan is in an ending after a stop
+
+abbrev HasNoPlan : Ended → Type 0
+HasNoPlan e = IfPlan (λ plan. ⊥) e
+
+no-plan : (P : Program → Type 0) (e : Ended) → HasNoPlan e → IfPlan P e
+no-plan P (ended.Table plan) h = absurd h
+no-plan P (ended.Explained plan) h = absurd h
+no-plan P _ h = tt
+
+none-explained : (P : Program → Type 0) (e : Ended) → HasNoPlan e → IfExplained P e
+none-explained P (ended.Explained plan) h = absurd h
+none-explained P _ h = tt
+
+refused-plan : (r : Refusal) → HasNoPlan (refused_as r)
+refused-plan (refusal.Query code place) = tt
+refused-plan (refusal.Usage word code) = tt
+refused-plan (refusal.Data file code row column) = tt
+
+line-plan : (s : Stop) (line : List ℕ) (e : Ended) → IsLineOf s line e → HasNoPlan e
+line-plan (stop.Refused r) line e (inl x) = subst HasNoPlan (sym x.1) (refused-plan r)
+line-plan (stop.Refused r) line e (inr x) = subst HasNoPlan (sym x.1) tt
+line-plan stop.ReadFault line e x = subst HasNoPlan (sym x.1) tt
+line-plan stop.OutOfMemory line e x = subst HasNoPlan (sym x.1) tt
+
+writes-plan : (b n : SinkNow) (line : List ℕ) (done e : Ended) → HasNoPlan done → Writes b n line done e → HasNoPlan e
+writes-plan b n line done e h (inl w) = subst HasNoPlan (sym w.0) h
+writes-plan b n line done e h (inr w) = subst HasNoPlan (sym w.0) tt
+
+stopped-outcome : (words : List (List ℕ)) (files : Option Files) (b n : Outside) (s : Stop) (e : Ended) → IsStopped words (IsAnswer words files) b n s → IsSame b.out n.out → WritesStop b.err n.err s e → HasOutcome words files b n e
+stopped-outcome words files b n s e i same w =
+    let none : HasNoPlan e = writes-plan b.err n.err w.line w.done e (line-plan s w.line w.done w.is) w.writes in
+    outcome words files b n e (stop-ends words (IsAnswer words files) b n s e i same w) (no-plan (IsPlanFor words files (command_of words)) e none) (none-explained (λ plan. Adds b.out n.out (plan_text plan)) e none)
+
 -- the work stopped
 pub outcome-stop : (words : List (List ℕ)) (files : Option Files) (b n : Outside) (c : Command) (s : Stop) (e : Ended) → Ok c ≡ command_of words
     → IfSome files (λ told. Reaches (AnswersCommand words told (Ok c)) (Err s)) → TriesFor c (Err s) → RefusesNoWord {X = List ℕ} (Err s)
     → (s ≡ stop.ReadFault → Rose b.shelf_faults n.shelf_faults) → (s ≡ stop.ReadFault → ReadsFor c) → IsSame b.out n.out → WritesStop b.err n.err s e → HasOutcome words files b n e
 outcome-stop words files b n c s e q h t u f g same w =
-    outcome words files b n e (stop-ends words (IsAnswer words files) b n s e (stopped words files b n c s q h t u f g) same w)
+    stopped-outcome words files b n s e (stopped words files b n c s q h t u f g) same w
 
 -- the words are refused
 first-answer : (words : List (List ℕ)) (files : Option Files) (r : Refusal) → Err r ≡ command_of words → IsAnswer words files (Err r)
@@ -212,6 +295,7 @@ first-answer words None r e = record {
   first = λ q f. ap Err (command-refused r q (e ∙ f));
   no_other = λ word code f. sym e ∙ ap Err (refused-same r (refusal.Usage word code) f);
   trial = λ t f. cc (e ∙ f);
+  explained = λ asked text q f. cc f;
 }
 first-answer words (Some told) r e = subst (λ (x : Answer Command). AnswersCommand words told x (Err r)) e refl
 
@@ -222,4 +306,4 @@ first-stopped words files b n r e = record {
 }
 
 pub outcome-first : (words : List (List ℕ)) (files : Option Files) (b n : Outside) (r : Refusal) (e : Ended) → Err r ≡ command_of words → IsSame b.out n.out → WritesStop b.err n.err (stop.Refused r) e → HasOutcome words files b n e
-outcome-first words files b n r e q same w = outcome words files b n e (stop-ends words (IsAnswer words files) b n (stop.Refused r) e (first-stopped words files b n r q) same w)
+outcome-first words files b n r e q same w = stopped-outcome words files b n (stop.Refused r) e (first-stopped words files b n r q) same w

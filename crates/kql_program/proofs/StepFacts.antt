@@ -16,9 +16,10 @@ use Rattle.kql_words.specs.declared.command.Asked.{Asked}
 use Rattle.kql_words.specs.declared.refusal.Refusal.TheVariants as refusal
 use Rattle.kql_words.proofs.AskedLaws.{texts-rest}
 use Rattle.kql_program.specs.Files.{Files, file_tokens, query_tokens, tables_from}
-use Rattle.kql_program.specs.Queries.{AreRows, AreRowsAsked, query_rows, rows_over, rows_with}
+use Rattle.kql_program.specs.Queries.{AreRows, IsBound, IsBoundAsked, bound_over, bound_with, query_bound, rows_of, rows_over}
 use Rattle.kql_program.specs.Refusals.{Computes, Finds, Gives, Reaches}
 use Rattle.kql_program.specs.Stops.{syntax_stop}
+use Rattle.kql_program.specs.declared.bound.BoundQuery.{BoundQuery}
 use Rattle.kql_program.specs.declared.refusal.Stop.{Stop}
 use Rattle.kql_program.specs.declared.refusal.Stop.TheVariants as stop
 use Rattle.kql_program.proofs.AnswerFacts.{computes, goes_on, raised, raised-finds, raised-reaches, stops}
@@ -26,60 +27,60 @@ use Rattle.kql_program.proofs.AnswerFacts.{computes, goes_on, raised, raised-fin
 -- A query, and the tables of words.
 
 -- the tables can't be had
-pub asked-stop : (told : Option Files) (query : Query) (moment : Option ℤ) (words : List (List ℕ)) (r : Result Grid Stop) (s : Stop)
+pub asked-stop : (told : Option Files) (query : Query) (moment : Option ℤ) (words : List (List ℕ)) (r : Result BoundQuery Stop) (s : Stop)
     → IfSome told (λ files. Computes (tables_from files 1 0 words) (Err s)) → IsErrAnd r (λ e. e ≡ s)
-    → IfSome told (λ files. Computes (rows_with (tables_from files 1 0 words) moment query) r)
-unfolding rows_with
+    → IfSome told (λ files. Computes (bound_with (tables_from files 1 0 words) moment query) r)
+unfolding bound_with
 asked-stop None query moment words r s h i = tt
 asked-stop (Some files) query moment words r s h i =
-    raised (rows_with (tables_from files 1 0 words) moment query) r s i (stops (tables_from files 1 0 words) (λ tables. rows_over query moment tables) s h)
+    raised (bound_with (tables_from files 1 0 words) moment query) r s i (stops (tables_from files 1 0 words) (λ tables. bound_over query moment tables) s h)
 
--- the rows over the tables
-pub asked-rows : (told : Option Files) (query : Query) (moment : Option ℤ) (words : List (List ℕ)) (tables : List Named) (r : Result Grid Stop)
-    → IfSome told (λ files. tables_from files 1 0 words ≡ Ok tables) → Gives (rows_over query moment tables) r
-    → IfSome told (λ files. Computes (rows_with (tables_from files 1 0 words) moment query) r)
-unfolding rows_with
-asked-rows None query moment words tables r h g = tt
-asked-rows (Some files) query moment words tables r h g =
-    goes_on (tables_from files 1 0 words) (λ tables. rows_over query moment tables) tables r h (computes (rows_over query moment tables) r g)
+-- the query bound to the tables
+pub asked-bound : (told : Option Files) (query : Query) (moment : Option ℤ) (words : List (List ℕ)) (tables : List Named) (r : Result BoundQuery Stop)
+    → IfSome told (λ files. tables_from files 1 0 words ≡ Ok tables) → Gives (bound_over query moment tables) r
+    → IfSome told (λ files. Computes (bound_with (tables_from files 1 0 words) moment query) r)
+unfolding bound_with
+asked-bound None query moment words tables r h g = tt
+asked-bound (Some files) query moment words tables r h g =
+    goes_on (tables_from files 1 0 words) (λ tables. bound_over query moment tables) tables r h (computes (bound_over query moment tables) r g)
 
 -- Tokens, and the query that they are.
 
 -- the syntax is refused
-fault-rows : (tables : Answer (List Named)) (tokens : List Token) (moment : Option ℤ) (fault : SyntaxFault) → Parses tokens (Err fault) → Finds (AreRows (Ok tokens) tables moment) (Err (syntax_stop fault))
-unfolding query_rows
-fault-rows tables tokens moment (syntax.Refused code place) h = record { verdict = Err (refusal.Query code place); judged = h; is = refl }
-fault-rows tables tokens moment syntax.OutOfMemory h = tt
+fault-bound : (tables : Answer (List Named)) (tokens : List Token) (moment : Option ℤ) (fault : SyntaxFault) → Parses tokens (Err fault) → Finds (IsBound (Ok tokens) tables moment) (Err (syntax_stop fault))
+unfolding query_bound
+fault-bound tables tokens moment (syntax.Refused code place) h = record { verdict = Err (refusal.Query code place); judged = h; is = refl }
+fault-bound tables tokens moment syntax.OutOfMemory h = tt
 
-fault-reaches : (tables : Answer (List Named)) (tokens : List Token) (moment : Option ℤ) (fault : SyntaxFault) → Parses tokens (Err fault) → Reaches (AreRows (Ok tokens) tables moment) (Err (syntax_stop fault))
-fault-reaches tables tokens moment (syntax.Refused code place) h = fault-rows tables tokens moment (syntax.Refused code place) h
+fault-reaches : (tables : Answer (List Named)) (tokens : List Token) (moment : Option ℤ) (fault : SyntaxFault) → Parses tokens (Err fault) → Reaches (IsBound (Ok tokens) tables moment) (Err (syntax_stop fault))
+fault-reaches tables tokens moment (syntax.Refused code place) h = fault-bound tables tokens moment (syntax.Refused code place) h
 fault-reaches tables tokens moment syntax.OutOfMemory h = tt
 
-pub parsed-fault : (told : Option Files) (tokens : List Token) (moment : Option ℤ) (words : List (List ℕ)) (fault : SyntaxFault) (r : Result Grid Stop) → Parses tokens (Err fault) → IsErrAnd r (λ e. e ≡ syntax_stop fault)
-    → IfSome told (λ files. Reaches (AreRows (Ok tokens) (tables_from files 1 0 words) moment) r)
+pub parsed-fault : (told : Option Files) (tokens : List Token) (moment : Option ℤ) (words : List (List ℕ)) (fault : SyntaxFault) (r : Result BoundQuery Stop) → Parses tokens (Err fault) → IsErrAnd r (λ e. e ≡ syntax_stop fault)
+    → IfSome told (λ files. Reaches (IsBound (Ok tokens) (tables_from files 1 0 words) moment) r)
 parsed-fault None tokens moment words fault r h i = tt
 parsed-fault (Some files) tokens moment words fault r h i =
-    raised-reaches (AreRows (Ok tokens) (tables_from files 1 0 words) moment) r (syntax_stop fault) i (fault-reaches (tables_from files 1 0 words) tokens moment fault h)
+    raised-reaches (IsBound (Ok tokens) (tables_from files 1 0 words) moment) r (syntax_stop fault) i (fault-reaches (tables_from files 1 0 words) tokens moment fault h)
 
 -- they are a query
-query-reaches : (tables : Answer (List Named)) (tokens : List Token) (moment : Option ℤ) (query : Query) (r : Result Grid Stop) → Parsed tokens query → Computes (rows_with tables moment query) r → Reaches (AreRows (Ok tokens) tables moment) r
-unfolding query_rows
-query-reaches tables tokens moment query (Ok rows) p h = record { verdict = Ok query; judged = p; is = sym h }
+query-reaches : (tables : Answer (List Named)) (tokens : List Token) (moment : Option ℤ) (query : Query) (r : Result BoundQuery Stop) → Parsed tokens query → Computes (bound_with tables moment query) r → Reaches (IsBound (Ok tokens) tables moment) r
+unfolding query_bound
+query-reaches tables tokens moment query (Ok bound) p h = record { verdict = Ok query; judged = p; is = sym h }
 query-reaches tables tokens moment query (Err (stop.Refused q)) p h = record { verdict = Ok query; judged = p; is = sym h }
 query-reaches tables tokens moment query (Err stop.ReadFault) p h = tt
 query-reaches tables tokens moment query (Err stop.OutOfMemory) p h = tt
 
-pub parsed-rows : (told : Option Files) (tokens : List Token) (moment : Option ℤ) (words : List (List ℕ)) (query : Query) (r : Result Grid Stop) → Parsed tokens query
-    → IfSome told (λ files. Computes (rows_with (tables_from files 1 0 words) moment query) r)
-    → IfSome told (λ files. Reaches (AreRows (Ok tokens) (tables_from files 1 0 words) moment) r)
-parsed-rows None tokens moment words query r p h = tt
-parsed-rows (Some files) tokens moment words query r p h = query-reaches (tables_from files 1 0 words) tokens moment query r p h
+pub parsed-bound : (told : Option Files) (tokens : List Token) (moment : Option ℤ) (words : List (List ℕ)) (query : Query) (r : Result BoundQuery Stop) → Parsed tokens query
+    → IfSome told (λ files. Computes (bound_with (tables_from files 1 0 words) moment query) r)
+    → IfSome told (λ files. Reaches (IsBound (Ok tokens) (tables_from files 1 0 words) moment) r)
+parsed-bound None tokens moment words query r p h = tt
+parsed-bound (Some files) tokens moment words query r p h = query-reaches (tables_from files 1 0 words) tokens moment query r p h
 
 -- The tokens of the query that a command asks for.
 
 -- tokens can't be had
-tokens-reach : (tokens : Answer (List Token)) (tables : Answer (List Named)) (moment : Option ℤ) (s : Stop) → Computes tokens (Err s) → Reaches (AreRows tokens tables moment) (Err s)
-unfolding query_rows
+tokens-reach : (tokens : Answer (List Token)) (tables : Answer (List Named)) (moment : Option ℤ) (s : Stop) → Computes tokens (Err s) → Reaches (IsBound tokens tables moment) (Err s)
+unfolding query_bound
 tokens-reach tokens tables moment (stop.Refused q) h = record { verdict = Err q; judged = rw h tt; is = rw h refl }
 tokens-reach tokens tables moment stop.ReadFault h = tt
 tokens-reach tokens tables moment stop.OutOfMemory h = tt
@@ -87,35 +88,35 @@ tokens-reach tokens tables moment stop.OutOfMemory h = tt
 path-asked : (words : List (String Global)) (asked : Asked) (d : String Global) (path : List ℕ) → asked.query < length words → path ≡ string_bytes (get_or words asked.query d) → query_path (texts words) asked ≡ path
 path-asked words asked d path lt p = get_or-map string_bytes words asked.query d [] lt ∙ sym p
 
-pub asked-tokens : (told : Option Files) (words : List (String Global)) (asked : Asked) (d : String Global) (path : List ℕ) (r : Result Grid Stop) (s : Stop) → asked.query < length words
+pub asked-tokens : (told : Option Files) (words : List (String Global)) (asked : Asked) (d : String Global) (path : List ℕ) (r : Result BoundQuery Stop) (s : Stop) → asked.query < length words
     → path ≡ string_bytes (get_or words asked.query d) → IfSome told (λ files. Computes (file_tokens files path) (Err s)) → IsErrAnd r (λ e. e ≡ s)
-    → IfSome told (λ files. Reaches (AreRowsAsked (texts words) files asked) r)
+    → IfSome told (λ files. Reaches (IsBoundAsked (texts words) files asked) r)
 asked-tokens None words asked d path r s lt p h i = tt
 asked-tokens (Some files) words asked d path r s lt p h i =
     let there : Computes (file_tokens files (query_path (texts words) asked)) (Err s) = subst (λ (at : List ℕ). Computes (file_tokens files at) (Err s)) (sym (path-asked words asked d path lt p)) h in
-    raised-reaches (AreRowsAsked (texts words) files asked) r s i
+    raised-reaches (IsBoundAsked (texts words) files asked) r s i
     (tokens-reach (file_tokens files (query_path (texts words) asked)) (tables_from files 1 0 (table_words (texts words) asked)) asked.moment s there)
 
--- the rows of the query that the tokens are
-pub asked-parsed : (told now-told : Option Files) (words rest : List (String Global)) (asked : Asked) (d : String Global) (path : List ℕ) (tokens : List Token) (r : Result Grid Stop)
+-- the query that the tokens are
+pub asked-parsed : (told now-told : Option Files) (words rest : List (String Global)) (asked : Asked) (d : String Global) (path : List ℕ) (tokens : List Token) (r : Result BoundQuery Stop)
     → asked.query < length words → path ≡ string_bytes (get_or words asked.query d) → rest ≡ take (length words - (asked.query + 1)) (drop (asked.query + 1) words)
-    → IfSome told (λ files. file_tokens files path ≡ Ok tokens) → now-told ≡ told → IfSome now-told (λ files. Reaches (AreRows (Ok tokens) (tables_from files 1 0 (texts rest)) asked.moment) r)
-    → IfSome told (λ files. Reaches (AreRowsAsked (texts words) files asked) r)
+    → IfSome told (λ files. file_tokens files path ≡ Ok tokens) → now-told ≡ told → IfSome now-told (λ files. Reaches (IsBound (Ok tokens) (tables_from files 1 0 (texts rest)) asked.moment) r)
+    → IfSome told (λ files. Reaches (IsBoundAsked (texts words) files asked) r)
 asked-parsed None now-told words rest asked d path tokens r lt p w t n h = tt
 asked-parsed (Some files) now-told words rest asked d path tokens r lt p w t n h =
     let tables : table_words (texts words) asked ≡ texts rest = sym (texts-rest words rest (asked.query + 1) w) in
     let read : file_tokens files (query_path (texts words) asked) ≡ Ok tokens = ap (file_tokens files) (path-asked words asked d path lt p) ∙ t in
-    let there : Reaches (AreRows (Ok tokens) (tables_from files 1 0 (texts rest)) asked.moment) r = rw n at h in
-    let over : Reaches (AreRows (Ok tokens) (tables_from files 1 0 (table_words (texts words) asked)) asked.moment) r =
-    subst (λ (ws : List (List ℕ)). Reaches (AreRows (Ok tokens) (tables_from files 1 0 ws) asked.moment) r) (sym tables) there in
-    subst (λ (ts : Answer (List Token)). Reaches (AreRows ts (tables_from files 1 0 (table_words (texts words) asked)) asked.moment) r) (sym read) over
+    let there : Reaches (IsBound (Ok tokens) (tables_from files 1 0 (texts rest)) asked.moment) r = rw n at h in
+    let over : Reaches (IsBound (Ok tokens) (tables_from files 1 0 (table_words (texts words) asked)) asked.moment) r =
+    subst (λ (ws : List (List ℕ)). Reaches (IsBound (Ok tokens) (tables_from files 1 0 ws) asked.moment) r) (sym tables) there in
+    subst (λ (ts : Answer (List Token)). Reaches (IsBound ts (tables_from files 1 0 (table_words (texts words) asked)) asked.moment) r) (sym read) over
 
 -- A stored query.
 
 -- its tokens can't be had
 tokens-find : (tokens : Answer (List Token)) (tables : Answer (List Named)) (moment : Option ℤ) (s : Stop) → Gives tokens (Err s) → Finds (AreRows tokens tables moment) (Err s)
-unfolding query_rows
-tokens-find tokens tables moment (stop.Refused q) h = record { verdict = Err q; judged = rw h tt; is = rw h refl }
+unfolding query_bound
+tokens-find tokens tables moment (stop.Refused q) h = record { bound = Err q; is_bound = record { verdict = Err q; judged = rw h tt; is = rw h refl }; is = refl }
 tokens-find tokens tables moment stop.ReadFault h = absurd h
 tokens-find tokens tables moment stop.OutOfMemory h = tt
 
@@ -125,16 +126,25 @@ stored-tokens text bytes tables r s b h i =
     raised-finds (AreRows (query_tokens text) (Ok tables) None) r s i (tokens-find (query_tokens text) (Ok tables) None s there)
 
 -- its syntax is refused
+fault-finds : (tables : Answer (List Named)) (tokens : List Token) (moment : Option ℤ) (fault : SyntaxFault) → Parses tokens (Err fault) → Finds (AreRows (Ok tokens) tables moment) (Err (syntax_stop fault))
+unfolding query_bound
+fault-finds tables tokens moment (syntax.Refused code place) h =
+    record { bound = Err (refusal.Query code place); is_bound = record { verdict = Err (refusal.Query code place); judged = h; is = refl }; is = refl }
+fault-finds tables tokens moment syntax.OutOfMemory h = tt
+
 pub stored-fault : (text bytes : List ℕ) (tokens : List Token) (tables : List Named) (fault : SyntaxFault) (r : Result Grid Stop) → bytes ≡ text → query_tokens bytes ≡ Ok tokens → Parses tokens (Err fault) → IsErrAnd r (λ e. e ≡ syntax_stop fault)
     → Finds (AreRows (query_tokens text) (Ok tables) None) r
 stored-fault text bytes tokens tables fault r b e h i =
     raised-finds (AreRows (query_tokens text) (Ok tables) None) r (syntax_stop fault) i
-    (subst (λ (ts : Answer (List Token)). Finds (AreRows ts (Ok tables) None) (Err (syntax_stop fault))) (sym (sym (ap query_tokens b) ∙ e)) (fault-rows (Ok tables) tokens None fault h))
+    (subst (λ (ts : Answer (List Token)). Finds (AreRows ts (Ok tables) None) (Err (syntax_stop fault))) (sym (sym (ap query_tokens b) ∙ e)) (fault-finds (Ok tables) tokens None fault h))
+
+rows-are : (tables : List Named) (tokens : List Token) (query : Query) (a : Answer Grid) → Parsed tokens query → rows_over query None tables ≡ a → AreRows (Ok tokens) (Ok tables) None a
+unfolding query_bound bound_with rows_over
+rows-are tables tokens query a p h = record { bound = bound_over query None tables; is_bound = record { verdict = Ok query; judged = p; is = refl }; is = sym h }
 
 query-finds : (tables : List Named) (tokens : List Token) (query : Query) (r : Result Grid Stop) → Parsed tokens query → Gives (rows_over query None tables) r → Finds (AreRows (Ok tokens) (Ok tables) None) r
-unfolding query_rows rows_with
-query-finds tables tokens query (Ok rows) p h = record { verdict = Ok query; judged = p; is = sym h }
-query-finds tables tokens query (Err (stop.Refused q)) p h = record { verdict = Ok query; judged = p; is = sym h }
+query-finds tables tokens query (Ok rows) p h = rows-are tables tokens query (Ok rows) p h
+query-finds tables tokens query (Err (stop.Refused q)) p h = rows-are tables tokens query (Err q) p h
 query-finds tables tokens query (Err stop.ReadFault) p h = absurd h
 query-finds tables tokens query (Err stop.OutOfMemory) p h = tt
 

@@ -1,38 +1,98 @@
--- The text of the rows, and the command.
-use Rattle.std.proofs.Common.{◌≡◌, ℕ, List, refl, ap}
+-- What a command makes of a query that is bound.
+use Rattle.std.proofs.Common.{◌≡◌, ℕ, true, List, refl, ap, subst, sym}
 use Rattle.std.specs.Prelude.{Option, Some, None, IfSome, IsErrAnd, Result, Ok, Err}
 use Rattle.csv_io.specs.Text.{table_text}
-use Rattle.kql_cells.specs.Table.{Grid}
+use Rattle.kql_bound.specs.declared.plan.Program.{Program}
+use Rattle.kql_meaning.specs.Plans.{means}
+use Rattle.kql_plan_text.specs.Plans.{plan_text}
 use Rattle.kql_words.specs.declared.command.Asked.{Asked}
-use Rattle.kql_words.specs.declared.trial.Trial.{Trial}
+use Rattle.kql_words.specs.declared.command.Command.{Command}
 use Rattle.kql_words.specs.declared.command.Command.TheVariants as command
+use Rattle.kql_words.specs.declared.trial.Trial.{Trial}
 use Rattle.kql_program.specs.Answer.{AnswersCommand}
 use Rattle.kql_program.specs.Files.{Files}
-use Rattle.kql_program.specs.Queries.{AnswersQuery, AreRowsAsked}
+use Rattle.kql_program.specs.Outcomes.{IsDone, IsPlanFor, text_in}
+use Rattle.kql_program.specs.Plans.{AnswersExplain, IsExplainedBy, IsPlanOf, IsRunBy}
+use Rattle.kql_program.specs.Queries.{AnswersQuery, IsBoundAsked}
 use Rattle.kql_program.specs.Refusals.{Finds, Reaches}
 use Rattle.kql_program.specs.Trials.{AnswersTrial}
+use Rattle.kql_program.specs.declared.bound.BoundQuery.{BoundQuery}
+use Rattle.kql_program.specs.declared.bound.Done.{Done}
+use Rattle.kql_program.specs.declared.ended.Ended.{Ended}
+use Rattle.kql_program.specs.declared.ended.Ended.TheVariants as ended
 use Rattle.kql_program.specs.declared.refusal.Stop.{Stop}
 use Rattle.kql_program.specs.declared.refusal.Stop.TheVariants as stop
-use Rattle.kql_program.proofs.AnswerFacts.{raised-reaches, reached}
+use Rattle.kql_program.proofs.AnswerFacts.{reached}
 
--- the text can't be had
-text-refused : (words : List (List ℕ)) (files : Files) (asked : Asked) (s : Stop) → Reaches (AreRowsAsked words files asked) (Err s) → Reaches (AnswersQuery words files asked) (Err s)
-text-refused words files asked (stop.Refused q) h = record { rows = Err q; are = h; is = refl }
+-- an error that `?` passed on, of a call that makes a text and an ending
+raised-text : (Is : Result (List ℕ) _ → Type 0) (r : Result Done Stop) (s : Stop) → IsErrAnd r (λ e. e ≡ s) → Reaches Is (Err s) → Reaches Is (text_in r)
+raised-text Is (Ok x) s i h = absurd i
+raised-text Is (Err e) s i h = rw i h
+
+-- the query is refused
+text-refused : (words : List (List ℕ)) (files : Files) (asked : Asked) (s : Stop) → Reaches (IsBoundAsked words files asked) (Err s) → Reaches (AnswersQuery words files asked) (Err s)
+text-refused words files asked (stop.Refused q) h = record { rows = Err q; are = record { bound = Err q; is_bound = h; is = refl }; is = refl }
 text-refused words files asked stop.ReadFault h = tt
 text-refused words files asked stop.OutOfMemory h = tt
 
-pub text-stop : (told : Option Files) (words : List (List ℕ)) (asked : Asked) (r : Result (List ℕ) Stop) (s : Stop) → IfSome told (λ files. Reaches (AreRowsAsked words files asked) (Err s)) → IsErrAnd r (λ e. e ≡ s)
-    → IfSome told (λ files. Reaches (AnswersQuery words files asked) r)
+pub text-stop : (told : Option Files) (words : List (List ℕ)) (asked : Asked) (r : Result Done Stop) (s : Stop) → IfSome told (λ files. Reaches (IsBoundAsked words files asked) (Err s)) → IsErrAnd r (λ e. e ≡ s)
+    → IfSome told (λ files. Reaches (AnswersQuery words files asked) (text_in r))
 text-stop None words asked r s h i = tt
-text-stop (Some files) words asked r s h i = raised-reaches (AnswersQuery words files asked) r s i (text-refused words files asked s h)
+text-stop (Some files) words asked r s h i = raised-text (AnswersQuery words files asked) r s i (text-refused words files asked s h)
 
--- the text of the rows
-pub text-ok : (told : Option Files) (words : List (List ℕ)) (asked : Asked) (rows : Grid) (text : List ℕ) → IfSome told (λ files. AreRowsAsked words files asked (Ok rows)) → text ≡ table_text rows
+explain-refused : (words : List (List ℕ)) (files : Files) (asked : Asked) (s : Stop) → Reaches (IsBoundAsked words files asked) (Err s) → Reaches (AnswersExplain words files asked) (Err s)
+explain-refused words files asked (stop.Refused q) h = record { bound = Err q; is_bound = h; is = refl }
+explain-refused words files asked stop.ReadFault h = tt
+explain-refused words files asked stop.OutOfMemory h = tt
+
+pub explain-stop : (told : Option Files) (words : List (List ℕ)) (asked : Asked) (r : Result Done Stop) (s : Stop) → IfSome told (λ files. Reaches (IsBoundAsked words files asked) (Err s)) → IsErrAnd r (λ e. e ≡ s)
+    → IfSome told (λ files. Reaches (AnswersExplain words files asked) (text_in r))
+explain-stop None words asked r s h i = tt
+explain-stop (Some files) words asked r s h i = raised-text (AnswersExplain words files asked) r s i (explain-refused words files asked s h)
+
+-- the text of its rows
+pub text-ok : (told : Option Files) (words : List (List ℕ)) (asked : Asked) (bound : BoundQuery) (text : List ℕ) → IfSome told (λ files. IsBoundAsked words files asked (Ok bound)) → text ≡ table_text (means bound.program bound.catalogue)
     → IfSome told (λ files. AnswersQuery words files asked (Ok text))
-text-ok None words asked rows text h e = tt
-text-ok (Some files) words asked rows text h e = record { rows = Ok rows; are = h; is = ap Ok e }
+text-ok None words asked bound text h e = tt
+text-ok (Some files) words asked bound text h e = record { rows = Ok (means bound.program bound.catalogue); are = record { bound = Ok bound; is_bound = h; is = refl }; is = ap Ok e }
+
+-- a plan of it
+planned : (told : Option Files) (words : List (List ℕ)) (asked : Asked) (bound : BoundQuery) (plan : Program) → IfSome told (λ files. IsBoundAsked words files asked (Ok bound)) → IsPlanOf bound.program plan
+    → IsPlanFor words told (Ok (command.Run asked)) plan
+planned None words asked bound plan h i = i.is_settled
+planned (Some files) words asked bound plan h i = record { bound = bound; is_bound = h; is = i }
+
+pub run-done : (told : Option Files) (words : List (List ℕ)) (asked : Asked) (bound : BoundQuery) (text : List ℕ) (e : Ended) → IfSome told (λ files. IsBoundAsked words files asked (Ok bound)) → IsRunBy bound.program e
+    → IsDone words told (command.Run asked) text e
+run-done told words asked bound text (ended.Table plan) h i = record { ends = tt; plan = planned told words asked bound plan h i; explained = tt }
+run-done told words asked bound text _ h i = absurd i
+
+pub plain-done : (told : Option Files) (words : List (List ℕ)) (asked : Asked) (text : List ℕ) (e : Ended) → e ≡ ended.PlainTable → IsDone words told (command.Plain asked) text e
+plain-done told words asked text e q = subst (λ (x : Ended). IsDone words told (command.Plain asked) text x) (sym q) (record { ends = tt; plan = tt; explained = tt })
+
+planned-text : (told : Option Files) (words : List (List ℕ)) (asked : Asked) (bound : BoundQuery) (plan : Program) → IfSome told (λ files. IsBoundAsked words files asked (Ok bound)) → IsPlanOf bound.program plan
+    → IsPlanFor words told (Ok (command.Explain asked)) plan
+planned-text None words asked bound plan h i = i.is_settled
+planned-text (Some files) words asked bound plan h i = record { bound = bound; is_bound = h; is = i }
+
+pub explained-done : (told : Option Files) (words : List (List ℕ)) (asked : Asked) (bound : BoundQuery) (text : List ℕ) (e : Ended) → IfSome told (λ files. IsBoundAsked words files asked (Ok bound)) → IsExplainedBy bound.program text e
+    → IsDone words told (command.Explain asked) text e
+explained-done told words asked bound text (ended.Explained plan) h i = record { ends = tt; plan = planned-text told words asked bound plan h i.0; explained = i.1 }
+explained-done told words asked bound text _ h i = absurd i
+
+explains : (words : List (List ℕ)) (files : Files) (asked : Asked) (bound : BoundQuery) (text : List ℕ) (e : Ended) → IsBoundAsked words files asked (Ok bound) → IsExplainedBy bound.program text e → AnswersExplain words files asked (Ok text)
+explains words files asked bound text (ended.Explained plan) h i = record { bound = Ok bound; is_bound = h; is = (plan, i.0, ap Ok i.1) }
+explains words files asked bound text _ h i = absurd i
+
+pub explain-ok : (told : Option Files) (words : List (List ℕ)) (asked : Asked) (bound : BoundQuery) (text : List ℕ) (e : Ended) → IfSome told (λ files. IsBoundAsked words files asked (Ok bound)) → IsExplainedBy bound.program text e
+    → IfSome told (λ files. AnswersExplain words files asked (Ok text))
+explain-ok None words asked bound text e h i = tt
+explain-ok (Some files) words asked bound text e h i = explains words files asked bound text e h i
 
 -- a trial is answered whatever the files are
 pub trial-told : (told : Option Files) (words : List (List ℕ)) (trial : Trial) (r : Result (List ℕ) Stop) → Finds (AnswersTrial trial) r → IfSome told (λ files. Reaches (AnswersCommand words files (Ok (command.Trial trial))) r)
 trial-told None words trial r h = tt
 trial-told (Some files) words trial r h = reached (AnswersTrial trial) r h
+
+pub trial-done : (told : Option Files) (words : List (List ℕ)) (trial : Trial) (text : List ℕ) (e : Ended) → e ≡ ended.Trial → IsDone words told (command.Trial trial) text e
+trial-done told words trial text e q = subst (λ (x : Ended). IsDone words told (command.Trial trial) text x) (sym q) (record { ends = tt; plan = tt; explained = tt })

@@ -14,12 +14,14 @@ use Rattle.kql_words.specs.declared.command.Asked.{Asked}
 use Rattle.kql_words.specs.declared.command.Command.{Command}
 use Rattle.kql_words.specs.declared.command.Command.TheVariants as command
 use Rattle.kql_words.specs.declared.refusal.Refusal.TheVariants as refusal
-use Rattle.kql_program.specs.Answer.{AnswersCommand, HasOneAnswer}
+use Rattle.kql_program.specs.Answer.{AnswersCommand, AreOne, ExplainTheSame, HasOneAnswer}
 use Rattle.kql_program.specs.Files.{Files, file_tokens, query_tokens, tables_from}
-use Rattle.kql_program.specs.Queries.{AnswersQuery, AreRows, query_rows, text_of}
+use Rattle.kql_program.specs.Plans.{AnswersExplain, Explains}
+use Rattle.kql_program.specs.Queries.{AnswersQuery, AreRows, IsBound, query_bound, rows_of, text_of}
 use Rattle.kql_program.specs.Refusals.{after}
 use Rattle.kql_program.specs.Syntax.{IsVerdict, Verdict}
 use Rattle.kql_program.specs.Trials.{AreLines, IsLine, LinesFrom, line_as}
+use Rattle.kql_program.specs.declared.bound.BoundQuery.{BoundQuery}
 
 -- there is one verdict on tokens
 pub one-verdict : (s : List Token) (u v : Verdict) → IsVerdict s u → IsVerdict s v → u ≡ v
@@ -36,15 +38,31 @@ one-verdict s (Err (refusal.Query code place)) (Err (refusal.Data file d row col
 one-verdict s (Err (refusal.Usage word code)) v h k = absurd h
 one-verdict s (Err (refusal.Data file code row column)) v h k = absurd h
 
+-- there is one query that is bound
+pub one-bound : (tokens : Answer (List Token)) (tables : Answer (List Named)) (moment : Option ℤ) (a b : Answer BoundQuery) → IsBound tokens tables moment a → IsBound tokens tables moment b → a ≡ b
+unfolding query_bound
+one-bound (Ok read) tables moment a b h k = h.is ∙ (ap (query_bound (Ok read) tables moment) (one-verdict read h.verdict k.verdict h.judged k.judged) ∙ sym k.is)
+one-bound (Err q) tables moment a b h k = h.is ∙ sym k.is
+
 -- there are one table's rows
 pub one-rows : (tokens : Answer (List Token)) (tables : Answer (List Named)) (moment : Option ℤ) (a b : Answer Grid) → AreRows tokens tables moment a → AreRows tokens tables moment b → a ≡ b
-unfolding query_rows
-one-rows (Ok read) tables moment a b h k = h.is ∙ (ap (query_rows (Ok read) tables moment) (one-verdict read h.verdict k.verdict h.judged k.judged) ∙ sym k.is)
-one-rows (Err q) tables moment a b h k = h.is ∙ sym k.is
+one-rows tokens tables moment a b h k = h.is ∙ (ap rows_of (one-bound tokens tables moment h.bound k.bound h.is_bound k.is_bound) ∙ sym k.is)
 
 one-text : (words : List (List ℕ)) (files : Files) (asked : Asked) (a b : Answer (List ℕ)) → AnswersQuery words files asked a → AnswersQuery words files asked b → a ≡ b
 one-text words files asked a b h k =
     h.is ∙ (ap text_of (one-rows (file_tokens files (query_path words asked)) (tables_from files 1 0 (table_words words asked)) asked.moment h.rows k.rows h.are k.are) ∙ sym k.is)
+
+-- there is one refusal of `explain`, and each text is of a plan of one program
+same-explained : (bound : Answer BoundQuery) (a b : Answer (List ℕ)) → Explains bound a → Explains bound b → ExplainTheSame a b
+same-explained (Err r) a b h k = subst (λ (x : Answer (List ℕ)). ExplainTheSame x b) (sym h) k
+same-explained (Ok bound) (Ok s) (Ok t) h k = record { bound = bound; first = h; second = k }
+same-explained (Ok bound) (Ok s) (Err r) h (plan, i, e) = cc e
+same-explained (Ok bound) (Err q) b (plan, i, e) k = cc e
+
+one-explained : (words : List (List ℕ)) (files : Files) (asked : Asked) (a b : Answer (List ℕ)) → AnswersExplain words files asked a → AnswersExplain words files asked b → ExplainTheSame a b
+one-explained words files asked a b h k =
+    let same = one-bound (file_tokens files (query_path words asked)) (tables_from files 1 0 (table_words words asked)) asked.moment k.bound h.bound k.is_bound h.is_bound in
+    same-explained h.bound a b h.is (subst (λ (x : Answer BoundQuery). Explains x b) same k.is)
 
 one-line : (tables : List Named) (number : ℕ) (text : List ℕ) (a b : Answer (List ℕ)) → IsLine tables number text a → IsLine tables number text b → a ≡ b
 one-line tables number text a b h k = h.is ∙ (ap (line_as number) (one-rows (query_tokens text) (Ok tables) None h.rows k.rows h.are k.are) ∙ sym k.is)
@@ -61,10 +79,11 @@ one-lines tables number (text ∷ texts) a b (x, p, h) (y, q, k) =
     one-from (AreLines tables (number + 1) texts) x a b (one-lines tables (number + 1) texts) h
     (subst (λ (line : Answer (List ℕ)). LinesFrom (AreLines tables (number + 1) texts) line b) same k)
 
-one-command : (words : List (List ℕ)) (files : Files) (c : Answer Command) (a b : Answer (List ℕ)) → AnswersCommand words files c a → AnswersCommand words files c b → a ≡ b
+one-command : (words : List (List ℕ)) (files : Files) (c : Answer Command) (a b : Answer (List ℕ)) → AnswersCommand words files c a → AnswersCommand words files c b → AreOne c a b
 one-command words files (Err r) a b h k = h ∙ sym k
 one-command words files (Ok (command.Run asked)) a b h k = one-text words files asked a b h k
 one-command words files (Ok (command.Plain asked)) a b h k = one-text words files asked a b h k
+one-command words files (Ok (command.Explain asked)) a b h k = one-explained words files asked a b h k
 one-command words files (Ok (command.Trial trial)) a b h k = one-lines (log_tables trial.rows trial.seed) 1 stored_queries a b h k
 
 -- there is one answer to words and files

@@ -14,12 +14,13 @@ use Rattle.kql_meaning.specs.Plans.{means}
 use Rattle.kql_syntax.specs.declared.parse.SyntaxFault.{SyntaxFault}
 use Rattle.kql_syntax.specs.declared.parse.SyntaxFault.TheVariants as syntax
 use Rattle.kql_syntax.specs.declared.query.Query.{Query}
-use Rattle.kql_program.specs.Queries.{bound_as, program_of, rows_over}
+use Rattle.kql_program.specs.Queries.{bound_as, bound_over, over, program_of, rows_over}
 use Rattle.kql_program.specs.Files.{lexed_as, query_tokens}
 use Rattle.kql_program.specs.Outcomes.{RefusesNoWord}
 use Rattle.kql_program.specs.Refusals.{Gives}
 use Rattle.kql_words.specs.Refusals.{Answer, ◌>>=◌}
 use Rattle.kql_program.specs.Stops.{syntax_stop}
+use Rattle.kql_program.specs.declared.bound.BoundQuery.{BoundQuery}
 use Rattle.kql_words.specs.declared.refusal.Refusal.{Refusal}
 use Rattle.kql_words.specs.declared.refusal.Refusal.TheVariants as refusal
 use Rattle.kql_program.specs.declared.refusal.Stop.{Stop}
@@ -91,12 +92,20 @@ bound-words (Ok program) word code e = cc e
 bound-words (Err (bind.Refused c place)) word code e = cc e
 bound-words (Err bind.OutOfMemory) word code e = cc e
 
-rows-words : {X : Type 0} (x : X) → NoWord (Ok x)
+value-words : {X : Type 0} (x : X) → NoWord (Ok x)
 unfolding NoWord
-rows-words x word code e = cc e
+value-words x word code e = cc e
 
--- nor binding, nor the rows
+-- nor binding
+bound-none : (query : Query) (moment : Option ℤ) (tables : List Named) → NoWord (bound_over query moment tables)
+unfolding bound_over program_of
+bound-none query moment tables = then-words (program_of query moment tables) _ (bound-words (bound query (schemas_of tables) moment)) (λ program. value-words (over program tables))
+
+pub bound-no_words : (query : Query) (moment : Option ℤ) (tables : List Named) (r : Result BoundQuery Stop) → Gives (bound_over query moment tables) r → RefusesNoWord r
+bound-no_words query moment tables r g = gives-words (bound_over query moment tables) r (bound-none query moment tables) g
+
+-- nor the rows
 pub row-words : (query : Query) (moment : Option ℤ) (tables : List Named) (r : Result Grid Stop) → Gives (rows_over query moment tables) r → RefusesNoWord r
-unfolding rows_over program_of
+unfolding rows_over
 row-words query moment tables r g =
-    gives-words (rows_over query moment tables) r (then-words (program_of query moment tables) _ (bound-words (bound query (schemas_of tables) moment)) (λ program. rows-words (means program tables))) g
+    gives-words (rows_over query moment tables) r (then-words (bound_over query moment tables) _ (bound-none query moment tables) (λ b. value-words (means b.program b.catalogue))) g

@@ -5,6 +5,7 @@ use Rattle.kql_words.specs.Refusals.{Answer}
 use Rattle.kql_words.specs.declared.command.Command.{Command}
 use Rattle.kql_words.specs.declared.command.Command.TheVariants as command
 use Rattle.kql_program.specs.Files.{Files}
+use Rattle.kql_program.specs.Plans.{AnswersExplain, ExplainOne}
 use Rattle.kql_program.specs.Queries.{AnswersQuery}
 use Rattle.kql_program.specs.Trials.{AnswersTrial}
 
@@ -13,12 +14,27 @@ abbrev pub AnswersCommand : List (List ℕ) → Files → Answer Command → Ans
 AnswersCommand words files (Err refusal) a = a ≡ Err refusal
 AnswersCommand words files (Ok (command.Run asked)) a = AnswersQuery words files asked a
 AnswersCommand words files (Ok (command.Plain asked)) a = AnswersQuery words files asked a
+AnswersCommand words files (Ok (command.Explain asked)) a = AnswersExplain words files asked a
 AnswersCommand words files (Ok (command.Trial trial)) a = AnswersTrial trial a
 
 -- this is the answer to the words and files
 abbrev pub Answers : List (List ℕ) → Files → Answer (List ℕ) → Type 0
 Answers words files a = AnswersCommand words files (command_of words) a
 
+-- two answers to `explain`: one refusal, or texts of plans of one program
+abbrev pub ExplainTheSame : Answer (List ℕ) → Answer (List ℕ) → Type 0
+ExplainTheSame (Ok s) (Ok t) = ExplainOne s t
+ExplainTheSame (Ok s) (Err r) = ⊥
+ExplainTheSame (Err q) b = b ≡ Err q
+
+-- two answers to what the words are: they are one, and where it is `explain`, they explain the same
+abbrev pub AreOne : Answer Command → Answer (List ℕ) → Answer (List ℕ) → Type 0
+AreOne (Err refusal) a b = a ≡ b
+AreOne (Ok (command.Run asked)) a b = a ≡ b
+AreOne (Ok (command.Plain asked)) a b = a ≡ b
+AreOne (Ok (command.Explain asked)) a b = ExplainTheSame a b
+AreOne (Ok (command.Trial trial)) a b = a ≡ b
+
 -- there is no other answer
 abbrev pub HasOneAnswer : List (List ℕ) → Files → Type 0
-HasOneAnswer words files = (a b : Answer (List ℕ)) → Answers words files a → Answers words files b → a ≡ b
+HasOneAnswer words files = (a b : Answer (List ℕ)) → Answers words files a → Answers words files b → AreOne (command_of words) a b

@@ -1,5 +1,6 @@
 -- The endings, and their exit statuses.
-use Rattle.std.specs.Prelude.{ℕ, List, Ok, Err}
+use Rattle.std.specs.Prelude.{◌≡◌, ℕ, List, Ok, Err}
+use Rattle.kql_bound.specs.declared.plan.Program.{Program}
 use Rattle.kql_words.specs.Command.{command_of}
 use Rattle.kql_words.specs.declared.command.Command.{Command}
 use Rattle.kql_words.specs.declared.command.Command.TheVariants as command
@@ -11,8 +12,9 @@ use Rattle.kql_words.specs.Refusals.{Answer}
 
 -- the exit status of an ending
 abbrev pub status_of : Ended → ℕ
-status_of ended.Table = 0
+status_of (ended.Table plan) = 0
 status_of ended.PlainTable = 0
+status_of (ended.Explained plan) = 0
 status_of ended.Trial = 0
 status_of (ended.QueryRefused code place) = 1
 status_of (ended.Usage word code) = 2
@@ -28,25 +30,39 @@ refused_as (refusal.Usage word code) = ended.Usage word code
 refused_as (refusal.Data file code row column) = ended.DataRefused file code row column
 
 -- the ending after a command's text was written
-abbrev pub done_of : Command → Ended
-done_of (command.Run asked) = ended.Table
-done_of (command.Plain asked) = ended.PlainTable
-done_of (command.Trial trial) = ended.Trial
+abbrev pub EndsAs : Command → Ended → Type 0
+EndsAs (command.Run asked) (ended.Table plan) = Unit {0}
+EndsAs (command.Plain asked) ended.PlainTable = Unit {0}
+EndsAs (command.Explain asked) (ended.Explained plan) = Unit {0}
+EndsAs (command.Trial trial) ended.Trial = Unit {0}
+EndsAs _ _ = ⊥
 
--- the ending of what the words are: after their command's text was written, or that of their fault
-abbrev pub done_as : Answer Command → Ended
-done_as (Ok c) = done_of c
-done_as (Err r) = refused_as r
+-- the words are a command, and the ending is that after its text was written
+abbrev pub EndsAsAsked : Answer Command → Ended → Type 0
+EndsAsAsked (Ok c) e = EndsAs c e
+EndsAsAsked (Err r) e = ⊥
 
 -- the ending of an answer to words
-abbrev pub ending_of : List (List ℕ) → Answer (List ℕ) → Ended
-ending_of words (Ok text) = done_as (command_of words)
-ending_of words (Err r) = refused_as r
+abbrev pub IsEndingOf : List (List ℕ) → Answer (List ℕ) → Ended → Type 0
+IsEndingOf words (Ok text) e = EndsAsAsked (command_of words) e
+IsEndingOf words (Err r) e = e ≡ refused_as r
+
+-- this holds of the plan in an ending
+abbrev pub IfPlan : (Program → Type 0) → Ended → Type 0
+IfPlan P (ended.Table plan) = P plan
+IfPlan P (ended.Explained plan) = P plan
+IfPlan P _ = Unit {0}
+
+-- and this of a plan that is explained
+abbrev pub IfExplained : (Program → Type 0) → Ended → Type 0
+IfExplained P (ended.Explained plan) = P plan
+IfExplained P _ = Unit {0}
 
 -- an ending after which nothing was written to the output
 abbrev pub IsQuiet : Ended → Type 0
-IsQuiet ended.Table = ⊥
+IsQuiet (ended.Table plan) = ⊥
 IsQuiet ended.PlainTable = ⊥
+IsQuiet (ended.Explained plan) = ⊥
 IsQuiet ended.Trial = ⊥
 IsQuiet ended.WriteFault = ⊥
 IsQuiet _ = Unit {0}

@@ -4,7 +4,7 @@ use Rattle.kql_outside.specs.Memory.{SinkState, room_left}
 use Rattle.kql_program.specs.Answer.{Answers}
 use Rattle.kql_program.specs.declared.ended.Ended.{Ended}
 use Rattle.kql_program.specs.declared.ended.Ended.TheVariants.{OutOfMemory}
-use Rattle.kql_program.specs.Endings.{ending_of}
+use Rattle.kql_program.specs.Endings.{IsEndingOf}
 use Rattle.kql_program.specs.Files.{Files}
 use Rattle.kql_program.specs.Lines.{line_of, memory_line}
 use Rattle.kql_program.specs.Outcomes.{SinkNow, sink_now}
@@ -38,7 +38,7 @@ pub record HaveRoomFor (words : List (List ℕ)) (files : Files) (out err : Sink
 pub record Answered (words : List (List ℕ)) (files : Files) (out out_new err err_new : SinkState) (e : Ended) : Type 0 where
   pub to : Answer (List ℕ)
   pub is : Answers words files to
-  pub ending : e ≡ ending_of words to
+  pub ending : IsEndingOf words to e
   pub output : out_new.bytes ≡ out.bytes ++ output_text to
   pub error : err_new.bytes ≡ err.bytes ++ error_text to
 

@@ -4,6 +4,7 @@ pub mod Files
 pub mod InMemory
 pub mod Lines
 pub mod Outcomes
+pub mod Plans
 pub mod Queries
 pub mod Refusals
 pub mod Stops

@@ -1,5 +1,8 @@
 -- What a call of the program leaves, at each ending.
-use Rattle.std.specs.Prelude.{◌≡◌, ◌⊎◌, ◌<◌, ℕ, List, length, Option, Some, None, IfSome, IsSome, Result, Ok, Err}
+use Rattle.std.specs.Prelude.{◌≡◌, ◌⊎◌, ◌<◌, ℕ, true, List, length, Option, Some, None, IfSome, IsSome, IsSomeAnd, Result, Ok, Err}
+use Rattle.kql_bound.specs.declared.plan.Program.{Program}
+use Rattle.kql_plan_text.specs.Plans.{plan_text}
+use Rattle.plan_push.specs.Settled.{settled}
 use Rattle.kql_outside.specs.Causes.{Rose}
 use Rattle.kql_outside.specs.Told.{IsCutShort, appended}
 use Rattle.kql_program.specs.declared.ended.Ended.{Ended}
@@ -15,18 +18,27 @@ use Rattle.kql_words.specs.declared.trial.Trial.{Trial}
 use Rattle.kql_program.specs.Answer.{Answers}
 use Rattle.kql_program.specs.Trials.{AnswersTrial}
 use Rattle.kql_words.specs.Command.{command_of}
-use Rattle.kql_program.specs.Endings.{IsQuiet, done_as, ending_of, refused_as}
+use Rattle.kql_program.specs.Endings.{EndsAs, EndsAsAsked, IfExplained, IfPlan, IsEndingOf, IsQuiet, refused_as}
 use Rattle.kql_program.specs.Files.{Files}
 use Rattle.kql_program.specs.Lines.{line_of, memory_line, read_fault_line}
+use Rattle.kql_program.specs.Plans.{IsPlanAsked}
 use Rattle.kql_program.specs.Refusals.{Finds}
+use Rattle.kql_program.specs.declared.bound.Done.{Done}
 use Rattle.kql_words.specs.Refusals.{Answer}
 
--- This may be the answer where no files are told: a word is refused exactly where it is the first fault of the words, and a trial, which
--- reads no file, is answered.
+-- a text is that of a plan in which no rule fires
+pub record IsPlanText (text : List ℕ) : Type 0 where
+  pub plan : Program
+  pub is_settled : settled plan ≡ true
+  pub is : text ≡ plan_text plan
+
+-- This may be the answer where no files are told: a word is refused exactly where it is the first fault of the words, a trial, which
+-- reads no file, is answered, and what is explained is a plan.
 pub record IsUntold (words : List (List ℕ)) (a : Answer (List ℕ)) : Type 0 where
   pub first : (r : Refusal) → command_of words ≡ Err r → a ≡ Err r
   pub no_other : (word code : ℕ) → a ≡ Err (refusal.Usage word code) → command_of words ≡ Err (refusal.Usage word code)
   pub trial : (t : Trial) → command_of words ≡ Ok (command.Trial t) → AnswersTrial t a
+  pub explained : (asked : Asked) (text : List ℕ) → command_of words ≡ Ok (command.Explain asked) → a ≡ Ok text → IsPlanText text
 
 -- what an answer is
 abbrev pub OfAnswers : Type 1
@@ -45,6 +57,7 @@ RefusesNoWord result = (word code : ℕ) → result ≡ Err (stop.Refused (refus
 abbrev pub asked_in : Answer Command → Option Asked
 asked_in (Ok (command.Run asked)) = Some asked
 asked_in (Ok (command.Plain asked)) = Some asked
+asked_in (Ok (command.Explain asked)) = Some asked
 asked_in (Ok (command.Trial trial)) = None
 asked_in (Err refusal) = None
 
@@ -56,11 +69,29 @@ ReadsFor c = IsSome (asked_in (Ok c))
 abbrev pub TriesFor : Command → Result (List ℕ) Stop → Type 0
 TriesFor (command.Run asked) result = Unit {0}
 TriesFor (command.Plain asked) result = Unit {0}
+TriesFor (command.Explain asked) result = Unit {0}
 TriesFor (command.Trial trial) result = Finds (AnswersTrial trial) result
 
 -- the words have no fault, and their command reads files
 abbrev pub ReadsFiles : List (List ℕ) → Type 0
 ReadsFiles words = IsSome (asked_in (command_of words))
+
+-- This is a plan of the query's program, where files are told; else it is one in which no rule fires.
+abbrev pub IsPlanFor : List (List ℕ) → Option Files → Answer Command → Program → Type 0
+IsPlanFor words None c plan = settled plan ≡ true
+IsPlanFor words (Some files) c plan = IsSomeAnd (asked_in c) (λ asked. IsPlanAsked words files asked plan)
+
+-- the text in a call's result
+abbrev pub text_in : Result Done Stop → Result (List ℕ) Stop
+text_in (Ok done) = Ok done.text
+text_in (Err stop) = Err stop
+
+-- A text and the ending after it, as a command makes them: the ending is that of the command, the plan in it is one of the query's program,
+-- and where it is explained, this is its text.
+pub record IsDone (words : List (List ℕ)) (files : Option Files) (c : Command) (text : List ℕ) (e : Ended) : Type 0 where
+  pub ends : EndsAs c e
+  pub plan : IfPlan (IsPlanFor words files (Ok c)) e
+  pub explained : IfExplained (λ plan. text ≡ plan_text plan) e
 
 -- a sink at one moment: what it holds and how much more it takes, where that is told, and its count of faults
 pub record SinkNow : Type 0 where
@@ -103,7 +134,7 @@ pub record IsRefused (Is : OfAnswers) (before now : Outside) (r : Refusal) : Typ
 pub record IsText (words : List (List ℕ)) (Is : OfAnswers) (before now : Outside) (e : Ended) : Type 0 where
   pub text : List ℕ
   pub is : Is (Ok text)
-  pub done : done_as (command_of words) ≡ e
+  pub done : EndsAsAsked (command_of words) e
   pub whole : Adds before.out now.out text
   pub quiet : IsSame before.err now.err
 
@@ -144,8 +175,9 @@ pub record IsCutLine (words : List (List ℕ)) (Is : OfAnswers) (before now : Ou
 
 -- what each ending says of the answer and of the outside
 abbrev pub Ends : List (List ℕ) → OfAnswers → Outside → Outside → Ended → Type 0
-Ends words Is before now ended.Table = IsText words Is before now ended.Table
+Ends words Is before now (ended.Table plan) = IsText words Is before now (ended.Table plan)
 Ends words Is before now ended.PlainTable = IsText words Is before now ended.PlainTable
+Ends words Is before now (ended.Explained plan) = IsText words Is before now (ended.Explained plan)
 Ends words Is before now ended.Trial = IsText words Is before now ended.Trial
 Ends words Is before now (ended.QueryRefused code place) = IsRefused Is before now (refusal.Query code place)
 Ends words Is before now (ended.Usage word code) = IsRefused Is before now (refusal.Usage word code)
@@ -181,11 +213,15 @@ pub record IsFaultless (before now : Outside) : Type 0 where
 pub record EndsAsAnswered (words : List (List ℕ)) (files : Files) (e : Ended) : Type 0 where
   pub to : Answer (List ℕ)
   pub is : Answers words files to
-  pub ending : e ≡ ending_of words to
+  pub ending : IsEndingOf words to e
 
 -- The outcome of a call: what its ending says of the answer and of what was written, and what follows from it.
 pub record HasOutcome (words : List (List ℕ)) (files : Option Files) (before now : Outside) (e : Ended) : Type 0 where
   pub ends : Ends words (IsAnswer words files) before now e
+  -- the plan in the ending is one of the program that the query is bound to
+  pub plan : IfPlan (IsPlanFor words files (command_of words)) e
+  -- and where it is explained, its text was written
+  pub explained : IfExplained (λ plan. Adds before.out now.out (plan_text plan)) e
   -- a read or write fault is answered only where the count of an object that was handed in rose in this call
   pub read : e ≡ ended.ReadFault → Rose before.shelf_faults now.shelf_faults
   -- and a read fault only of a command that reads files, whose words have no fault

@@ -17,6 +17,7 @@ use Rattle.kql_words.specs.declared.command.Asked.{Asked}
 use Rattle.kql_program.specs.Files.{Files, file_tokens, tables_from}
 use Rattle.kql_words.specs.Refusals.{Answer, ◌>>=◌}
 use Rattle.kql_program.specs.Syntax.{IsVerdict, Verdict}
+use Rattle.kql_program.specs.declared.bound.BoundQuery.{BoundQuery}
 use Rattle.kql_words.specs.declared.refusal.Refusal.TheVariants.{Query as Refused}
 
 -- where the text of a query starts
@@ -33,27 +34,47 @@ bound_as (Err bind.OutOfMemory) = Err (Refused 0 start_place)
 unfoldable pub program_of : Query → Option ℤ → List Named → Answer Program
 program_of query moment tables = bound_as (bound query (schemas_of tables) moment)
 
--- The rows of a query over tables, at a moment: those that its program means. What is bound fits the schemas of these tables, so that it has
--- rows.
-unfoldable pub rows_over : Query → Option ℤ → List Named → Answer Grid
-rows_over query moment tables = do
+-- a program over tables
+abbrev pub over : Program → List Named → BoundQuery
+over program tables = record { program = program; catalogue = tables }
+
+-- a query bound to tables, at a moment: its program over them
+unfoldable pub bound_over : Query → Option ℤ → List Named → Answer BoundQuery
+bound_over query moment tables = do
   program ← program_of query moment tables
-  Ok (means program tables)
+  Ok (over program tables)
 
--- the rows of a query, at a moment, over tables that may be refused
-unfoldable pub rows_with : Answer (List Named) → Option ℤ → Query → Answer Grid
-rows_with tables moment query = tables >>= λ ts. rows_over query moment ts
+-- a query bound, at a moment, to tables that may be refused
+unfoldable pub bound_with : Answer (List Named) → Option ℤ → Query → Answer BoundQuery
+bound_with tables moment query = tables >>= λ ts. bound_over query moment ts
 
--- the rows of a query, where its syntax has this verdict: its tokens, its syntax, the tables, and then the rows, one after another
-unfoldable pub query_rows : Answer (List Token) → Answer (List Named) → Option ℤ → Verdict → Answer Grid
-query_rows tokens tables moment verdict = tokens >>= λ read. verdict >>= λ query. rows_with tables moment query
+-- a query bound, where its syntax has this verdict: its tokens, its syntax, the tables, and then binding, one after another
+unfoldable pub query_bound : Answer (List Token) → Answer (List Named) → Option ℤ → Verdict → Answer BoundQuery
+query_bound tokens tables moment verdict = tokens >>= λ read. verdict >>= λ query. bound_with tables moment query
 
--- these are the rows of the query that tokens are, over tables and at a moment, or the first refusal: they follow from the verdict on
--- the tokens
-pub record AreRows (tokens : Answer (List Token)) (tables : Answer (List Named)) (moment : Option ℤ) (a : Answer Grid) : Type 0 where
+-- this is the query that tokens are, bound to tables and at a moment, or the first refusal: it follows from the verdict on the tokens
+pub record IsBound (tokens : Answer (List Token)) (tables : Answer (List Named)) (moment : Option ℤ) (a : Answer BoundQuery) : Type 0 where
   pub verdict : Verdict
   pub judged : IfOk tokens (λ read. IsVerdict read verdict)
-  pub is : a ≡ query_rows tokens tables moment verdict
+  pub is : a ≡ query_bound tokens tables moment verdict
+
+-- this is the query of a command, bound, or the first refusal
+abbrev pub IsBoundAsked : List (List ℕ) → Files → Asked → Answer BoundQuery → Type 0
+IsBoundAsked words files asked a = IsBound (file_tokens files (query_path words asked)) (tables_from files 1 0 (table_words words asked)) asked.moment a
+
+-- The rows of a query that is bound: those that its program means. What is bound fits the schemas of its tables, so that it has rows.
+abbrev pub rows_of : Answer BoundQuery → Answer Grid
+rows_of bound = bound >>= λ b. Ok (means b.program b.catalogue)
+
+-- the rows of a query over tables, at a moment
+unfoldable pub rows_over : Query → Option ℤ → List Named → Answer Grid
+rows_over query moment tables = rows_of (bound_over query moment tables)
+
+-- these are the rows of the query that tokens are, over tables and at a moment, or the first refusal
+pub record AreRows (tokens : Answer (List Token)) (tables : Answer (List Named)) (moment : Option ℤ) (a : Answer Grid) : Type 0 where
+  pub bound : Answer BoundQuery
+  pub is_bound : IsBound tokens tables moment bound
+  pub is : a ≡ rows_of bound
 
 -- these are the rows that a query's command asks for, or the first refusal
 abbrev pub AreRowsAsked : List (List ℕ) → Files → Asked → Answer Grid → Type 0

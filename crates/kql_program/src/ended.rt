@@ -1,16 +1,24 @@
 ghost use Rattle.std.specs.Prelude.{◌≡◌};
-ghost use Rattle.kql_program.specs.Endings.{done_of, refused_as, status_of};
+ghost use Rattle.kql_program.specs.Endings.{refused_as, status_of};
 
+use kql_bound::Program;
+use kql_items::Boxed;
 use kql_lexer::Place;
-use kql_words::{Command, Refusal};
+use kql_words::Refusal;
 
 /// How a call of `kql` ended.
-#[derive(Clone, Copy, Debug, PartialEq, Eq)]
+#[derive(Debug, Drop)]
 pub enum Ended {
-    /// The table's text was written, as `run` asks.
-    Table,
+    /// The table's text was written, as `run` asks. The query was answered by this plan.
+    Table {
+        plan: Boxed<Program>,
+    },
     /// The table's text was written, as `plain` asks.
     PlainTable,
+    /// The text of this plan of the query was written, as `explain` asks.
+    Explained {
+        plan: Boxed<Program>,
+    },
     /// The lines of the stored queries were written, as `trial` asks.
     Trial,
     /// The query is refused at a place of its text.
@@ -36,17 +44,6 @@ pub enum Ended {
     WriteFault,
     /// There was no memory.
     OutOfMemory,
-}
-
-/// The ending after the text that a command asks for was written.
-pub(crate) fn done_of(command: Command) -> Ended
-    ensures { result ≡ done_of command }
-{
-    match command {
-        Command::Run(_) => Ended::Table,
-        Command::Plain(_) => Ended::PlainTable,
-        Command::Trial(_) => Ended::Trial,
-    }
 }
 
 /// The ending of a refusal.
@@ -76,8 +73,9 @@ pub fn status(ended: &Ended) -> u8
     ensures status { result ≡ status_of ended.now }
 {
     match ended {
-        Ended::Table => 0,
+        Ended::Table { .. } => 0,
         Ended::PlainTable => 0,
+        Ended::Explained { .. } => 0,
         Ended::Trial => 0,
         Ended::QueryRefused { .. } => 1,
         Ended::Usage { .. } => 2,

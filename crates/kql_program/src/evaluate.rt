@@ -1,14 +1,19 @@
-//! The rows of a query over tables.
-ghost use Rattle.std.specs.Prelude.{◌≡◌, All, IfOk, IfSome, IsTrue, true};
-ghost use Rattle.kql_cells.specs.Catalogues.{schemas_of};
+//! Queries over tables: what they are bound to, plans, and rows.
+ghost use Rattle.std.specs.Prelude.{◌≡◌, ◌∷◌, All, IfOk, IfSome, IsSome, IsTrue, true};
+ghost use Rattle.kql_cells.specs.Catalogues.{Named as Seen, schemas_of};
 ghost use Rattle.kql_cells.specs.Values.{IsMoment};
 ghost use Rattle.kql_cells.specs.declared.schemas.NamedSchema.{NamedSchema};
-ghost use Rattle.kql_meaning.specs.Fits.{fits};
+ghost use Rattle.kql_fit_laws.specs.LawsOfRows.{IsTable};
+ghost use Rattle.kql_meaning.specs.Fits.{fits, program_columns};
+ghost use Rattle.kql_meaning.specs.Plans.{means};
 ghost use Rattle.kql_parser_laws.specs.Patterns.{has_patterns};
+ghost use Rattle.kql_values.specs.Kept.{all_named};
 ghost use Rattle.bind_query_laws.specs.Sound.{AreColumns};
-ghost use Rattle.kql_program.specs.Queries.{program_of, rows_over};
+ghost use Rattle.kql_program.specs.Plans.{IsPlanOf};
+ghost use Rattle.kql_program.specs.Queries.{bound_over, program_of, rows_over};
 ghost use Rattle.kql_program.specs.Refusals.{Gives};
 
+use crate::bound::BoundQuery;
 use crate::refusal::Stop;
 use bind_query::bind;
 use bind_query_laws::law_of_binding_queries;
@@ -17,11 +22,29 @@ use kql_cells::NamedSchema;
 use kql_items::Boxed;
 use kql_plain::plain;
 use kql_syntax::Query;
-use kql_values::{Catalogue, Table};
-use std::alloc::Global;
+use kql_values::{Catalogue, Named, Table};
+use plan_push::settle;
+use std::alloc::{AllocError, Global};
+
+/// A query bound to the tables of a catalogue, at a moment.
+#[tactic(auto, unfolding(crate::specs::Queries::bound_over))]
+pub(crate) fn bound_over(
+    alloc: Global,
+    query: &Query,
+    moment: Option<i64>,
+    catalogue: Catalogue,
+) -> Result<BoundQuery, Stop>
+    requires moment { IfSome moment IsMoment }
+    requires patterns { has_patterns query.now ≡ true }
+    ensures bound { Gives (bound_over query.now moment catalogue) result }
+    ensures fits { IfOk result (λ b. IsTrue (fits b.program (schemas_of b.catalogue))) }
+{
+    let program = program_of(alloc, query, moment, &catalogue)?;
+    Ok(BoundQuery { program, catalogue })
+}
 
 /// The rows of a query over the tables of a catalogue, at a moment.
-#[tactic(auto, unfolding(crate::specs::Queries::rows_over))]
+#[tactic(auto, unfolding(crate::specs::Queries::rows_over, crate::specs::Queries::bound_over))]
 pub(crate) fn rows_over(
     alloc: Global,
     query: &Query,
@@ -33,8 +56,46 @@ pub(crate) fn rows_over(
     ensures rows { Gives (rows_over query.now moment catalogue.now) result }
 {
     let program = program_of(alloc, query, moment, catalogue)?;
-    let rows = plain(alloc, program.get(), catalogue)?;
+    let (rows, _plan) = planned_rows(alloc, program.get(), catalogue)?;
     Ok(rows)
+}
+
+/// The plan of a program: what it is settled to.
+#[tactic(auto, using(crate::proofs::PlanFacts::plan_facts))]
+pub(crate) fn plan_of(alloc: Global, program: &Program) -> Result<Boxed<Program>, AllocError>
+    requires fits { IsSome (program_columns program.now) }
+    ensures plan { IfOk result (IsPlanOf program.now) }
+{
+    let plan = settle(alloc, program)?;
+    Boxed::new(alloc, plan)
+}
+
+/// The rows of a program over the tables that it fits, and the plan that they were answered by.
+#[tactic(auto, using(crate::proofs::PlanFacts::plan_facts))]
+pub(crate) fn planned_rows(
+    alloc: Global,
+    program: &Program,
+    catalogue: &Catalogue,
+) -> Result<(Table, Boxed<Program>), AllocError>
+    requires fits { IsTrue (fits program.now (schemas_of catalogue.now)) }
+    ensures rows { IfOk result (λ made. made.0 ≡ means program.now catalogue.now) }
+    ensures plan { IfOk result (λ made. IsPlanOf program.now made.1) }
+{
+    know_tables(catalogue.tables());
+    let plan = plan_of(alloc, program)?;
+    let rows = plain(alloc, plan.get(), catalogue)?;
+    Ok((rows, plan))
+}
+
+// Each table's rows fit its columns, and no two of these have one name: so tables are made.
+fn know_tables(tables: &[Named])
+    ensures tables { All (λ (n : Seen). IsTable n.table) (all_named tables.now) }
+{
+    let mut left = tables;
+    'tables: while let Some((named, more)) = left.split_first() {
+        named.table.schema().columns();
+        left = more;
+    }
 }
 
 // No two columns of a schema have one name, as each schema tells of its own.

@@ -1,6 +1,7 @@
 //! The top call: words and files in, the text of a table or one refusal out.
 #![tactic(auto)]
 
+mod bound;
 mod ended;
 mod evaluate;
 mod files;

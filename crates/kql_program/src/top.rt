@@ -5,7 +5,8 @@ ghost use Rattle.kql_words.specs.Command.{AreTables, IfAsks, command_of, texts};
 ghost use Rattle.kql_program.specs.Outcomes.{HasOutcome, SinkNow, Writes, WritesStop, outside, sink_now};
 ghost use Rattle.kql_program.specs.declared.refusal.Stop.TheVariants as stop;
 
-use crate::ended::{Ended, done_of, ending_of};
+use crate::bound::Done;
+use crate::ended::{Ended, ending_of};
 use crate::lines::line_of;
 use crate::refusal::Stop;
 use crate::steps::command_text;
@@ -21,10 +22,14 @@ const MEMORY_LINE: &str = "kql: out of memory\n";
 /// Answers the words of a command: reads the query file and the table files from `shelf`, evaluates the query, and
 /// writes the text of its table to `out`, or one line for a refusal to `err`.
 ///
-/// The words, without the program's name, are `run` or `plain`, then `--workers N` and `--now T` in any order, each at most once, then QUERY,
+/// The words, without the program's name, are `run`, `plain` or `explain`, then `--workers N` and `--now T` in any order, each at most once, then QUERY,
 /// the path of the query file, and then up to 64 words NAME=PATH. N is 1 to 64 in digits, and T the datetime that `now()` stands for. Or they
 /// are `trial`, ROWS, up to 1,000,000, SEED, up to 18,446,744,073,709,551,615, and then `--workers N` or nothing: the stored queries are
 /// answered over a log of so many rows that the seed makes up, a line for each.
+///
+/// `run` answers by a plan, which is the query's program settled: no rule of the rewriter fires anywhere in it. `plain` answers operator by operator,
+/// as the query is written, and `explain` writes the text of the plan in place of a table; it reads the table files all the same, whose columns decide
+/// what the plan is.
 ///
 /// The text is made whole before its first byte is written. No result depends on the runtime, on N or on `gate`: no worker is started
 /// yet, and no gate entered.
@@ -72,7 +77,7 @@ fn answer_command<F: Shelf, O: Sink, E: Sink>(
         HasOutcome (texts words.now) (F.files shelf.old) (outside (F.faults shelf.old) (out_at out.old) (err_at err.old)) (outside (F.faults shelf.new) (out_at out.new) (err_at err.new)) result }
 {
     match command_text(alloc, words, command, shelf) {
-        Ok(text) => write_ending(out, text.as_slice(), done_of(command)),
+        Ok(Done { text, ended }) => write_ending(out, text.as_slice(), ended),
         Err(stop) => write_stop(alloc, err, stop),
     }
 }

@@ -103,3 +103,23 @@ pub(crate) fn other_by_plain(
     }
     Ok(Some(plain))
 }
+
+/// What `explain` answers a query, where it is refused and `run` is not, or where it is refused otherwise or not at all. A seat with words of its
+/// own names its command.
+pub(crate) fn other_by_explain(
+    rt: &(impl Threads + Sync),
+    alloc: Global,
+    seat: &Seat,
+    asked: &str,
+    found: &str,
+) -> Result<Option<String>, AllocError> {
+    if !seat.words.is_empty() || asked.starts_with("$ ") {
+        return Ok(None);
+    }
+    let plan = answer(rt, alloc, seat, "explain", asked)?;
+    let refused = found.starts_with("! ");
+    if plan.as_str() == found || !refused && !plan.as_str().starts_with("! ") {
+        return Ok(None);
+    }
+    Ok(Some(plan))
+}

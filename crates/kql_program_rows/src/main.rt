@@ -3,7 +3,8 @@
 //! A line of the input that begins with `#` is a heading, which tells what the lines under it show and forgets the tables so far. A line
 //! `NAME=TEXT` gives the table NAME its text of CSV, and a line `> WORDS` the words in front of the query's, which are `run` where there is no such
 //! line. Every other line is a row: a query, a tab, and the text that it is answered, or `! ` and the line of its refusal; where there is no `> `, `plain` must
-//! answer the same. `⏎` stands for the end of
+//! answer the same, and `explain` must be refused alike or not at all. What stands behind a second tab is a row of its own: the text that `explain` prints of the
+//! query. `⏎` stands for the end of
 //! a line, and none stands at the end of a text. A row that begins with `$ ` has all words of the command in place of a query, where the file `q` has
 //! the query `print 1`. The rows are written by hand from the reference of the language. The output tells the rows that are
 //! answered otherwise, and how many there are.
@@ -12,7 +13,7 @@
 mod answers;
 mod seat;
 
-use crate::answers::{answer, other_by_plain};
+use crate::answers::{answer, other_by_explain, other_by_plain};
 use crate::seat::Seat;
 use std::io;
 use std::process::ExitCode;
@@ -46,6 +47,50 @@ fn counted(
     })
 }
 
+// Tells what a command answers otherwise than it should, and counts it.
+fn told(
+    rt: &HostRuntime,
+    counts: Counts,
+    asked: &str,
+    command: &str,
+    other: Option<String>,
+) -> io::Result<Counts> {
+    let Some(other) = other else {
+        return Ok(counts);
+    };
+    let other = other.as_str();
+    println!(rt; "{asked}: by {command} {other}")?;
+    Ok(Counts {
+        rows: counts.rows,
+        wrong: counts.wrong.saturating_add(1),
+    })
+}
+
+// Checks a row: a query, what it is answered, and the text of its plan where that is told.
+fn checked(
+    rt: &HostRuntime,
+    counts: Counts,
+    seat: &Seat,
+    asked: &str,
+    wanted: &str,
+) -> io::Result<Counts> {
+    let (wanted, plan) = match wanted.split_once('\t') {
+        Some((wanted, plan)) => (wanted, Some(plan)),
+        None => (wanted, None),
+    };
+    let found = answer(rt, rt.alloc(), seat, "run", asked)?;
+    let counts = counted(rt, counts, asked, found.as_str(), wanted)?;
+    let other = other_by_plain(rt, rt.alloc(), seat, asked, found.as_str())?;
+    let counts = told(rt, counts, asked, "plain", other)?;
+    let other = other_by_explain(rt, rt.alloc(), seat, asked, found.as_str())?;
+    let counts = told(rt, counts, asked, "explain", other)?;
+    let Some(plan) = plan else {
+        return Ok(counts);
+    };
+    let found = answer(rt, rt.alloc(), seat, "explain", asked)?;
+    counted(rt, counts, asked, found.as_str(), plan)
+}
+
 fn main(rt: HostRuntime) -> io::Result<ExitCode> {
     let mut seat = Seat::new(rt.alloc());
     let mut counts = Counts { rows: 0, wrong: 0 };
@@ -56,13 +101,7 @@ fn main(rt: HostRuntime) -> io::Result<ExitCode> {
         } else if let Some(words) = line.strip_prefix("> ") {
             seat.set_words(rt.alloc(), words)?;
         } else if let Some((asked, wanted)) = line.split_once('\t') {
-            let found = answer(&rt, rt.alloc(), &seat, "run", asked)?;
-            counts = counted(&rt, counts, asked, found.as_str(), wanted)?;
-            if let Some(plain) = other_by_plain(&rt, rt.alloc(), &seat, asked, found.as_str())? {
-                let plain = plain.as_str();
-                println!(rt; "{asked}: by plain {plain}")?;
-                counts.wrong = counts.wrong.saturating_add(1);
-            }
+            counts = checked(&rt, counts, &seat, asked, wanted)?;
         } else if let Some((name, text)) = line.split_once('=') {
             seat.add_table(rt.alloc(), name, text)?;
         } else {

@@ -8,6 +8,7 @@ use std::thread::Threads;
 /// What a call left.
 #[derive(Drop)]
 pub(crate) struct Left {
+    pub ended: &'static str,
     pub status: u8,
     pub out: String,
     pub err: String,
@@ -67,10 +68,36 @@ pub(crate) fn files(
     Ok(files)
 }
 
-fn left_in(status: u8, alloc: Global, out: &MemSink, err: &MemSink) -> Result<Left, AllocError> {
+// The name of an ending.
+pub(crate) fn name_of(ended: &Ended) -> &'static str {
+    match ended {
+        Ended::Table { .. } => "Table",
+        Ended::PlainTable => "PlainTable",
+        Ended::Explained { .. } => "Explained",
+        Ended::Trial => "Trial",
+        Ended::QueryRefused { .. } => "QueryRefused",
+        Ended::Usage { .. } => "Usage",
+        Ended::DataRefused { .. } => "DataRefused",
+        Ended::ReadFault => "ReadFault",
+        Ended::WriteFault => "WriteFault",
+        Ended::OutOfMemory => "OutOfMemory",
+    }
+}
+
+fn left_in(
+    ended: &Ended,
+    alloc: Global,
+    out: &MemSink,
+    err: &MemSink,
+) -> Result<Left, AllocError> {
     let out = shown(alloc, out.bytes())?;
     let err = shown(alloc, err.bytes())?;
-    Ok(Left { status, out, err })
+    Ok(Left {
+        ended: name_of(ended),
+        status: status(ended),
+        out,
+        err,
+    })
 }
 
 // Calls `kql` over these files and sinks.
@@ -81,10 +108,11 @@ fn call_over(
     shelf: &mut MemShelf,
     out: &mut MemSink,
     err: &mut MemSink,
-) -> Result<(Left, Ended), AllocError> {
+) -> Result<Left, AllocError> {
     let ended = kql(rt, alloc, words, shelf, out, err, &OpenGate);
-    let left = left_in(status(&ended), alloc, out, err)?;
-    Ok((left, ended))
+    let left = left_in(&ended, alloc, out, err);
+    drop(ended);
+    left
 }
 
 // Calls `kql` with the words of a command, a file `q` of the query and files `t` and `u` of tables.
@@ -95,7 +123,7 @@ fn call_on_bytes(
     query: &str,
     table: &[u8],
     faults: Faults,
-) -> Result<(Left, Ended), AllocError> {
+) -> Result<Left, AllocError> {
     let words = words_of(alloc, command)?;
     let Faults {
         shelf,
@@ -116,7 +144,7 @@ pub(crate) fn call(
     query: &str,
     table: &str,
     faults: Faults,
-) -> Result<(Left, Ended), AllocError> {
+) -> Result<Left, AllocError> {
     call_on_bytes(rt, alloc, command, query, table.as_bytes(), faults)
 }
 
@@ -142,7 +170,7 @@ pub(crate) fn left_by_bytes(
     query: &str,
     table: &[u8],
 ) -> Result<String, AllocError> {
-    let (left, _ended) = call_on_bytes(rt, alloc, command, query, table, no_faults(alloc))?;
+    let left = call_on_bytes(rt, alloc, command, query, table, no_faults(alloc))?;
     as_text(alloc, &left)
 }
 

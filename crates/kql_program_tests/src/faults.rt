@@ -1,7 +1,7 @@
 //! Calls of the outside that fail, and files and sinks in memory.
-use crate::calls::{NUMBERS, QUERY, call, files, no_faults, words_of};
+use crate::calls::{NUMBERS, QUERY, call, files, name_of, no_faults, words_of};
 use kql_outside::{CleanShelf, CleanSink, OpenGate};
-use kql_program::{Ended, kql_in_memory};
+use kql_program::kql_in_memory;
 use std::alloc::{AllocError, Global};
 use std::process::Abort;
 use std::test::Fail;
@@ -17,11 +17,14 @@ fn answers_in_memory(rt: HostRuntime) -> Result<(), Fail> {
     let ended = kql_in_memory(
         &rt, alloc, &words, &mut shelf, &mut out, &mut err, &OpenGate,
     );
-    assert_eq!(rt; ended, Ended::Table);
+    assert_eq!(rt; name_of(&ended), "Table");
     assert_eq!(rt; out.bytes(), b"x\n5\n5\n".as_slice());
     assert_eq!(rt; err.bytes().len(), 0);
     Ok(())
 }
+
+// The plan of the first query.
+const PLAN: &str = "T\n| where ==(x,5)\n";
 
 const FOUR: &str = "print a=-14 % 12, b=14 % -12, c=bin(-1, 5), d=1/0";
 
@@ -31,15 +34,15 @@ fn meets_faults_of_a_print(rt: HostRuntime) -> Result<(), Fail> {
     let alloc = rt.alloc();
     let mut faults = no_faults(alloc);
     faults.shelf.push(1)?;
-    let (left, ended) = call(&rt, alloc, "run q", FOUR, "", faults)?;
-    assert_eq!(rt; ended, Ended::ReadFault);
+    let left = call(&rt, alloc, "run q", FOUR, "", faults)?;
+    assert_eq!(rt; left.ended, "ReadFault");
     assert_eq!(rt; left.out.as_str(), "");
     assert_eq!(rt; left.err.as_str(), "kql: read fault\n");
     let mut faults = no_faults(alloc);
     faults.out.push(1)?;
     faults.chunk = 10;
-    let (left, ended) = call(&rt, alloc, "run q", FOUR, "", faults)?;
-    assert_eq!(rt; ended, Ended::WriteFault);
+    let left = call(&rt, alloc, "run q", FOUR, "", faults)?;
+    assert_eq!(rt; left.ended, "WriteFault");
     assert_eq!(rt; left.out.as_str(), "a,b,c,d\n10");
     Ok(())
 }
@@ -50,12 +53,15 @@ fn ends_as_the_command(rt: HostRuntime) -> Result<(), Fail> {
     let alloc = rt.alloc();
     let mut faults = no_faults(alloc);
     faults.shelf.push(0)?;
-    let (left, ended) = call(&rt, alloc, "trial 1 0", "", "", faults)?;
-    assert_eq!(rt; ended, Ended::Trial);
+    let left = call(&rt, alloc, "trial 1 0", "", "", faults)?;
+    assert_eq!(rt; left.ended, "Trial");
     assert_eq!(rt; left.status, 0);
-    let (left, ended) = call(&rt, alloc, "plain q T=t", QUERY, NUMBERS, no_faults(alloc))?;
-    assert_eq!(rt; ended, Ended::PlainTable);
+    let left = call(&rt, alloc, "plain q T=t", QUERY, NUMBERS, no_faults(alloc))?;
+    assert_eq!(rt; left.ended, "PlainTable");
     assert_eq!(rt; left.out.as_str(), "x\n5\n5\n");
+    let left = call(&rt, alloc, "explain q T=t", QUERY, NUMBERS, no_faults(alloc))?;
+    assert_eq!(rt; left.ended, "Explained");
+    assert_eq!(rt; left.out.as_str(), PLAN);
     Ok(())
 }
 
@@ -70,7 +76,7 @@ fn fills_an_output(rt: HostRuntime) -> Result<(), Fail> {
     let ended = kql_in_memory(
         &rt, alloc, &words, &mut shelf, &mut out, &mut err, &OpenGate,
     );
-    assert_eq!(rt; ended, Ended::WriteFault);
+    assert_eq!(rt; name_of(&ended), "WriteFault");
     assert_eq!(rt; out.bytes(), b"a,b,".as_slice());
     assert_eq!(rt; err.bytes().len(), 0);
     Ok(())
@@ -84,8 +90,8 @@ fn faulty_read(
 ) -> Result<bool, AllocError> {
     let mut faults = no_faults(alloc);
     faults.shelf.push(k)?;
-    let (left, ended) = call(rt, alloc, "run q T=t", QUERY, NUMBERS, faults)?;
-    if ended == Ended::Table {
+    let left = call(rt, alloc, "run q T=t", QUERY, NUMBERS, faults)?;
+    if left.ended == "Table" {
         assert_eq!(rt; left.out.as_str(), "x\n5\n5\n");
         return Ok(false);
     }
@@ -103,8 +109,8 @@ fn faulty_write(
     let mut faults = no_faults(alloc);
     faults.out.push(k)?;
     faults.chunk = 1;
-    let (left, ended) = call(rt, alloc, "run q T=t", QUERY, NUMBERS, faults)?;
-    if ended == Ended::Table {
+    let left = call(rt, alloc, "run q T=t", QUERY, NUMBERS, faults)?;
+    if left.ended == "Table" {
         return Ok(false);
     }
     assert_eq!(rt; left.status, 5, "call {k}");
@@ -136,11 +142,52 @@ fn meets_faults(rt: HostRuntime) -> Result<(), Fail> {
     Ok(())
 }
 
+// `explain` with one failing call of the output, which takes a byte at a time; `false` where there was no fault.
+fn faulty_plan(
+    rt: &(impl Abort + Threads + Sync),
+    alloc: Global,
+    k: u64,
+) -> Result<bool, AllocError> {
+    let mut faults = no_faults(alloc);
+    faults.out.push(k)?;
+    faults.chunk = 1;
+    let left = call(rt, alloc, "explain q T=t", QUERY, NUMBERS, faults)?;
+    if left.ended == "Explained" {
+        assert_eq!(rt; left.out.as_str(), PLAN);
+        return Ok(false);
+    }
+    assert_eq!(rt; left.ended, "WriteFault", "call {k}");
+    assert_eq!(rt; left.out.len() as u64, k, "call {k}");
+    assert!(rt; PLAN.starts_with(left.out.as_str()), "call {k}");
+    assert_eq!(rt; left.err.as_str(), "", "call {k}");
+    Ok(true)
+}
+
+#[test]
+fn meets_faults_of_a_plan(rt: HostRuntime) -> Result<(), Fail> {
+    let alloc = rt.alloc();
+    let mut writes = 0u64;
+    for k in 0..100 {
+        if !faulty_plan(&rt, alloc, k)? {
+            break;
+        }
+        writes = k + 1;
+    }
+    assert_eq!(rt; writes, PLAN.len() as u64);
+    let mut faults = no_faults(alloc);
+    faults.shelf.push(2)?;
+    let left = call(&rt, alloc, "explain q T=t", QUERY, NUMBERS, faults)?;
+    assert_eq!(rt; left.ended, "ReadFault");
+    assert_eq!(rt; left.out.as_str(), "");
+    assert_eq!(rt; left.err.as_str(), "kql: read fault\n");
+    Ok(())
+}
+
 #[test]
 fn meets_a_fault_at_a_refusal(rt: HostRuntime) -> Result<(), Fail> {
     let mut faults = no_faults(rt.alloc());
     faults.err.push(0)?;
-    let (left, _ended) = call(&rt, rt.alloc(), "run", "", "", faults)?;
+    let left = call(&rt, rt.alloc(), "run", "", "", faults)?;
     assert_eq!(rt; left.status, 5);
     assert_eq!(rt; left.out.as_str(), "");
     assert_eq!(rt; left.err.as_str(), "");

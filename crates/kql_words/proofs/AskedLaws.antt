@@ -1,4 +1,4 @@
--- The words behind `run` and `plain`.
+-- The words behind `run`, `plain` and `explain`.
 use Rattle.std.proofs.Common.{◌≡◌, ◌+◌, ◌-◌, ◌∙◌, ℕ, Bool, true, false, List, [], ◌∷◌, ◌++◌, length, drop, take, refl, ap, sym, arith}
 use Rattle.std.specs.Prelude.{Ok, Err, String, string_bytes, nat_le, if◌then◌else◌}
 use Rattle.std.specs.List.{list_any}

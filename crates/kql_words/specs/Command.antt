@@ -1,4 +1,4 @@
--- The words of the command: `run` or `plain`, options, QUERY, and then NAME=PATH ..; or `trial` and its words.
+-- The words of the command: `run`, `plain` or `explain`, options, QUERY, and then NAME=PATH ..; or `trial` and its words.
 use Rattle.std.specs.Prelude.{◌≡◌, ℕ, ◌+◌, ◌==◌, ◌&&◌, not, nat_le, Bool, List, [], ◌∷◌, ◌++◌, String, string_bytes, Ok, Err, drop, length, map, slice_index_or, codes, if◌then◌else◌}
 use Rattle.std.specs.Global.{Global}
 use Rattle.std.specs.List.{after_first, before_first, list_any}
@@ -55,7 +55,7 @@ tables_faults number names (word ∷ words) = table_faults number names word ++ 
 abbrev pub AreTables : List (List ℕ) → Type 0
 AreTables words = tables_faults 0 [] words ≡ []
 
--- what the words behind `run` or `plain` ask for: options, QUERY, and words that name tables
+-- what the words behind `run`, `plain` or `explain` ask for: options, QUERY, and words that name tables
 unfoldable pub asked_of : List (List ℕ) → Answer Asked
 asked_of words = do
   asked ← asked_from 1 no_options words
@@ -68,6 +68,9 @@ run_as asked = asked >>= λ a. Ok (command.Run a)
 abbrev pub plain_as : Answer Asked → Answer Command
 plain_as asked = asked >>= λ a. Ok (command.Plain a)
 
+abbrev pub explain_as : Answer Asked → Answer Command
+explain_as asked = asked >>= λ a. Ok (command.Explain a)
+
 abbrev pub trial_as : Answer Trial → Answer Command
 trial_as trial = trial >>= λ t. Ok (command.Trial t)
 
@@ -77,6 +80,7 @@ command_of [] = Err (Usage 0 601)
 command_of (word ∷ words) =
     if bytes_eq word (codes "run") then run_as (asked_of words)
     else if bytes_eq word (codes "plain") then plain_as (asked_of words)
+    else if bytes_eq word (codes "explain") then explain_as (asked_of words)
     else if bytes_eq word (codes "trial") then trial_as (trial_of words)
     else Err (Usage 0 602)
 
@@ -84,6 +88,7 @@ command_of (word ∷ words) =
 abbrev pub IfAsks : (Asked → Type 0) → Command → Type 0
 IfAsks P (command.Run a) = P a
 IfAsks P (command.Plain a) = P a
+IfAsks P (command.Explain a) = P a
 IfAsks P (command.Trial t) = Unit {0}
 
 -- of the words of a query's command, the path of the query file, and the words that name tables

@@ -31,6 +31,8 @@ pub enum Command {
     Run(Asked),
     /// `plain`: the same, operator by operator on one thread.
     Plain(Asked),
+    /// `explain`: the plan by which `run` answers.
+    Explain(Asked),
     /// `trial`: the stored queries over a log that a seed makes up.
     Trial(Trial),
 }
@@ -50,6 +52,8 @@ pub fn read_command(words: &[String]) -> Result<Command, Refusal>
                 Ok(Command::Run(read_asked(rest)?))
             } else if command.as_str() == "plain" {
                 Ok(Command::Plain(read_asked(rest)?))
+            } else if command.as_str() == "explain" {
+                Ok(Command::Explain(read_asked(rest)?))
             } else if command.as_str() == "trial" {
                 Ok(Command::Trial(read_trial(rest)?))
             } else {
@@ -59,7 +63,7 @@ pub fn read_command(words: &[String]) -> Result<Command, Refusal>
     }
 }
 
-// What the words behind `run` or `plain` ask for.
+// What the words behind `run`, `plain` or `explain` ask for.
 #[tactic(auto, unfolding(crate::specs::Command::asked_of))]
 fn read_asked(words: &[String]) -> Result<Asked, Refusal>
     ensures read { result ≡ asked_of (texts words.now) }

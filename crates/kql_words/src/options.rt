@@ -32,7 +32,7 @@ pub(crate) struct Options {
     pub moment: Given<i64>,
 }
 
-/// What the words behind `run` or `plain` ask for, up to QUERY: the words in front of it are options.
+/// What the words behind `run`, `plain` or `explain` ask for, up to QUERY: the words in front of it are options.
 #[tactic(auto, unfolding(crate::specs::Options::asked_from))]
 pub(crate) fn read_options(words: &[String]) -> Result<Asked, Refusal>
     ensures read { result ≡ asked_from 1 no_options (texts words.now) }

@@ -5,7 +5,7 @@ use crate::topic::Topic;
 pub(crate) const OVERVIEW: &str = "\
 kql help TOPIC tells of one of these; kql --help has the words of the command.
 
-    commands     run, plain, trial
+    commands     run, plain, explain, trial
     a query      query, literals, let, range, print, union, columns; kusto has what
                  to write for what Kusto has and this language has not
     operators    where, extend, project, project-away, project-keep,

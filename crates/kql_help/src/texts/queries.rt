@@ -20,6 +20,20 @@ Takes the words of run and answers the same: it evaluates one operator after
 another on one thread.
 ";
 
+pub(crate) const EXPLAIN: &str = "\
+kql explain [--workers N] [--now T] QUERY NAME=PATH ..
+
+Takes the words of run and prints the plan by which run answers the query: the
+query's operators as they are evaluated, a line for each, behind a line for the
+source. A filter stands as far to the front as it may, neighbours that can be one
+operator are one, and what does nothing is gone. A call is written f(E,E), also
+that of an operator: where ==(Level,\"Error\"). The plan of a let, of a join's
+right table, of a union's tables and of a partition stands in brackets. The table
+files are read, since their columns decide what the plan is.
+
+    kql explain examples/errors.kql Requests=examples/requests.csv
+";
+
 pub(crate) const TRIAL: &str = "\
 kql trial ROWS SEED [--workers N]
 
@@ -211,6 +225,10 @@ pub(crate) const TOPICS: &[Topic] = &[
     Topic {
         names: &["plain"],
         text: PLAIN,
+    },
+    Topic {
+        names: &["explain"],
+        text: EXPLAIN,
     },
     Topic {
         names: &["trial"],

@@ -5,7 +5,7 @@ use Rattle.kql_program.proofs.top.answer_command.Goals as goal
 
 pub returns-in-Ok-clause-outcome : goal.returns-in-Ok-clause-outcome
 returns-in-Ok-clause-outcome g c =
-    outcome-text _ _ _ _ c.args.command _ _ c.requires.read c.in-Ok.ensures.text c.in-Ok.ensures.trial refl (rw (c.as_slice.ensures.items, c.done_of.ensures) at c.write_ending.ensures.written)
+    outcome-text _ _ _ _ c.args.command _ _ _ c.requires.read c.in-Ok.ensures.text c.in-Ok.ensures.trial c.in-Ok.ensures.done refl (rw c.as_slice.ensures.items at c.write_ending.ensures.written)
 
 pub returns-in-Err-clause-outcome : goal.returns-in-Err-clause-outcome
 returns-in-Err-clause-outcome g c =

@@ -2,17 +2,17 @@ use Rattle.std.proofs.Common.{◌∙◌, ap, refl}
 use Rattle.std.specs.Prelude.{string_bytes}
 use Rattle.kql_program.proofs.StepFacts.{asked-parsed, asked-tokens}
 use Rattle.kql_program.proofs.WordFacts.{raised-words, stopped-words}
-use Rattle.kql_program.proofs.steps.query_rows.Goals as goal
+use Rattle.kql_program.proofs.steps.query_bound.Goals as goal
 
-pub returns-in_err-tokens-clause-rows : goal.returns-in_err-tokens-clause-rows
-returns-in_err-tokens-clause-rows g c =
+pub returns-in_err-tokens-clause-bound : goal.returns-in_err-tokens-clause-bound
+returns-in_err-tokens-clause-bound g c =
     let path = c.as_str.ensures.value ∙ ap string_bytes c.index-words-asked.is in
     asked-tokens _ c.args.words.now c.args.asked _ c.as_str.result.now _ _ c.requires.within path c.in_err-tokens.ensures.tokens c.from_residual.ensures.1
 
-pub returns-clause-rows : goal.returns-clause-rows
-returns-clause-rows g c =
+pub returns-clause-bound : goal.returns-clause-bound
+returns-clause-bound g c =
     let path = c.as_str.ensures.value ∙ ap string_bytes c.index-words-asked.is in
-    asked-parsed _ _ c.args.words.now _ c.args.asked _ c.as_str.result.now _ _ c.requires.within path refl c.in_ok-tokens.ensures.tokens c.in_ok-tokens.ensures.files c.parsed_rows.ensures.rows
+    asked-parsed _ _ c.args.words.now _ c.args.asked _ c.as_str.result.now _ _ c.requires.within path refl c.in_ok-tokens.ensures.tokens c.in_ok-tokens.ensures.files c.parsed_bound.ensures.bound
 
 pub returns-in_err-tokens-clause-words : goal.returns-in_err-tokens-clause-words
 returns-in_err-tokens-clause-words g c = raised-words _ _ c.from_residual.ensures.1 (stopped-words _ c.in_err-tokens.ensures.words)

@@ -1,0 +1,16 @@
+use Rattle.kql_words.specs.Command.{texts}
+use Rattle.kql_program.proofs.StepFacts.{asked-bound, asked-stop}
+use Rattle.kql_program.proofs.WordFacts.{raised-words, bound-no_words, stopped-words}
+use Rattle.kql_program.proofs.steps.asked_bound.Goals as goal
+
+pub returns-in_err-catalogue-clause-bound : goal.returns-in_err-catalogue-clause-bound
+returns-in_err-catalogue-clause-bound g c = asked-stop _ c.args.query.now c.args.moment (texts c.args.words.now) _ _ c.in_err-catalogue.ensures.tables c.from_residual.ensures.1
+
+pub returns-clause-bound : goal.returns-clause-bound
+returns-clause-bound g c = asked-bound _ c.args.query.now c.args.moment (texts c.args.words.now) _ _ c.in_ok-catalogue.ensures.tables c.bound_over.ensures.bound
+
+pub returns-in_err-catalogue-clause-words : goal.returns-in_err-catalogue-clause-words
+returns-in_err-catalogue-clause-words g c = raised-words _ _ c.from_residual.ensures.1 (stopped-words _ c.in_err-catalogue.ensures.words)
+
+pub returns-clause-words : goal.returns-clause-words
+returns-clause-words g c = bound-no_words _ _ _ _ c.bound_over.ensures.bound

@@ -1,0 +1,16 @@
+use Rattle.kql_words.specs.Command.{texts}
+use Rattle.kql_program.proofs.TopFacts.{plain-done, text-ok, text-stop}
+use Rattle.kql_program.proofs.WordFacts.{raised-words, stopped-words}
+use Rattle.kql_program.proofs.steps.query_plain.Goals as goal
+
+pub returns-in_err-bound-clause-text : goal.returns-in_err-bound-clause-text
+returns-in_err-bound-clause-text g c = text-stop _ (texts c.args.words.now) c.args.asked _ _ c.in_err-bound.ensures.bound c.from_residual.ensures.1
+
+pub returns-clause-text : goal.returns-clause-text
+returns-clause-text g c = text-ok _ (texts c.args.words.now) c.args.asked _ _ c.in_ok-bound.ensures.bound c.in_ok-bound_plain.ensures.text
+
+pub returns-clause-done : goal.returns-clause-done
+returns-clause-done g c = plain-done _ (texts c.args.words.now) c.args.asked _ _ c.in_ok-bound_plain.ensures.ended
+
+pub returns-in_err-bound-clause-words : goal.returns-in_err-bound-clause-words
+returns-in_err-bound-clause-words g c = raised-words _ _ c.from_residual.ensures.1 (stopped-words _ c.in_err-bound.ensures.words)

@@ -1,0 +1,54 @@
+-- What `explain` asks for: the text of a plan of the query's program, or the first refusal, which is that of the answer.
+use Rattle.std.specs.Prelude.{◌≡◌, ℕ, true, List, Ok, Err}
+use Rattle.kql_bound.specs.declared.plan.Program.{Program}
+use Rattle.kql_plan_text.specs.Plans.{plan_text}
+use Rattle.kql_words.specs.Refusals.{Answer}
+use Rattle.kql_words.specs.declared.command.Asked.{Asked}
+use Rattle.plan_push.specs.Settled.{settled}
+use Rattle.plan_rules.specs.Becomes.{ProgramBecomes}
+use Rattle.plan_rules.specs.Improves.{IsNoLonger}
+use Rattle.kql_program.specs.Files.{Files}
+use Rattle.kql_program.specs.Queries.{IsBoundAsked}
+use Rattle.kql_program.specs.declared.bound.BoundQuery.{BoundQuery}
+use Rattle.kql_program.specs.declared.ended.Ended.{Ended}
+use Rattle.kql_program.specs.declared.ended.Ended.TheVariants as ended
+
+-- A plan of a program: no rule fires anywhere in it, it is no longer than the program, and it fits what that fits and means the same over every
+-- catalogue of tables that it fits.
+pub record IsPlanOf (program plan : Program) : Type 0 where
+  pub is_settled : settled plan ≡ true
+  pub no_longer : IsNoLonger plan program
+  pub same : ProgramBecomes program plan
+
+-- this is the text of a plan of the query that is bound, or its refusal
+abbrev pub Explains : Answer BoundQuery → Answer (List ℕ) → Type 0
+Explains (Err refusal) a = a ≡ Err refusal
+Explains (Ok b) a = (plan : Program) × IsPlanOf b.program plan × (a ≡ Ok (plan_text plan))
+
+-- this is the text that `explain` asks for, or the first refusal
+pub record AnswersExplain (words : List (List ℕ)) (files : Files) (asked : Asked) (a : Answer (List ℕ)) : Type 0 where
+  pub bound : Answer BoundQuery
+  pub is_bound : IsBoundAsked words files asked bound
+  pub is : Explains bound a
+
+-- this is a plan of the program that the query of a command is bound to
+pub record IsPlanAsked (words : List (List ℕ)) (files : Files) (asked : Asked) (plan : Program) : Type 0 where
+  pub bound : BoundQuery
+  pub is_bound : IsBoundAsked words files asked (Ok bound)
+  pub is : IsPlanOf bound.program plan
+
+-- two texts of plans of one program
+pub record ExplainOne (s t : List ℕ) : Type 0 where
+  pub bound : BoundQuery
+  pub first : Explains (Ok bound) (Ok s)
+  pub second : Explains (Ok bound) (Ok t)
+
+-- the ending after `run` wrote a table: by a plan of the program
+abbrev pub IsRunBy : Program → Ended → Type 0
+IsRunBy program (ended.Table plan) = IsPlanOf program plan
+IsRunBy program _ = ⊥
+
+-- the ending after `explain` wrote a text: that of a plan of the program
+abbrev pub IsExplainedBy : Program → List ℕ → Ended → Type 0
+IsExplainedBy program text (ended.Explained plan) = IsPlanOf program plan × (text ≡ plan_text plan)
+IsExplainedBy program text _ = ⊥
