@@ -20,6 +20,7 @@ use Rattle.kql_program.specs.Lines.{line_of, memory_line}
 use Rattle.kql_program.specs.Outcomes.{Adds, Ends, EndsAsAnswered, FailsToRead, IsDone, IsErrorLine, HasOutcome, IsAnswer, IsFaultless, IsLineOf, IsPlanFor, IsPlanText, IsSame, IsText, IsUnfinished, OfAnswers, Outside, ReadsFiles, ReadsFor, RefusesNoWord, SinkNow, TriesFor, Writes, WritesStop, asked_in}
 use Rattle.kql_program.specs.Refusals.{Finds, Reaches}
 use Rattle.kql_program.specs.Trials.{AnswersTrial}
+use Rattle.kql_program.specs.declared.bound.Done.{Done}
 use Rattle.kql_program.specs.declared.ended.Ended.{Ended}
 use Rattle.kql_program.specs.declared.ended.Ended.TheVariants as ended
 use Rattle.kql_program.specs.declared.refusal.Stop.{Stop}
@@ -227,7 +228,7 @@ stop-ends words Is b n stop.OutOfMemory e i same w = memory-ends words Is b n w.
 
 -- a refusal is the answer
 answer-refused : (words : List (List ℕ)) (files : Option Files) (c : Command) (r : Refusal) → Ok c ≡ command_of words → IfSome files (λ told. Reaches (AnswersCommand words told (Ok c)) (Err (stop.Refused r)))
-    → TriesFor c (Err (stop.Refused r)) → RefusesNoWord {X = List ℕ} (Err (stop.Refused r)) → IsAnswer words files (Err r)
+    → TriesFor c (Err (stop.Refused r)) → RefusesNoWord {X = Done} (Err (stop.Refused r)) → IsAnswer words files (Err r)
 answer-refused words None c r e h t u = record {
   first = λ q f. cc (e ∙ f);
   no_other = λ word code f. absurd (u word code (ap (λ q. Err (stop.Refused q)) (refused-same r (refusal.Usage word code) f)));
@@ -237,7 +238,7 @@ answer-refused words None c r e h t u = record {
 answer-refused words (Some told) c r e h t u = subst (λ (x : Answer Command). AnswersCommand words told x (Err r)) e h
 
 stopped : (words : List (List ℕ)) (files : Option Files) (b n : Outside) (c : Command) (s : Stop) → Ok c ≡ command_of words → IfSome files (λ told. Reaches (AnswersCommand words told (Ok c)) (Err s)) → TriesFor c (Err s)
-    → RefusesNoWord {X = List ℕ} (Err s) → (s ≡ stop.ReadFault → Rose b.shelf_faults n.shelf_faults) → (s ≡ stop.ReadFault → ReadsFor c) → IsStopped words (IsAnswer words files) b n s
+    → RefusesNoWord {X = Done} (Err s) → (s ≡ stop.ReadFault → Rose b.shelf_faults n.shelf_faults) → (s ≡ stop.ReadFault → ReadsFor c) → IsStopped words (IsAnswer words files) b n s
 stopped words files b n c (stop.Refused q) e h t u f g = record {
   refused = λ r x. subst (λ (p : Refusal). IsAnswer words files (Err p)) (stopped-same q r x) (answer-refused words files c q e h t u);
   fault = λ x. cc x;
@@ -284,7 +285,7 @@ stopped-outcome words files b n s e i same w =
 
 -- the work stopped
 pub outcome-stop : (words : List (List ℕ)) (files : Option Files) (b n : Outside) (c : Command) (s : Stop) (e : Ended) → Ok c ≡ command_of words
-    → IfSome files (λ told. Reaches (AnswersCommand words told (Ok c)) (Err s)) → TriesFor c (Err s) → RefusesNoWord {X = List ℕ} (Err s)
+    → IfSome files (λ told. Reaches (AnswersCommand words told (Ok c)) (Err s)) → TriesFor c (Err s) → RefusesNoWord {X = Done} (Err s)
     → (s ≡ stop.ReadFault → Rose b.shelf_faults n.shelf_faults) → (s ≡ stop.ReadFault → ReadsFor c) → IsSame b.out n.out → WritesStop b.err n.err s e → HasOutcome words files b n e
 outcome-stop words files b n c s e q h t u f g same w =
     stopped-outcome words files b n s e (stopped words files b n c s q h t u f g) same w

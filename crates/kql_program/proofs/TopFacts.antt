@@ -5,6 +5,7 @@ use Rattle.csv_io.specs.Text.{table_text}
 use Rattle.kql_bound.specs.declared.plan.Program.{Program}
 use Rattle.kql_meaning.specs.Plans.{means}
 use Rattle.kql_plan_text.specs.Plans.{plan_text}
+use Rattle.kql_words.specs.Refusals.{Answer}
 use Rattle.kql_words.specs.declared.command.Asked.{Asked}
 use Rattle.kql_words.specs.declared.command.Command.{Command}
 use Rattle.kql_words.specs.declared.command.Command.TheVariants as command
@@ -25,7 +26,7 @@ use Rattle.kql_program.specs.declared.refusal.Stop.TheVariants as stop
 use Rattle.kql_program.proofs.AnswerFacts.{reached}
 
 -- an error that `?` passed on, of a call that makes a text and an ending
-raised-text : (Is : Result (List ℕ) _ → Type 0) (r : Result Done Stop) (s : Stop) → IsErrAnd r (λ e. e ≡ s) → Reaches Is (Err s) → Reaches Is (text_in r)
+raised-text : (Is : Answer (List ℕ) → Type 0) (r : Result Done Stop) (s : Stop) → IsErrAnd r (λ e. e ≡ s) → Reaches Is (Err s) → Reaches Is (text_in r)
 raised-text Is (Ok x) s i h = absurd i
 raised-text Is (Err e) s i h = rw i h
 

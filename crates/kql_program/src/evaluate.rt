@@ -1,5 +1,5 @@
 //! Queries over tables: what they are bound to, plans, and rows.
-ghost use Rattle.std.specs.Prelude.{◌≡◌, ◌∷◌, All, IfOk, IfSome, IsSome, IsTrue, true};
+ghost use Rattle.std.specs.Prelude.{◌≡◌, All, IfOk, IfSome, IsSome, IsTrue, true};
 ghost use Rattle.kql_cells.specs.Catalogues.{Named as Seen, schemas_of};
 ghost use Rattle.kql_cells.specs.Values.{IsMoment};
 ghost use Rattle.kql_cells.specs.declared.schemas.NamedSchema.{NamedSchema};
@@ -67,7 +67,8 @@ pub(crate) fn plan_of(alloc: Global, program: &Program) -> Result<Boxed<Program>
     ensures plan { IfOk result (IsPlanOf program.now) }
 {
     let plan = settle(alloc, program)?;
-    Boxed::new(alloc, plan)
+    let plan = Boxed::new(alloc, plan)?;
+    Ok(plan)
 }
 
 /// The rows of a program over the tables that it fits, and the plan that they were answered by.

@@ -11,7 +11,7 @@ use std::alloc::Global;
 use std::thread::Threads;
 
 /// The top call over files and sinks in memory. Where the sinks have room for the texts, its ending and its bytes are
-/// those of the answer, of which there is one, or of want of memory.
+/// those of the answer, of which there is one, or of want of memory. Of `explain` there is one refusal, or texts of plans of one program.
 pub fn kql_in_memory<R: Threads + Sync, G: Gate + Sync>(
     rt: &R,
     alloc: Global,

@@ -84,12 +84,7 @@ pub(crate) fn name_of(ended: &Ended) -> &'static str {
     }
 }
 
-fn left_in(
-    ended: &Ended,
-    alloc: Global,
-    out: &MemSink,
-    err: &MemSink,
-) -> Result<Left, AllocError> {
+fn left_in(ended: &Ended, alloc: Global, out: &MemSink, err: &MemSink) -> Result<Left, AllocError> {
     let out = shown(alloc, out.bytes())?;
     let err = shown(alloc, err.bytes())?;
     Ok(Left {

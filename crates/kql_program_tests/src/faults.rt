@@ -59,7 +59,14 @@ fn ends_as_the_command(rt: HostRuntime) -> Result<(), Fail> {
     let left = call(&rt, alloc, "plain q T=t", QUERY, NUMBERS, no_faults(alloc))?;
     assert_eq!(rt; left.ended, "PlainTable");
     assert_eq!(rt; left.out.as_str(), "x\n5\n5\n");
-    let left = call(&rt, alloc, "explain q T=t", QUERY, NUMBERS, no_faults(alloc))?;
+    let left = call(
+        &rt,
+        alloc,
+        "explain q T=t",
+        QUERY,
+        NUMBERS,
+        no_faults(alloc),
+    )?;
     assert_eq!(rt; left.ended, "Explained");
     assert_eq!(rt; left.out.as_str(), PLAN);
     Ok(())
