@@ -1,9 +1,9 @@
 -- Fields and records that stand in a text as they are.
 use Rattle.std.proofs.Common.{◌≡◌, ◌≤◌, ◌<◌, ◌+◌, ◌==◌, ◌∷◌, ◌++◌, ◌∙◌, ℕ, zero, suc, Bool, true, false, List, [], length, drop, get_or, map, refl, sym, ap, arith, append_assoc, inl, inr, ◌-◌, length-drop, length-take, get_or-drop, get_or-take, take-append-drop, drop-drop}
 use Rattle.std.specs.Borrow.{Bor}
-use Rattle.std.specs.Prelude.{Option, Some, None, ⊤, All, slice_range, if◌then◌else◌}
+use Rattle.std.specs.Prelude.{Option, Some, ⊤, All, slice_range, if◌then◌else◌}
 use Rattle.std.proofs.lemmas.Bool.{cases_Bool, eqb-true}
-use Rattle.std.proofs.lemmas.List.{append-nil, drop_more, drop_all}
+use Rattle.std.proofs.lemmas.List.{append-nil, drop_more}
 use Rattle.std.proofs.lemmas.List.Elements.{All-from_get_or, All-head, All-tail}
 use Rattle.csv.specs.Machine.{Read, next_record, in_field}
 use Rattle.csv.specs.Reading.{default_config, records_from, strip_bom}

@@ -1,5 +1,6 @@
 pub mod CellBack
 pub mod CutFacts
+pub mod DayFacts
 pub mod FeedFacts
 pub mod FieldFacts
 pub mod HeaderFacts

@@ -7,7 +7,7 @@ use Rattle.std.proofs.lemmas.Bool.{cases_Bool, cases_eq, cases_lt}
 use Rattle.std.proofs.lemmas.List.{drop-take}
 use Rattle.std.proofs.lemmas.List.Sums.{prefix_len-le-length, prefix_len_passes, prefix_len_stops}
 use Rattle.std.proofs.lemmas.Simd.{get_or-chunk, length-chunk, trailing_mask_l}
-use lib.Lanes.{chunk, mask_l}
+use lib.Lanes.{mask_l}
 use Rattle.csv_io.specs.Runs.{IsAhead, IsRun, is_plain, marks}
 
 abbrev Passes : (ℕ → Bool) → List ℕ → ℕ → Type 0

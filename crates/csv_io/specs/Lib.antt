@@ -1,5 +1,6 @@
 pub mod Cells
 pub mod Cuts
+pub mod Days
 pub mod Faults
 pub mod Header
 pub mod Lines

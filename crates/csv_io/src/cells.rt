@@ -2,12 +2,13 @@ ghost use Rattle.std.specs.Prelude.{◌≡◌, ◌≢◌, IfSome, option_map};
 ghost use Rattle.kql_cells.specs.Seen.{seen};
 ghost use Rattle.csv_io.specs.Cells.{FitsKind, read_filled};
 
+use crate::days::Day;
 use kql_cells::{CellRef, Kind, read_bool, read_long};
-use kql_ticks::{read_moment, read_span};
+use kql_ticks::read_span;
 
 // What a field that is not empty shows in a column of this type, or none where it is of another form. In a column of
 // dynamic values it would be a value of its own.
-pub(crate) fn filled_cell(kind: Kind, text: &str) -> Option<CellRef<'_>>
+pub(crate) fn filled_cell<'a>(kind: Kind, text: &'a str, day: &mut Day) -> Option<CellRef<'a>>
     requires { kind ≢ Kind.Dynamic }
     ensures value { option_map seen result ≡ read_filled kind text.now }
     ensures fits { IfSome result (λ c. FitsKind kind (seen c)) }
@@ -16,7 +17,7 @@ pub(crate) fn filled_cell(kind: Kind, text: &str) -> Option<CellRef<'_>>
         Kind::Text => Some(CellRef::Text(text)),
         Kind::Bool => bool_cell(text),
         Kind::Long => long_cell(text),
-        Kind::Moment => moment_cell(text),
+        Kind::Moment => moment_cell(text, day),
         Kind::Span => span_cell(text),
         Kind::Dynamic => None,
     }
@@ -42,11 +43,11 @@ fn long_cell<'a>(text: &str) -> Option<CellRef<'a>>
     }
 }
 
-fn moment_cell<'a>(text: &str) -> Option<CellRef<'a>>
+fn moment_cell<'a>(text: &str, day: &mut Day) -> Option<CellRef<'a>>
     ensures value { option_map seen result ≡ read_filled Kind.Moment text.now }
     ensures fits { IfSome result (λ c. FitsKind Kind.Moment (seen c)) }
 {
-    match read_moment(text) {
+    match day.read(text) {
         Some(ticks) => Some(CellRef::Moment(ticks)),
         None => None,
     }

@@ -3,6 +3,7 @@
 
 mod cells;
 mod cut;
+mod days;
 mod fault;
 mod feed;
 mod fields;

@@ -7,6 +7,7 @@ ghost use Rattle.csv_io.specs.TextRecords.{AllRecordsText};
 ghost use Rattle.kql_values.specs.Growing.{with_cell};
 
 use crate::cells::filled_cell;
+use crate::days::Day;
 use crate::fault::{BAD_CELL, BAD_LENGTH, DataFault, NO_HEADER, NOT_UTF8, refused};
 use crate::feed::Feed;
 use crate::fields::field;
@@ -66,15 +67,21 @@ fn load_rows<'a>(
     let mut feed = feed;
     let mut line = line;
     let mut table = TableBuilder::new(alloc, schema)?;
+    let mut day = Day::new();
     'records: while feed.next(&mut line)? {
-        read_row(alloc, &mut table, &line)?;
+        read_row(alloc, &mut table, &line, &mut day)?;
         table.end_row()?;
     }
     Ok(table.finish())
 }
 
 // Adds the cells of a record.
-fn read_row(alloc: Global, table: &mut TableBuilder, line: &Line<'_>) -> Result<(), DataFault>
+fn read_row(
+    alloc: Global,
+    table: &mut TableBuilder,
+    line: &Line<'_>,
+    day: &mut Day,
+) -> Result<(), DataFault>
     requires text { AllText line.now }
     requires fresh { table.old.row ≡ [] }
     ensures read { Reads (row_faults table.old.grid.columns (length table.old.grid.lines + 1) line.now) tt result }
@@ -89,7 +96,7 @@ fn read_row(alloc: Global, table: &mut TableBuilder, line: &Line<'_>) -> Result<
     }
     for j in 0..width {
         let kind = table.schema().columns()[j].kind;
-        read_cell(alloc, table, kind, field(line, j), number, j + 1)?;
+        read_cell(alloc, table, kind, field(line, j), day, number, j + 1)?;
     }
     Ok(())
 }
@@ -101,6 +108,7 @@ fn read_cell(
     table: &mut TableBuilder,
     kind: Kind,
     text: &str,
+    day: &mut Day,
     row: u64,
     column: usize,
 ) -> Result<(), DataFault>
@@ -116,7 +124,7 @@ fn read_cell(
         table.push_value(parse_json(alloc, text)?)?;
         return Ok(());
     }
-    match filled_cell(kind, text) {
+    match filled_cell(kind, text, day) {
         Some(cell) => {
             table.push_cell(cell)?;
             Ok(())

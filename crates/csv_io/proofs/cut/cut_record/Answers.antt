@@ -1,4 +1,4 @@
-use Rattle.std.proofs.Common.{◌≡◌, ◌<◌, ◌==◌, false, length, get_or, refl, arith, rules}
+use Rattle.std.proofs.Common.{◌≡◌, ◌<◌, ◌==◌, false, length, get_or, refl, arith}
 use Rattle.std.proofs.lemmas.Bool.{ne_eqb, eq-eqb}
 use Rattle.csv_io.proofs.CutFacts.{goes-end, goes-first, goes-on}
 use Rattle.csv_io.proofs.cut.cut_record.Goals.{then-cut-text-via-then-cut-text, then-cut-text-via-else-cut-text+then-text-cut-ne44}

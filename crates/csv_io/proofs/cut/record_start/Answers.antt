@@ -1,4 +1,4 @@
-use Rattle.std.proofs.Common.{◌≡◌, ◌<◌, ◌∙◌, length, refl, sym, arith}
+use Rattle.std.proofs.Common.{◌∙◌, refl, sym, arith}
 use Rattle.csv_io.proofs.CutFacts.{line-at}
 use Rattle.csv_io.proofs.cut.record_start.Goals as goal
 
