@@ -17,6 +17,7 @@ use crate::answers::{answer, other_by_explain, other_by_plain};
 use crate::seat::Seat;
 use std::io;
 use std::process::ExitCode;
+use std::thread::Threads;
 
 /// How many rows were checked, and how many were wrong.
 #[derive(Clone, Copy, Drop)]
@@ -26,8 +27,8 @@ struct Counts {
 }
 
 // Counts a row, and tells it where it is answered otherwise.
-fn counted(
-    rt: &HostRuntime,
+fn counted<R: Print>(
+    rt: &R,
     counts: Counts,
     asked: &str,
     found: &str,
@@ -48,8 +49,8 @@ fn counted(
 }
 
 // Tells what a command answers otherwise than it should, and counts it.
-fn told(
-    rt: &HostRuntime,
+fn told<R: Print>(
+    rt: &R,
     counts: Counts,
     asked: &str,
     command: &str,
@@ -67,8 +68,8 @@ fn told(
 }
 
 // Checks a row: a query, what it is answered, and the text of its plan where that is told.
-fn checked(
-    rt: &HostRuntime,
+fn checked<R: Print + AllocGlobal + Threads + Sync>(
+    rt: &R,
     counts: Counts,
     seat: &Seat,
     asked: &str,
