@@ -212,10 +212,7 @@ fn extend(alloc: Global, sets: Sets) -> Made<Op> {
 }
 
 fn inner_ops(alloc: Global) -> Made<Ops> {
-    with(
-        one(alloc, extend(alloc, &[("p", "2")])),
-        filter(alloc, "n"),
-    )
+    with(one(alloc, extend(alloc, &[("p", "2")])), filter(alloc, "n"))
 }
 
 fn over_table(alloc: Global, ops: Made<Ops>) -> Made<Plan> {
@@ -263,10 +260,7 @@ fn op(alloc: Global, sample: Sample) -> Made<Op> {
             by_key(alloc, JoinKind::Inner, false),
             over_table(alloc, inner_ops(alloc)),
         ),
-        Sample::Union => Ok(Op::Union(
-            false,
-            one(alloc, over_table(alloc, inner_ops(alloc)))?,
-        )),
+        Sample::Union => Ok(Op::Union(false, one(alloc, over_table(alloc, inner_ops(alloc)))?)),
         Sample::Scan => Ok(Op::Scan(scan(alloc)?)),
         Sample::Partition => partition(text(alloc, "k"), inner_ops(alloc)),
     }
