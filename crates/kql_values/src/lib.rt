@@ -26,6 +26,7 @@ pub use kql_cells::{
     is_well_formed, order_cells, order_of, read_bool, read_long, row_fits, same_dyn, same_key,
 };
 use kql_items::Items;
+pub use number_column::NumberColumn;
 pub use rows::Rows;
 pub use store::{NumberKind, Numbers};
 pub use table::Table;

@@ -1,12 +1,13 @@
 ghost use Rattle.std.specs.Prelude.{◌≡◌, ◌<◌, ◌≤◌, ◌^◌, ◌++◌, ◌∷◌, ◌↔◌, if◌then◌else◌, [], length, take, map, replicate, slice_range, All, IfOk, IfSome, IsTrue, OnErr, OnOk, Some};
 ghost use Rattle.kql_values.specs.Moves.{IsWithin, value_or};
 ghost use Rattle.kql_values.specs.Numbers.{values_of_numbers};
-ghost use Rattle.kql_values.specs.Stores.{text_value};
+ghost use Rattle.kql_values.specs.Stores.{number_value, text_value};
 ghost use Rattle.kql_cells.specs.Seen.{seen, value_at};
 ghost use Rattle.kql_cells.specs.Table.{CellFits};
 
 use crate::fitting::cell_fits;
-use crate::store::{Numbers, Store};
+use crate::number_column::NumberColumn;
+use crate::store::{NumberKind, Numbers, Store};
 use crate::text_column::TextColumn;
 use kql_cells::{CellRef, Column, Kind, Value};
 use std::alloc::{AllocError, Global};
@@ -43,6 +44,16 @@ impl Vector {
         Vector {
             alloc,
             store: Store::new(alloc, kind),
+        }
+    }
+
+    /// The numbers of a type, or null, as a vector.
+    pub fn from_numbers(alloc: Global, kind: NumberKind, numbers: NumberColumn) -> Vector
+        ensures cells { result ≡ map (number_value kind) numbers }
+    {
+        Vector {
+            alloc,
+            store: Store::Numbers(kind, numbers),
         }
     }
 
