@@ -1,10 +1,10 @@
 -- Chains of longs give what chains of these values do.
 use Rattle.std.proofs.Common.{◌≡◌, ◌<◌, ◌≤◌, ◌+◌, ◌-◌, ℕ, zero, suc, ℤ, List, [], ◌∷◌, ◌++◌, length, map, take, get_or, refl, ap, subst, sym, ◌∙◌, arith}
-use Rattle.std.specs.Prelude.{IfSome, Option, Some, None}
+use Rattle.std.specs.Prelude.{Err, IfOk, IfSome, Ok, Option, Result, Some, None}
 use Rattle.std.specs.List.{range_with_len}
-use Rattle.std.proofs.lemmas.List.{take_all, take_more}
-use Rattle.std.proofs.lemmas.List.Sums.{fold_more}
-use Rattle.std.proofs.lemmas.List.FromFn.{get_or-range_with_len, length-range_with_len}
+use Rattle.std.proofs.lemmas.List.{take_all}
+use Rattle.std.proofs.lemmas.List.Sums.{fold-append, fold_more}
+use Rattle.std.proofs.lemmas.List.FromFn.{get_or-range_with_len, length-range_with_len, map-range_with_len_more}
 use Rattle.kql_cells.specs.Seen.{value_at}
 use Rattle.kql_cells.specs.Table.{Grid, IsGrid}
 use Rattle.kql_cells.specs.declared.value.Value.{Value}
@@ -22,11 +22,12 @@ use Rattle.kql_bound.specs.declared.expr.ChainSign.{ChainSign}
 use Rattle.kql_bound.specs.declared.expr.ChainSign.TheVariants as sign
 use Rattle.kql_bound.specs.declared.literal.Lit.{Lit}
 use Rattle.kql_meaning.specs.Expressions.{val}
-use Rattle.kql_scalar.specs.Chains.{AllReach, AreLinksOf, IsColumnTerm, IsTermOf, Reaches, constant_value, link_number, long_along, long_step, term_at}
+use Rattle.kql_scalar.specs.Chains.{AllReach, IsAlong, IsChainOf, IsColumnTerm, IsTermOf, Reaches, constant_value, link_number, long_along, long_step, term_at}
 use Rattle.kql_scalar.specs.Evaluated.{along, link_step}
 use Rattle.kql_scalar.specs.Means.{IsPlaced, means}
 use Rattle.kql_scalar.specs.Rows.{rows}
 use Rattle.kql_scalar.specs.Stores.{number_at}
+use Rattle.kql_scalar.specs.declared.chains.LongChain.{LongChain}
 use Rattle.kql_scalar.specs.declared.chains.LongLink.{LongLink}
 use Rattle.kql_scalar.specs.declared.chains.Term.{Term}
 use Rattle.kql_scalar.specs.declared.chains.Term.TheVariants as term
@@ -34,8 +35,8 @@ use Rattle.kql_scalar.specs.declared.node.Node.{Node}
 use Rattle.kql_scalar.specs.declared.node.Node.TheVariants as N
 use Rattle.kql_scalar.proofs.ColumnSteps.{same-map}
 use Rattle.kql_scalar.proofs.FormFacts.{cell-column, column_within}
-use Rattle.kql_scalar.proofs.NodeSteps.{node-Chain, node-Literal, placed_Column}
-use Rattle.kql_scalar.proofs.RowSteps.{rows_end, values_more, values_none}
+use Rattle.kql_scalar.proofs.NodeSteps.{along-more, node-Chain, node-Literal, placed_Column}
+use Rattle.kql_scalar.proofs.RowSteps.{rows_end, rows_none}
 use Rattle.kql_scalar.proofs.StoreSteps.{number-stored}
 
 -- Terms.
@@ -77,47 +78,7 @@ pub ruleset term_steps = (constant-term, placed-term, column_within)
 
 pub ruleset column_steps = (column-term)
 
--- Links.
-
-links-push : (t : Grid) (ls : List (ChainSign × Node)) (ks : List LongLink) (l : ChainSign × Node) (k : LongLink) → AreLinksOf t ls ks → l.0 ≡ k.sign → IsTermOf t l.1 k.term → AreLinksOf t (ls ++ l ∷ []) (ks ++ k ∷ [])
-unfolding AreLinksOf
-links-push t [] [] l k h e x = ((e, x), tt)
-links-push t (a ∷ ls) (b ∷ ks) l k h e x = (h.0, links-push t ls ks l k h.1 e x)
-links-push t [] (b ∷ ks) l k h e x = absurd h
-links-push t (a ∷ ls) [] l k h e x = absurd h
-
-pub links-none : (t : Grid) → AreLinksOf t [] []
-unfolding AreLinksOf
-links-none t = tt
-
-pub links-more : (t : Grid) (links : List (ChainSign × Node)) (i : ℕ) (link : ChainSign × Node) (ks : List LongLink) (k : LongLink) → i < length links → link ≡ get_or links i link → AreLinksOf t (take i links) ks → link.0 ≡ k.sign → IsTermOf t link.1 k.term → AreLinksOf t (take (i + 1) links) (ks ++ k ∷ [])
-links-more t links i link ks k lt is h e x =
-    subst (λ ls. AreLinksOf t ls (ks ++ k ∷ [])) (sym (take_more links i link lt ∙ ap (λ (l : ChainSign × Node). take i links ++ l ∷ []) (sym is))) (links-push t (take i links) ks link k h e x)
-
-pub links-end : (t : Grid) (links : List (ChainSign × Node)) (i : ℕ) (ks : List LongLink) → length links ≤ i → AreLinksOf t (take i links) ks → AreLinksOf t links ks
-links-end t links i ks l h = subst (λ ls. AreLinksOf t ls ks) (take_all i links l) h
-
-pub ruleset link_steps = (links-none, links-more, links-end)
-
--- The parts of links that reach.
-
-pub reach-at : (count : ℕ) (ks : List LongLink) (i : ℕ) (d : LongLink) → AllReach count ks → i < length ks → Reaches count (get_or ks i d).term
-unfolding AllReach
-reach-at count [] i d h l = absurd (omega arith)
-reach-at count (x ∷ xs) zero d h l = h.0
-reach-at count (x ∷ xs) (suc i) d h l = reach-at count xs i d h.1 (omega arith)
-
-pub number-none : (i : ℕ) (n : Option ℤ) → long_along [] i n ≡ n
-unfolding long_along
-number-none i n = refl
-
-pub number-more : (ks : List LongLink) (k : ℕ) (d : LongLink) (i : ℕ) (n : Option ℤ) → k < length ks → long_step (get_or ks k d).sign (long_along (take k ks) i n) (term_at (get_or ks k d).term i) ≡ long_along (take (k + 1) ks) i n
-unfolding long_along
-number-more ks k d i n lt = sym (fold_more (link_number i) n ks k d lt)
-
-pub ruleset reach_steps = (reach-at, number-none)
-
--- A sign of longs.
+-- Chains.
 
 sign-long : (s : ChainSign) (a b : Option ℤ) → applied (sign_func s) (long_or_null a ∷ long_or_null b ∷ []) ≡ long_or_null (long_step s a b)
 unfolding applied sign_func arithmetic argument sum difference product quotient remainder
@@ -137,38 +98,114 @@ sign-long sign.Multiply (Some a) None = refl
 sign-long sign.Divide (Some a) None = refl
 sign-long sign.Modulo (Some a) None = refl
 
-along-long : (t : Grid) (links : List (ChainSign × Node)) (ks : List LongLink) (i : ℕ) (n : Option ℤ) → AreLinksOf t links ks → i < length t.lines → along links t i [] (long_or_null n) ≡ long_or_null (long_along ks i n)
-unfolding along long_along AreLinksOf
-along-long t [] [] i n h lt = refl
-along-long t (l ∷ ls) (k ∷ ks) i n h lt =
-    let value = h.0.1.values i lt in
-    let step : link_step t i [] (long_or_null n) l ≡ long_or_null (link_number i n k) = rw (value, h.0.0) (sign-long k.sign n (term_at k.term i)) in
-    ap (along ls t i []) step ∙ along-long t ls ks i (link_number i n k) h.1 lt
-along-long t [] (k ∷ ks) i n h lt = absurd h
-along-long t (l ∷ ls) [] i n h lt = absurd h
+reach-push : (count : ℕ) (ks : List LongLink) (k : LongLink) → AllReach count ks → Reaches count k.term → AllReach count (ks ++ k ∷ [])
+unfolding AllReach
+reach-push count [] k h r = (r, tt)
+reach-push count (x ∷ xs) k h r = (h.0, reach-push count xs k h.1 r)
 
-pub all-reach : (t : Grid) (links : List (ChainSign × Node)) (ks : List LongLink) → AreLinksOf t links ks → AllReach (length t.lines) ks
-unfolding AreLinksOf AllReach
-all-reach t [] [] h = tt
-all-reach t (l ∷ ls) (k ∷ ks) h = (h.0.1.reach, all-reach t ls ks h.1)
-all-reach t [] (k ∷ ks) h = absurd h
-all-reach t (l ∷ ls) [] h = absurd h
+number-push : (ks : List LongLink) (k : LongLink) (i : ℕ) (n : Option ℤ) → long_along (ks ++ k ∷ []) i n ≡ long_step k.sign (long_along ks i n) (term_at k.term i)
+unfolding long_along
+number-push ks k i n = fold-append (link_number i) n ks (k ∷ [])
 
-pub term-reach : (t : Grid) (n : Node) (x : Term) → IsTermOf t n x → Reaches (length t.lines) x
-term-reach t n x h = h.reach
+pub chain-single : (t : Grid) (n : Node) (x : Term) → IsTermOf t n x → IsChainOf t n x []
+unfolding long_along AllReach
+chain-single t n x h = record { values = h.values; reach = h.reach; each = tt }
 
-pub chain-values : (t : Grid) (first : Node) (links : List (ChainSign × Node)) (x : Term) (ks : List LongLink) (from to : ℕ) → IsTermOf t first x → AreLinksOf t links ks → from ≤ to → to ≤ length t.lines → map (λ i. long_or_null (long_along ks i (term_at x i))) (rows from to) ≡ map (λ i. along links t i [] (val (means first) t i [])) (rows from to)
+pub chain-start : (t : Grid) (first : Node) (x : Term) (ks : List LongLink) → IsChainOf t first x ks → IsAlong t first [] x ks
+unfolding along
+chain-start t first x ks h = record { values = h.values; reach = h.reach; each = h.each }
+
+link-long : (t : Grid) (link : ChainSign × Node) (k : LongLink) (j : ℕ) (n : Option ℤ) → j < length t.lines → link.0 ≡ k.sign → IsTermOf t link.1 k.term → link_step t j [] (long_or_null n) link ≡ long_or_null (long_step k.sign n (term_at k.term j))
+link-long t link k j n below e y = rw (y.values j below, e) (sign-long k.sign n (term_at k.term j))
+
+pub chain-more : (t : Grid) (first : Node) (links : List (ChainSign × Node)) (i : ℕ) (link : ChainSign × Node) (x : Term) (ks : List LongLink) (k : LongLink) → i < length links → link ≡ get_or links i link → IsAlong t first (take i links) x ks → link.0 ≡ k.sign → IsTermOf t link.1 k.term → IsAlong t first (take (i + 1) links) x (ks ++ k ∷ [])
+chain-more t first links i link x ks k lt is h e y = record {
+  values = λ j below.
+      along-more links i link t j [] (val (means first) t j []) lt
+      ∙ (ap (link_step t j [] (along (take i links) t j [] (val (means first) t j []))) (sym is)
+      ∙ (ap (λ v. link_step t j [] v link) (h.values j below)
+      ∙ (link-long t link k j (long_along ks j (term_at x j)) below e y ∙ ap long_or_null (sym (number-push ks k j (term_at x j))))));
+  reach = h.reach;
+  each = reach-push (length t.lines) ks k h.each y.reach;
+}
+
+pub chain-end : (t : Grid) (first : Node) (links : List (ChainSign × Node)) (i : ℕ) (x : Term) (ks : List LongLink) → length links ≤ i → IsAlong t first (take i links) x ks → IsAlong t first links x ks
+chain-end t first links i x ks l h = subst (λ ls. IsAlong t first ls x ks) (take_all i links l) h
+
+chain-node-terms : (t : Grid) (node first : Node) (links : List (ChainSign × Node)) (x : Term) (ks : List LongLink) → node ≡ N.Chain first links → IsAlong t first links x ks → IsChainOf t node x ks
+chain-node-terms t node first links x ks is h = record {
+  values = λ i lt. ap (λ n. val (means n) t i []) is ∙ (node-Chain first links t i [] ∙ h.values i lt);
+  reach = h.reach;
+  each = h.each;
+}
+
+pub chain-opened : (t : Grid) (node first left : Node) (links right : List (ChainSign × Node)) (x : Term) (ks : List LongLink) → node ≡ N.Chain first links → left ≡ first → right ≡ links → IsAlong t left right x ks → IsChainOf t node x ks
+chain-opened t node first left links right x ks is e f h =
+    chain-node-terms t node first links x ks is (subst (λ l. IsAlong t l links x ks) e (subst (λ r. IsAlong t left r x ks) f h))
+
+pub chains-opened : {E : Type 0} (t : Grid) (node first left : Node) (links right : List (ChainSign × Node)) (r : Result (Option LongChain) E) → node ≡ N.Chain first links → left ≡ first → right ≡ links
+    → IfOk r (λ o. IfSome o (λ c. IsAlong t left right c.first c.terms.items)) → IfOk r (λ o. IfSome o (λ c. IsChainOf t node c.first c.terms.items))
+chains-opened t node first left links right (Err e) is f g h = tt
+chains-opened t node first left links right (Ok None) is f g h = tt
+chains-opened t node first left links right (Ok (Some c)) is f g h = chain-opened t node first left links right c.first c.terms.items is f g h
+
+pub ruleset link_steps = (chain-end)
+
+-- The parts of links that reach.
+
+pub reach-at : (count : ℕ) (ks : List LongLink) (i : ℕ) (d : LongLink) → AllReach count ks → i < length ks → Reaches count (get_or ks i d).term
+unfolding AllReach
+reach-at count [] i d h l = absurd (omega arith)
+reach-at count (x ∷ xs) zero d h l = h.0
+reach-at count (x ∷ xs) (suc i) d h l = reach-at count xs i d h.1 (omega arith)
+
+pub number-none : (i : ℕ) (n : Option ℤ) → long_along [] i n ≡ n
+unfolding long_along
+number-none i n = refl
+
+pub number-more : (ks : List LongLink) (k : ℕ) (d : LongLink) (i : ℕ) (n : Option ℤ) → k < length ks → long_step (get_or ks k d).sign (long_along (take k ks) i n) (term_at (get_or ks k d).term i) ≡ long_along (take (k + 1) ks) i n
+unfolding long_along
+number-more ks k d i n lt = sym (fold_more (link_number i) n ks k d lt)
+
+pub ruleset reach_steps = (reach-at, number-none)
+
+-- At the rows of a range.
+
+pub chain-reach : (t : Grid) (first : Node) (links : List (ChainSign × Node)) (x : Term) (ks : List LongLink) → IsAlong t first links x ks → Reaches (length t.lines) x
+chain-reach t first links x ks h = h.reach
+
+pub chain-each : (t : Grid) (first : Node) (links : List (ChainSign × Node)) (x : Term) (ks : List LongLink) → IsAlong t first links x ks → AllReach (length t.lines) ks
+chain-each t first links x ks h = h.each
+
+pub chain-values : (t : Grid) (first : Node) (links : List (ChainSign × Node)) (x : Term) (ks : List LongLink) (from to : ℕ) → IsAlong t first links x ks → from ≤ to → to ≤ length t.lines → map (λ i. long_or_null (long_along ks i (term_at x i))) (rows from to) ≡ map (λ i. along links t i [] (val (means first) t i [])) (rows from to)
 unfolding rows
-chain-values t first links x ks from to h k l m =
+chain-values t first links x ks from to h l m =
     same-map (λ i. long_or_null (long_along ks i (term_at x i))) (λ i. along links t i [] (val (means first) t i [])) (range_with_len from (to - from)) (λ j d b.
     let below : j < to - from = subst (λ z. j < z) (length-range_with_len from (to - from)) b in
     let at : get_or (range_with_len from (to - from)) j d ≡ from + j = get_or-range_with_len from (to - from) j d below in
     let within : get_or (range_with_len from (to - from)) j d < length t.lines = rw at (omega arith) in
-    sym (ap (along links t (get_or (range_with_len from (to - from)) j d) []) (h.values _ within) ∙ along-long t links ks _ (term_at x (get_or (range_with_len from (to - from)) j d)) k within))
+    sym (h.values _ within))
 
-pub ruleset value_steps = (all-reach, term-reach, chain-values)
+pub ruleset value_steps = (chain-reach, chain-each, chain-values)
 
-pub ruleset row_steps = (values_none, values_more, rows_end)
+pub numbers-more : (f : ℕ → Option ℤ) (from i : ℕ) → from ≤ i → map f (rows from (i + 1)) ≡ map f (rows from i) ++ f i ∷ []
+unfolding rows
+numbers-more f from i h =
+    let on : (i + 1) - from ≡ (i - from) + 1 = omega arith in
+    let at : from + (i - from) ≡ i = omega arith in
+    rw on (map-range_with_len_more f from (i - from) i at)
+
+pub numbers-none : (f : ℕ → Option ℤ) (from : ℕ) → map f (rows from from) ≡ []
+numbers-none f from = rw (rows_none from) refl
+
+numbers-long : (f : ℕ → Option ℤ) (xs : List ℕ) → map (number_value number.Long) (map f xs) ≡ map (λ i. long_or_null (f i)) xs
+numbers-long f [] = refl
+numbers-long f (x ∷ xs) = rw (long-number number.Long (f x) refl) (ap (λ vs. long_or_null (f x) ∷ vs) (numbers-long f xs))
+
+pub numbers-end : (f : ℕ → Option ℤ) (from i to : ℕ) (ns : List (Option ℤ)) (vs : List Value) → to ≤ i → i ≤ to → ns ≡ map f (rows from i) → vs ≡ map (number_value number.Long) ns → vs ≡ map (λ i. long_or_null (f i)) (rows from to)
+numbers-end f from i to ns vs l h is made = made ∙ (ap (map (number_value number.Long)) (is ∙ ap (map f) (rows_end from i to l h)) ∙ numbers-long f (rows from to))
+
+pub ruleset row_steps = (numbers-none, numbers-more, numbers-end, rows_end)
 
 pub chain-node : (node first left : Node) (links right : List (ChainSign × Node)) (t : Grid) (from to : ℕ) → node ≡ N.Chain first links → left ≡ first → right ≡ links → map (λ i. along right t i [] (val (means left) t i [])) (rows from to) ≡ map (λ i. val (means node) t i []) (rows from to)
 chain-node node first left links right t from to is e f =

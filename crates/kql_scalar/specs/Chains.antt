@@ -10,6 +10,7 @@ use Rattle.kql_bound.specs.declared.expr.ChainSign.TheVariants as sign
 use Rattle.kql_meaning.specs.Expressions.{val}
 use Rattle.kql_meaning.specs.Tables.{cell_in}
 use Rattle.kql_ticks.specs.Ranges.{fit}
+use Rattle.kql_scalar.specs.Evaluated.{along}
 use Rattle.kql_scalar.specs.Means.{means}
 use Rattle.kql_scalar.specs.Stores.{number_at}
 use Rattle.kql_scalar.specs.declared.chains.LongLink.{LongLink}
@@ -56,16 +57,22 @@ link_number i n l = long_step l.sign n (term_at l.term i)
 unfoldable pub long_along : List LongLink → ℕ → Option ℤ → Option ℤ
 long_along ls i first = fold (link_number i) first ls
 
--- Each sign and term stands for the link at its place.
-unfoldable pub AreLinksOf : Grid → List (ChainSign × Node) → List LongLink → Type 0
-AreLinksOf t [] [] = Unit {0}
-AreLinksOf t (l ∷ ls) (k ∷ ks) = ((l.0 ≡ k.sign) × IsTermOf t l.1 k.term) × AreLinksOf t ls ks
-AreLinksOf t _ _ = ⊥
-
 -- All terms have a number for each of so many rows.
 unfoldable pub AllReach : ℕ → List LongLink → Type 0
 AllReach count [] = Unit {0}
 AllReach count (l ∷ ls) = Reaches count l.term × AllReach count ls
+
+-- A chain of terms stands for a part of an expression.
+pub record IsChainOf (t : Grid) (n : Node) (x : Term) (ks : List LongLink) : Type 0 where
+  pub values : (i : ℕ) → i < length t.lines → val (means n) t i [] ≡ long_or_null (long_along ks i (term_at x i))
+  pub reach : Reaches (length t.lines) x
+  pub each : AllReach (length t.lines) ks
+
+-- The same for a first part with links behind it.
+pub record IsAlong (t : Grid) (first : Node) (links : List (ChainSign × Node)) (x : Term) (ks : List LongLink) : Type 0 where
+  pub values : (i : ℕ) → i < length t.lines → along links t i [] (val (means first) t i []) ≡ long_or_null (long_along ks i (term_at x i))
+  pub reach : Reaches (length t.lines) x
+  pub each : AllReach (length t.lines) ks
 
 -- A term stands for the column at a place.
 pub record IsColumnTerm (t : Grid) (place : ℕ) (x : Term) : Type 0 where

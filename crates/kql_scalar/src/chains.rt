@@ -1,18 +1,18 @@
 //! Chains of longs over the stores of columns, in one pass over the rows.
 ghost use Rattle.std.specs.Prelude.{◌≡◌, ◌<◌, ◌≤◌, [], IfOk, IfSome, Some, length, map};
-ghost use Rattle.kql_cells.specs.Seen.{seen};
 ghost use Rattle.kql_scalar_fns.specs.Arguments.{long_or_null};
 ghost use Rattle.kql_meaning.specs.Expressions.{val};
-ghost use Rattle.kql_scalar.specs.Chains.{AllReach, AreLinksOf, IsColumnTerm, IsTermOf, Reaches, constant_value, long_along, long_step, term_at};
+ghost use Rattle.kql_scalar.specs.Chains.{AllReach, IsAlong, IsChainOf, IsColumnTerm, IsTermOf, Reaches, constant_value, long_along, long_step, term_at};
 ghost use Rattle.kql_scalar.specs.Evaluated.{along};
 ghost use Rattle.kql_scalar.specs.Means.{AreLinksPlaced, IsPlaced, means};
 ghost use Rattle.kql_scalar.specs.Rows.{rows};
 
 use crate::node::{Node, NodeLink};
 use crate::pairs::{long_difference, long_product, long_quotient, long_remainder, long_sum};
+use crate::parts::{link_parts, part};
 use crate::stores::number_at;
 use kql_bound::ChainSign;
-use kql_values::{CellRef, Kind, NumberKind, Numbers, Table, Value, Vector};
+use kql_values::{NumberColumn, NumberKind, Numbers, Table, Value, Vector};
 use std::alloc::{AllocError, Global};
 
 /// What stands in a chain of longs: one number at all rows, or the numbers of a column.
@@ -29,7 +29,14 @@ pub(crate) struct LongLink<'a> {
     pub(crate) term: Term<'a>,
 }
 
-/// The values of a chain at the rows of a range, if all that stands in it are longs and columns of longs.
+/// A term and the links behind it.
+#[derive(Drop)]
+pub(crate) struct LongChain<'a> {
+    pub(crate) first: Term<'a>,
+    pub(crate) terms: Vec<LongLink<'a>>,
+}
+
+/// The values of a chain at the rows of a range, if it begins with a term, or with such a chain, and all links are terms.
 #[tactic(auto, using(crate::proofs::ChainSteps::value_steps))]
 pub(crate) fn long_values(
     alloc: Global,
@@ -45,14 +52,74 @@ pub(crate) fn long_values(
     requires range { to ≤ length t.now.lines }
     ensures values { IfOk result (λ o. IfSome o (λ v. v ≡ map (λ i. along links.now t.now i [] (val (means first.now) t.now i [])) (rows from to))) }
 {
-    let Some(term) = term_of(first, t) else {
+    let Some(inner) = chain_of(alloc, first, t)? else {
         return Ok(None);
     };
-    let Some(terms) = terms_of(alloc, links, t)? else {
+    let Some(chain) = longer(inner, first, links, t)? else {
         return Ok(None);
     };
-    let values = chain_values(alloc, term, terms.as_slice(), t, from, to)?;
+    let values = chain_values(alloc, chain.first, chain.terms.as_slice(), t, from, to)?;
     Ok(Some(values))
+}
+
+// The chain that a part is, if it begins with a term, or with such a chain, and all links are terms: the links of the inner one stand
+// in front of its own.
+#[cycle(chain)]
+#[tactic(auto, using(crate::proofs::PartSteps::placed_parts))]
+fn chain_of<'a>(
+    alloc: Global,
+    node: &'a Node,
+    t: &'a Table,
+) -> Result<Option<LongChain<'a>>, AllocError>
+    requires { IsPlaced t.now.columns node.now }
+    ensures chain { IfOk result (λ o. IfSome o (λ c. IsChainOf t.now node.now c.first c.terms.items)) }
+{
+    match node {
+        Node::Chain(first, links) => {
+            let first = part(first, t);
+            let Some(inner) = chain_of(alloc, first, t)? else {
+                return Ok(None);
+            };
+            longer(inner, first, link_parts(links, t), t)
+        }
+        _ => Ok(single(alloc, node, t)),
+    }
+}
+
+// The chain of a term alone, if a part is one.
+fn single<'a>(alloc: Global, node: &'a Node, t: &'a Table) -> Option<LongChain<'a>>
+    requires { IsPlaced t.now.columns node.now }
+    ensures chain { IfSome result (λ c. IsChainOf t.now node.now c.first c.terms.items) }
+{
+    let Some(first) = term_of(node, t) else {
+        return None;
+    };
+    Some(LongChain {
+        first,
+        terms: Vec::new(alloc),
+    })
+}
+
+// A chain with these links behind it, if all of them are terms.
+#[tactic(auto, using(crate::proofs::ChainSteps::link_steps))]
+fn longer<'a>(
+    chain: LongChain<'a>,
+    _first: &Node,
+    links: &'a [NodeLink],
+    t: &'a Table,
+) -> Result<Option<LongChain<'a>>, AllocError>
+    requires inner { IsChainOf t.now _first.now chain.first chain.terms.items }
+    requires placed { AreLinksPlaced t.now.columns links.now }
+    ensures chain { IfOk result (λ o. IfSome o (λ c. IsAlong t.now _first.now links.now c.first c.terms.items)) }
+{
+    let LongChain { first, mut terms } = chain;
+    'links: for link in links {
+        let Some(term) = term_of(&link.1, t) else {
+            return Ok(None);
+        };
+        terms.push(LongLink { sign: link.0, term })?;
+    }
+    Ok(Some(LongChain { first, terms }))
 }
 
 // The values of a chain of terms at the rows of a range.
@@ -71,12 +138,11 @@ fn chain_values(
     requires range { to ≤ length _t.now.lines }
     ensures values { IfOk result (λ v. v ≡ map (λ i. long_or_null (long_along links.now i (term_at first.entry i))) (rows from to)) }
 {
-    let mut values = Vector::new(alloc, Kind::Long);
+    let mut numbers = NumberColumn::with_capacity(alloc, to - from)?;
     'rows: for i in from..to {
-        let number = long_along(links, _t, i, term_at(first, _t, i));
-        values.push_cell(long_cell(number))?;
+        numbers.push(long_along(links, _t, i, term_at(first, _t, i)))?;
     }
-    Ok(values)
+    Ok(Vector::from_numbers(alloc, NumberKind::Long, numbers))
 }
 
 // The term that a part is, if it is a long or a column of longs.
@@ -114,26 +180,6 @@ fn column_term(t: &Table, place: usize) -> Option<Term<'_>>
         NumberKind::Long => Some(Term::Column(numbers)),
         _ => None,
     }
-}
-
-// The terms that the links of a chain are, if all of them are.
-#[tactic(auto, using(crate::proofs::ChainSteps::link_steps))]
-fn terms_of<'a>(
-    alloc: Global,
-    links: &'a [NodeLink],
-    t: &'a Table,
-) -> Result<Option<Vec<LongLink<'a>>>, AllocError>
-    requires { AreLinksPlaced t.now.columns links.now }
-    ensures terms { IfOk result (λ o. IfSome o (λ v. AreLinksOf t.now links.now v.items)) }
-{
-    let mut terms = Vec::with_capacity(alloc, links.len())?;
-    'links: for link in links {
-        let Some(term) = term_of(&link.1, t) else {
-            return Ok(None);
-        };
-        terms.push(LongLink { sign: link.0, term })?;
-    }
-    Ok(Some(terms))
 }
 
 // The number that a term is at a row, or null.
@@ -179,14 +225,5 @@ fn long_step(sign: ChainSign, a: Option<i64>, b: Option<i64>) -> Option<i64>
         ChainSign::Multiply => long_product(x, y),
         ChainSign::Divide => long_quotient(x, y),
         ChainSign::Modulo => long_remainder(x, y),
-    }
-}
-
-fn long_cell<'a>(n: Option<i64>) -> CellRef<'a>
-    ensures { seen result ≡ long_or_null n }
-{
-    match n {
-        Some(n) => CellRef::Long(n),
-        None => CellRef::Null,
     }
 }
