@@ -15,6 +15,7 @@ use kql_cells::{CellRef, Value};
 use kql_functions::Aggregate;
 use std::alloc::{AllocError, Global};
 use std::marker::Model;
+use std::mem::size_of;
 
 /// The fold of an aggregate over the rows of a group: it takes them one by one, and keeps what the aggregate's value needs.
 ///
@@ -26,6 +27,9 @@ pub struct Fold<'a> {
     count: usize,
     state: State<'a>,
 }
+
+// There is one for each group and aggregate: it is no larger than a cache line.
+const _: () = prove!(size_of::<Fold<'static>>() <= 64);
 
 impl<'a> Model for Fold<'a> {
     ghost use Rattle.std.specs.Coded.{codes};

@@ -88,14 +88,17 @@ impl<'a> Hash for Held<'a> {
     }
 }
 
-/// Different values, in the order in which they came.
+/// Different values, in the order in which they came. The first of them takes the set's memory: until then a set is two words, and a fold
+/// that keeps none is small.
 #[derive(Drop)]
 pub(crate) struct HeldSet<'a> {
-    values: IndexSet<Held<'a>>,
+    alloc: Global,
+    values: Option<Box<IndexSet<Held<'a>>>>,
 }
 
 impl<'a> Model for HeldSet<'a> {
-    ghost use Rattle.std.specs.Prelude.{List};
+    ghost use Rattle.std.specs.Prelude.{[], List};
+    ghost use Rattle.std.specs.Option.{option_map, unwrap_or};
     ghost use Rattle.std.specs.Coded.{codes};
     ghost use Rattle.kql_cells.specs.contracts.dynamic.Dyn as dynamic;
     ghost use Rattle.kql_cells.specs.declared.value.Value.{Value as Cell};
@@ -104,7 +107,7 @@ impl<'a> Model for HeldSet<'a> {
 
     ghost coded = { Prim.hlevel (codes, dynamic.the_row.coded) };
 
-    ghost view = { λ s. s.values.keys };
+    ghost view = { λ s. unwrap_or (option_map (λ b. b.value.keys) s.values) [] };
 }
 
 impl<'a> HeldSet<'a> {
@@ -112,20 +115,24 @@ impl<'a> HeldSet<'a> {
         ensures { result ≡ [] }
     {
         HeldSet {
-            values: IndexSet::new(alloc),
+            alloc,
+            values: None,
         }
     }
 
     pub(crate) fn as_slice(&self) -> &[Held<'a>]
         ensures { result.now ≡ self.now }
     {
-        self.values.as_slice()
+        match &self.values {
+            None => &[],
+            Some(values) => values.as_slice(),
+        }
     }
 
     pub(crate) fn len(&self) -> usize
         ensures { result ≡ length self.now }
     {
-        self.values.len()
+        self.as_slice().len()
     }
 
     /// Adds a value, if it is not there.
@@ -133,7 +140,16 @@ impl<'a> HeldSet<'a> {
         ensures added { OnOk result (self.new ≡ insert_key same_key self.old value.entry) }
         ensures kept { OnErr result (self.new ≡ self.old) }
     {
-        self.values.insert_full(value)?;
+        match &mut self.values {
+            None => {
+                let mut values = IndexSet::new(self.alloc);
+                values.insert_full(value)?;
+                self.values = Some(Box::new(self.alloc, values)?);
+            }
+            Some(values) => {
+                values.insert_full(value)?;
+            }
+        }
         Ok(())
     }
 }
