@@ -1,3 +1,4 @@
 pub mod Matches
+pub mod NumberKeys
 pub mod Numbers
 pub mod Places

@@ -4,6 +4,7 @@
 #![tactic(auto)]
 
 mod key;
+mod number_key;
 mod numbering;
 mod places;
 mod probe;

@@ -4,6 +4,7 @@ ghost use Rattle.kql_keys.specs.Numbers.{distinct, first_places, numbers_of};
 ghost use Rattle.kql_cells.specs.Keys.{same_keys};
 
 use crate::key::KeyRef;
+use crate::number_key::{lone_numbers, number_by_numbers};
 use indexmap::IndexSet;
 use kql_cells::Places;
 use kql_items::Items;
@@ -62,6 +63,10 @@ pub fn number_keys(alloc: Global, columns: &[&Vector], count: usize) -> Result<N
     ensures first_keys { IfOk result (λ x. map (row_of (map (λ c. c.now) columns.now)) x.firsts ≡ distinct same_keys (rows_of count (map (λ c. c.now) columns.now))) }
     ensures within { IfOk result (λ x. All (λ n. n < length x.firsts) x.numbers) }
 {
+    if let Some(lone) = lone_numbers(columns) {
+        let found = number_by_numbers(alloc, lone, count)?;
+        return Ok(found);
+    }
     let KeyIndex {
         seen: _,
         numbers,
@@ -71,7 +76,7 @@ pub fn number_keys(alloc: Global, columns: &[&Vector], count: usize) -> Result<N
 }
 
 // Adds a place where that is wanted.
-fn push_if(wanted: bool, places: &mut Places, place: usize) -> Result<(), AllocError>
+pub(crate) fn push_if(wanted: bool, places: &mut Places, place: usize) -> Result<(), AllocError>
     ensures { OnOk result (places.new ≡ (if wanted then places.old ++ place ∷ [] else places.old)) }
 {
     if wanted {

@@ -58,6 +58,19 @@ const COLUMNS: &[(Kind, &[Shown], &[usize], &[usize])] = &[
         &[0, 0, 1, 2, 1],
         &[0, 2, 3],
     ),
+    // Null is not 0.
+    (
+        Kind::Long,
+        &[
+            Shown::Null,
+            Shown::Long(0),
+            Shown::Null,
+            Shown::Long(-1),
+            Shown::Long(0),
+        ],
+        &[0, 1, 0, 2, 1],
+        &[0, 1, 3],
+    ),
     (
         Kind::Bool,
         &[
