@@ -1,5 +1,17 @@
 pub mod ConstantValues
 pub mod Context
+pub mod FoldSteps
+pub mod FoldedExpand
+pub mod FoldedExpressions
+pub mod FoldedFits
+pub mod FoldedItems
+pub mod FoldedOperators
+pub mod FoldedPlanSteps
+pub mod FoldedPrograms
+pub mod FoldedReadings
+pub mod FoldedScan
+pub mod FoldedShapes
+pub mod FoldingLaws
 pub mod IdleProjection
 pub mod MergeFilters
 pub mod NamedCells
@@ -26,6 +38,7 @@ pub mod ShortRules
 pub mod SortedPlaces
 pub mod Subplans
 pub mod Swaps
+pub mod TermSteps
 pub mod TopAndCount
 pub mod TwoProjections
 pub mod TwoSorts

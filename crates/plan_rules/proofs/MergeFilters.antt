@@ -1,5 +1,5 @@
 -- Two filters become one.
-use Rattle.std.proofs.Common.{◌≡◌, ◌≤◌, ◌<◌, ◌+◌, ℕ, Bool, true, false, List, [], ◌∷◌, ◌++◌, map, filter, length, refl, sym, ap, ap₂, ◌∙◌, subst, inl, inr, arith}
+use Rattle.std.proofs.Common.{◌≡◌, ◌≤◌, ◌<◌, ◌+◌, ℕ, suc, Bool, true, false, List, [], ◌∷◌, ◌++◌, map, filter, length, refl, sym, ap, ap₂, ◌∙◌, subst, inl, inr, arith}
 use Rattle.std.specs.Prelude.{◌&&◌, nat_le, fold, Option, None, Some, is_some, option_and_then, option_map}
 use Rattle.std.specs.List.{list_all}
 use Rattle.std.proofs.lemmas.Bool.{and_parts, cases_Bool}
@@ -10,15 +10,13 @@ use Rattle.kql_cells.specs.declared.value.Kind.{Kind}
 use Rattle.kql_cells.specs.declared.value.Kind.TheVariants as kind
 use Rattle.kql_cells.specs.declared.value.Value.{Value}
 use Rattle.kql_functions.specs.Kinds.{all_same, logic_kind, result_kind, same_kind, several_of}
-use Rattle.kql_functions.specs.declared.func.Func.{Func}
-use Rattle.kql_functions.specs.declared.func.Func.TheVariants as func
-use Rattle.kql_functions.specs.declared.func.LogicFunc.TheVariants as logic_func
 use Rattle.kql_scalar_fns.specs.Applied.{applied}
 use Rattle.kql_scalar_fns.specs.Arguments.{bool_or_null}
 use Rattle.kql_scalar_fns.specs.Logic.{both, both_known, conjunction, is_true, logic, truth}
-use Rattle.kql_bound.specs.declared.expr.BExpr.{BExpr, out-BExpr, roll-BExpr, roll-out-BExpr}
+use Rattle.kql_bound.specs.declared.expr.BExpr.{BExpr, ind-BExpr, map-BExpr, roll-BExpr}
 use Rattle.kql_bound.specs.declared.expr.BExpr.TheOpen.{BExpr-F}
 use Rattle.kql_bound.specs.declared.expr.BExpr.TheVariants as E
+use Rattle.kql_bound.specs.declared.expr.ChainSign.{ChainSign}
 use Rattle.kql_bound.specs.declared.plan.Op.{Op}
 use Rattle.kql_bound.specs.declared.plan.Op.TheVariants as V
 use Rattle.kql_meaning.specs.declared.position.Position.TheVariants as position
@@ -41,10 +39,11 @@ use Rattle.plan_rules.proofs.RowWise.{filter-map, filter-same}
 use Rattle.plan_rules.proofs.RuleViews.{both-some, filter-is, pair-along, pair-becomes, when-some}
 use Rattle.plan_rules.proofs.ShortRules.{where-means}
 use Rattle.plan_rules.proofs.Subplans.{one-columns}
+use Rattle.plan_rules.proofs.TermSteps.{call-terms, terms-Aggregate, terms-Chain, terms-Column, terms-Literal, terms-Path, terms-Step, terms-Window}
 use Rattle.plan_rules.proofs.Weights.{two-to-one, weight-Where}
 use Rattle.plan_rules.specs.Becomes.{Becomes}
 use Rattle.plan_rules.specs.Improves.{Improves}
-use Rattle.plan_rules.specs.Rules.{and_func, conjoined, terms_of, terms_of_call, terms_step, two_filters, when}
+use Rattle.plan_rules.specs.Rules.{and_func, conjoined, terms_in, terms_of, two_filters, when}
 use Rattle.plan_rules.specs.Views.{filter_of}
 use Rattle.plan_rules.specs.Weight.{mover}
 use Rattle.kql_meaning.specs.RowByRow.{is_plain}
@@ -99,25 +98,61 @@ and-one false = refl
 abbrev hold : Grid → ℕ → BExpr → Bool
 hold t i e = holds (val e t i [])
 
--- What is said of the terms of an expression.
-record Terms (e : BExpr) (ts : List BExpr) : Type 0 where
-  same : (t : Grid) (i : ℕ) → list_all (hold t i) ts ≡ hold t i e
-  fitting : (cs : List Column) → where_fits e cs ≡ true → (list_all (λ x. expr_fits x (scope_of cs) position.Window) ts ≡ true) × (ks : List Kind) × (all_known (kinds_in ts cs) ≡ Some ks) × (all_same kind.Bool ks ≡ true) × (0 < length ks)
+-- Conditions, and the types of several.
+
+abbrev conditions : List Column → List BExpr → Bool
+conditions cs es = list_all (λ e. where_fits e cs) es
+
+abbrev all_fit : List Column → List BExpr → Bool
+all_fit cs es = list_all (λ e. expr_fits e (scope_of cs) position.Window) es
 
 bool-kind : (o : Option Kind) → has_kind (same_kind kind.Bool) o ≡ true → o ≡ Some kind.Bool
 unfolding has_kind
 bool-kind None e = cc
 bool-kind (Some k) e = ap (λ x. Some x) (sym (same-kind kind.Bool k e))
 
-one-term : (e : BExpr) → Terms e (e ∷ [])
-unfolding where_fits fits_as all_known kinds_in all_same
-one-term e = record {
-  same = λ t i. and-one (hold t i e);
-  fitting = λ cs f.
-      let b = and_parts (expr_fits e (scope_of cs) position.Window) (has_kind (same_kind kind.Bool) (kind_of e cs)) f in
-      let known : kind_of e cs ≡ Some kind.Bool = bool-kind (kind_of e cs) b.1 in
-      (rw (b.0) refl, kind.Bool ∷ [], rw (known) refl, refl, omega arith);
-}
+condition-parts : (e : BExpr) (cs : List Column) → where_fits e cs ≡ true → (expr_fits e (scope_of cs) position.Window ≡ true) × (kind_of e cs ≡ Some kind.Bool)
+unfolding where_fits fits_as
+condition-parts e cs h = let b = and_parts (expr_fits e (scope_of cs) position.Window) (has_kind (same_kind kind.Bool) (kind_of e cs)) h in (b.0, bool-kind (kind_of e cs) b.1)
+
+condition : (e : BExpr) (cs : List Column) (k : Kind) → expr_fits e (scope_of cs) position.Window ≡ true → kind_of e cs ≡ Some k → same_kind kind.Bool k ≡ true → where_fits e cs ≡ true
+unfolding where_fits fits_as has_kind
+condition e cs k f known bool = rw (f, known, bool) refl
+
+-- The types of expressions that fit, each of which is that of a condition.
+record Typed (cs : List Column) (es : List BExpr) : Type 0 where
+  fit : all_fit cs es ≡ true
+  kinds : List Kind
+  known : all_known (kinds_in es cs) ≡ Some kinds
+  bools : all_same kind.Bool kinds ≡ true
+  as_many : length kinds ≡ length es
+
+typed : (cs : List Column) (es : List BExpr) → conditions cs es ≡ true → Typed cs es
+unfolding all_known kinds_in all_same
+typed cs [] h = record { fit = refl; kinds = []; known = refl; bools = refl; as_many = refl }
+typed cs (e ∷ es) h =
+    let b = and_parts (where_fits e cs) (conditions cs es) h in
+    let one = condition-parts e cs b.0 in
+    let more = typed cs es b.1 in
+    record { fit = rw (one.0, more.fit) refl; kinds = kind.Bool ∷ more.kinds; known = rw (one.1, more.known) refl; bools = more.bools; as_many = ap suc more.as_many }
+
+known-parts : (o : Option Kind) (more : Option (List Kind)) (ks : List Kind) → option_and_then (λ one. option_map (λ ls. one ∷ ls) more) o ≡ Some ks → (k : Kind) × (o ≡ Some k) × (ls : List Kind) × (more ≡ Some ls) × (ks ≡ k ∷ ls)
+known-parts None more ks e = absurd cc
+known-parts (Some k) None ks e = absurd cc
+known-parts (Some k) (Some ls) ks e = let same : k ∷ ls ≡ ks = cc in (k, refl, ls, refl, sym same)
+
+each-condition : (cs : List Column) (es : List BExpr) (ks : List Kind) → all_fit cs es ≡ true → all_known (kinds_in es cs) ≡ Some ks → all_same kind.Bool ks ≡ true → (conditions cs es ≡ true) × (length ks ≡ length es)
+unfolding all_known kinds_in all_same
+each-condition cs [] ks f known bools = let none : [] ≡ ks = cc in (refl, ap length (sym none))
+each-condition cs (e ∷ es) ks f known bools =
+    let k = known-parts (kind_of e cs) (all_known (kinds_in es cs)) ks known in
+    let a = and_parts (expr_fits e (scope_of cs) position.Window) (all_fit cs es) f in
+    let b = and_parts (same_kind kind.Bool k.0) (all_same kind.Bool k.2) (ap (all_same kind.Bool) (sym k.4) ∙ bools) in
+    let one = condition e cs k.0 a.0 k.1 b.0 in
+    let more = each-condition cs es k.2 a.1 k.3 b.1 in
+    (rw (one, more.0) refl, ap length k.4 ∙ ap suc more.1)
+
+-- The arguments of an `and` that is a condition are conditions, and there are some.
 
 some-kind : (o : Option Kind) → is_some o ≡ true → (k : Kind) × (o ≡ Some k)
 some-kind None e = cc
@@ -135,31 +170,87 @@ unfolding result_kind logic_kind
 call-some None k e = absurd cc
 call-some (Some ks) k e = let b = several-some ks k e in (ks, refl, b.0, b.1)
 
-and-terms : (args : List BExpr) → Terms (E.Call and_func args) args
-unfolding where_fits fits_as call_kind
-and-terms args = record {
-  same = λ t i. sym (ap holds (val-Call and_func args t i []) ∙ (and-holds (values_in args t i []) ∙ all-values args t i));
-  fitting = λ cs f.
-      let b = and_parts (expr_fits (E.Call and_func args) (scope_of cs) position.Window) (has_kind (same_kind kind.Bool) (kind_of (E.Call and_func args) cs)) f in
-      let c = and_parts (is_callable and_func) (list_all (λ e. expr_fits e (scope_of cs) position.Window) args && (part_fits and_func args && is_some (call_kind and_func (kinds_in args cs)))) (sym (fits-Call and_func args (scope_of cs) position.Window) ∙ b.0) in
-      let d = and_parts (list_all (λ e. expr_fits e (scope_of cs) position.Window) args) (part_fits and_func args && is_some (call_kind and_func (kinds_in args cs))) c.1 in
-      let k = and_parts (part_fits and_func args) (is_some (call_kind and_func (kinds_in args cs))) d.1 in
-      let s = some-kind (call_kind and_func (kinds_in args cs)) k.1 in
-      let r = call-some (all_known (kinds_in args cs)) s.0 s.1 in
-      (d.0, r.0, r.1, r.2, r.3);
+and-args : (args : List BExpr) (cs : List Column) → where_fits (E.Call and_func args) cs ≡ true → (conditions cs args ≡ true) × (0 < length args)
+unfolding call_kind
+and-args args cs h =
+    let a = condition-parts (E.Call and_func args) cs h in
+    let takes = is_some (call_kind and_func (kinds_in args cs)) in
+    let b = and_parts (is_callable and_func) (all_fit cs args && (part_fits and_func args && takes)) (sym (fits-Call and_func args (scope_of cs) position.Window) ∙ a.0) in
+    let c = and_parts (all_fit cs args) (part_fits and_func args && takes) b.1 in
+    let d = and_parts (part_fits and_func args) takes c.1 in
+    let k = some-kind (call_kind and_func (kinds_in args cs)) d.1 in
+    let r = call-some (all_known (kinds_in args cs)) k.0 k.1 in
+    let each = each-condition cs args r.0 c.0 r.1 r.2 in
+    (each.0, subst (λ n. 0 < n) each.1 r.3)
+
+-- What is said of the terms of an expression: they all hold where it does, and where it is a condition they are, and there are some.
+record Terms (e : BExpr) (ts : List BExpr) : Type 0 where
+  same : (t : Grid) (i : ℕ) → list_all (hold t i) ts ≡ hold t i e
+  fitting : (cs : List Column) → where_fits e cs ≡ true → (conditions cs ts ≡ true) × (0 < length ts)
+
+abbrev HasTerms : BExpr → Type 0
+HasTerms e = Terms e (terms_of e)
+
+one-term : (e : BExpr) → Terms e (e ∷ [])
+one-term e = record { same = λ t i. and-one (hold t i e); fitting = λ cs h. (rw h refl, omega arith) }
+
+stands-alone : (e : BExpr) → terms_of e ≡ e ∷ [] → HasTerms e
+stands-alone e is = subst (Terms e) (sym is) (one-term e)
+
+-- Several.
+
+abbrev Given : Type 0
+Given = (e : BExpr) × HasTerms e
+
+abbrev bare : Given → BExpr
+bare g = g.0
+
+abbrev bare_link : ChainSign × Given → ChainSign × BExpr
+bare_link l = (l.0, l.1.0)
+
+terms-hold : (gs : List Given) (t : Grid) (i : ℕ) → list_all (hold t i) (terms_in (map bare gs)) ≡ list_all (hold t i) (map bare gs)
+unfolding terms_in
+terms-hold [] t i = refl
+terms-hold (g ∷ gs) t i = all-append (hold t i) (terms_of g.0) (terms_in (map bare gs)) ∙ ap₂ (λ a b. a && b) (g.1.same t i) (terms-hold gs t i)
+
+terms-fit : (gs : List Given) (cs : List Column) → conditions cs (map bare gs) ≡ true → conditions cs (terms_in (map bare gs)) ≡ true
+unfolding terms_in
+terms-fit [] cs h = refl
+terms-fit (g ∷ gs) cs h =
+    let b = and_parts (where_fits g.0 cs) (conditions cs (map bare gs)) h in
+    all-append (λ e. where_fits e cs) (terms_of g.0) (terms_in (map bare gs)) ∙ rw ((g.1.fitting cs b.0).0, terms-fit gs cs b.1) refl
+
+length-append : {X : Type 0} (xs ys : List X) → length (xs ++ ys) ≡ length xs + length ys
+length-append [] ys = omega arith
+length-append (x ∷ xs) ys = let e = length-append xs ys in omega (arith, e)
+
+terms-some : (gs : List Given) (cs : List Column) → conditions cs (map bare gs) ≡ true → 0 < length (map bare gs) → 0 < length (terms_in (map bare gs))
+unfolding terms_in
+terms-some [] cs h some = absurd (omega (arith, some))
+terms-some (g ∷ gs) cs h some =
+    let b = and_parts (where_fits g.0 cs) (conditions cs (map bare gs)) h in
+    let first = (g.1.fitting cs b.0).1 in
+    let n = length-append (terms_of g.0) (terms_in (map bare gs)) in
+    omega (arith, first, n)
+
+and-has-terms : (gs : List Given) → Terms (E.Call and_func (map bare gs)) (terms_in (map bare gs))
+and-has-terms gs = record {
+  same = λ t i. terms-hold gs t i ∙ sym (ap holds (val-Call and_func (map bare gs) t i []) ∙ (and-holds (values_in (map bare gs) t i []) ∙ all-values (map bare gs) t i));
+  fitting = λ cs h. let b = and-args (map bare gs) cs h in (terms-fit gs cs b.0, terms-some gs cs b.0 b.1);
 }
 
-terms-call : (f : Func) (args : List BExpr) (e : BExpr) → e ≡ E.Call f args → Terms e (terms_of_call f args e)
-terms-call (func.Logic logic_func.And) args e same = subst (λ x. Terms x args) (sym same) (and-terms args)
-terms-call _ args e same = one-term e
+of-layer : (y : BExpr-F Given) → HasTerms (roll-BExpr (map-BExpr Given BExpr bare y))
+of-layer (BExpr-F.Literal l) = subst HasTerms (sym (E.rolls-Literal l)) (stands-alone (E.Literal l) (terms-Literal l))
+of-layer (BExpr-F.Column n) = subst HasTerms (sym (E.rolls-Column n)) (stands-alone (E.Column n) (terms-Column n))
+of-layer (BExpr-F.Step c) = subst HasTerms (sym (E.rolls-Step c)) (stands-alone (E.Step c) (terms-Step c))
+of-layer (BExpr-F.Call f gs) = subst HasTerms (sym (E.rolls-Call f (map bare gs))) (call-terms Terms (λ e none. one-term e) f (map bare gs) (and-has-terms gs))
+of-layer (BExpr-F.Chain first gs) = subst HasTerms (sym (E.rolls-Chain first.0 (map bare_link gs))) (stands-alone (E.Chain first.0 (map bare_link gs)) (terms-Chain first.0 (map bare_link gs)))
+of-layer (BExpr-F.Path whole gs) = subst HasTerms (sym (E.rolls-Path whole.0 (map bare gs))) (stands-alone (E.Path whole.0 (map bare gs)) (terms-Path whole.0 (map bare gs)))
+of-layer (BExpr-F.Window f gs) = subst HasTerms (sym (E.rolls-Window f (map bare gs))) (stands-alone (E.Window f (map bare gs)) (terms-Window f (map bare gs)))
+of-layer (BExpr-F.Aggregate f gs) = subst HasTerms (sym (E.rolls-Aggregate f (map bare gs))) (stands-alone (E.Aggregate f (map bare gs)) (terms-Aggregate f (map bare gs)))
 
-terms-at : (y : BExpr-F BExpr) (e : BExpr) → out-BExpr e ≡ y → Terms e (terms_step y e)
-terms-at (BExpr-F.Call f args) e o = terms-call f args e (sym (roll-out-BExpr e) ∙ (ap roll-BExpr o ∙ E.rolls-Call f args))
-terms-at _ e o = one-term e
-
-terms : (e : BExpr) → Terms e (terms_of e)
-unfolding terms_of
-terms e = terms-at (out-BExpr e) e refl
+terms : (e : BExpr) → HasTerms e
+terms = ind-BExpr HasTerms (λ x y is. subst (λ (z : BExpr-F BExpr). HasTerms (roll-BExpr z)) is (of-layer y))
 
 -- Both.
 
@@ -169,46 +260,28 @@ conjoined-holds p q t i =
     let es = terms_of p ++ terms_of q in
     ap holds (val-Call and_func es t i []) ∙ (and-holds (values_in es t i []) ∙ (all-values es t i ∙ (all-append (hold t i) (terms_of p) (terms_of q) ∙ ap₂ (λ a b. a && b) ((terms p).same t i) ((terms q).same t i))))
 
-kinds-append : (es ds : List BExpr) (cs : List Column) → kinds_in (es ++ ds) cs ≡ kinds_in es cs ++ kinds_in ds cs
-unfolding kinds_in
-kinds-append [] ds cs = refl
-kinds-append (e ∷ es) ds cs = ap (λ ks. kind_of e cs ∷ ks) (kinds-append es ds cs)
+and-call : (ks : List Kind) → all_same kind.Bool ks ≡ true → 2 ≤ length ks → result_kind and_func ks ≡ Some kind.Bool
+unfolding result_kind logic_kind several_of
+and-call ks bools two =
+    let enough : nat_le 2 (length ks) ≡ true = grind (arith, two) in
+    rw (enough, bools) refl
 
-known-append : (xs ys : List (Option Kind)) (ks ls : List Kind) → all_known xs ≡ Some ks → all_known ys ≡ Some ls → all_known (xs ++ ys) ≡ Some (ks ++ ls)
-unfolding all_known
-known-append [] ys ks ls e f = let none : [] ≡ ks = cc in f ∙ ap (λ zs. Some (zs ++ ls)) none
-known-append (None ∷ xs) ys ks ls e f = cc
-known-append (Some x ∷ xs) ys ks ls e f = of-rest (all_known xs) (λ ms g. known-append xs ys ms ls g f) refl e
-  where
-    of-rest : (o : Option (List Kind)) → ((ms : List Kind) → all_known xs ≡ Some ms → all_known (xs ++ ys) ≡ Some (ms ++ ls)) → all_known xs ≡ o → option_map (λ more. x ∷ more) o ≡ Some ks → option_map (λ more. x ∷ more) (all_known (xs ++ ys)) ≡ Some (ks ++ ls)
-    of-rest None rest g h = cc
-    of-rest (Some ms) rest g h = let same : x ∷ ms ≡ ks = cc in rw (rest ms g, ← same) refl
-
-length-append : {X : Type 0} (xs ys : List X) → length (xs ++ ys) ≡ length xs + length ys
-length-append [] ys = omega arith
-length-append (x ∷ xs) ys = let e = length-append xs ys in omega (arith, e)
-
-and-call : (ks ls : List Kind) → all_same kind.Bool ks ≡ true → all_same kind.Bool ls ≡ true → 0 < length ks → 0 < length ls → result_kind and_func (ks ++ ls) ≡ Some kind.Bool
-unfolding result_kind logic_kind several_of all_same
-and-call ks ls a b x y =
-    let two : nat_le 2 (length (ks ++ ls)) ≡ true = let n = length-append ks ls in grind (arith, n, x, y) in
-    rw (two, all-append (same_kind kind.Bool) ks ls, a, b) refl
-
-both-fit : (es : List BExpr) (cs : List Column) → list_all (λ x. expr_fits x (scope_of cs) position.Window) es ≡ true → call_kind and_func (kinds_in es cs) ≡ Some kind.Bool → (is_callable and_func && (list_all (λ e. expr_fits e (scope_of cs) position.Window) es && (part_fits and_func es && is_some (call_kind and_func (kinds_in es cs))))) ≡ true
-unfolding is_callable part_fits
-both-fit es cs all given = rw (all, given) refl
+and-fits : (es : List BExpr) (cs : List Column) → conditions cs es ≡ true → 2 ≤ length es → where_fits (E.Call and_func es) cs ≡ true
+unfolding call_kind is_callable part_fits
+and-fits es cs h two =
+    let each = typed cs es h in
+    let many = each.as_many in
+    let given : call_kind and_func (kinds_in es cs) ≡ Some kind.Bool = ap (option_and_then (result_kind and_func)) each.known ∙ and-call each.kinds each.bools (omega (arith, many, two)) in
+    let fits : expr_fits (E.Call and_func es) (scope_of cs) position.Window ≡ true = fits-Call and_func es (scope_of cs) position.Window ∙ rw (each.fit, given) refl in
+    condition (E.Call and_func es) cs kind.Bool fits (kind-Call and_func es cs ∙ given) refl
 
 pub conjoined-fits : (p q : BExpr) (cs : List Column) → where_fits p cs ≡ true → where_fits q cs ≡ true → where_fits (conjoined p q) cs ≡ true
-unfolding where_fits fits_as conjoined call_kind has_kind
+unfolding conjoined
 conjoined-fits p q cs f g =
     let a = (terms p).fitting cs f in
     let b = (terms q).fitting cs g in
-    let es = terms_of p ++ terms_of q in
-    let known : all_known (kinds_in es cs) ≡ Some (a.1 ++ b.1) = ap all_known (kinds-append (terms_of p) (terms_of q) cs) ∙ known-append (kinds_in (terms_of p) cs) (kinds_in (terms_of q) cs) a.1 b.1 a.2 b.2 in
-    let given : call_kind and_func (kinds_in es cs) ≡ Some kind.Bool = ap (option_and_then (result_kind and_func)) known ∙ and-call a.1 b.1 a.3 b.3 a.4 b.4 in
-    let all : list_all (λ x. expr_fits x (scope_of cs) position.Window) es ≡ true = all-append (λ x. expr_fits x (scope_of cs) position.Window) (terms_of p) (terms_of q) ∙ rw (a.0, b.0) refl in
-    let fits : expr_fits (E.Call and_func es) (scope_of cs) position.Window ≡ true = fits-Call and_func es (scope_of cs) position.Window ∙ both-fit es cs all given in
-    rw (fits, kind-Call and_func es cs, given) refl
+    let n = length-append (terms_of p) (terms_of q) in
+    and-fits (terms_of p ++ terms_of q) cs (all-append (λ e. where_fits e cs) (terms_of p) (terms_of q) ∙ rw (a.0, b.0) refl) (omega (arith, a.1, b.1, n))
 
 -- The rule.
 

@@ -1,6 +1,6 @@
 -- A filter of right columns goes into the right plan of a join, kind by kind.
 use Rattle.std.proofs.Common.{◌≡◌, ℕ, Bool, true, false, not, List, [], ◌∷◌, ◌++◌, map, filter, refl, sym, ap, ap₂, ◌∙◌, subst, inl, inr, arith}
-use Rattle.std.specs.Prelude.{◌&&◌, Option, None, Some, option_and_then, if◌then◌else◌}
+use Rattle.std.specs.Prelude.{◌&&◌, Option, None, Some, if◌then◌else◌}
 use Rattle.std.specs.List.{flat_map}
 use Rattle.std.proofs.Math.Path.{fun_ext}
 use Rattle.std.proofs.lemmas.Bool.{and_parts, cases_Bool}
@@ -39,7 +39,7 @@ use Rattle.plan_rules.proofs.Weights.{into-lighter, weight-Where, weight-more}
 use Rattle.plan_rules.specs.Becomes.{Becomes}
 use Rattle.plan_rules.specs.Improves.{Improves}
 use Rattle.plan_rules.specs.Reads.{reads_only, with_names}
-use Rattle.plan_rules.specs.Rules.{filtered, is_right_name, join_then_right_filter, reads_some, right_name, shows_right, takes_right, when}
+use Rattle.plan_rules.specs.Rules.{filtered, is_right_name, join_then_right_filter, reads_some, right_name, shows_right, takes_right}
 use Rattle.plan_rules.specs.Views.{filter_of, join_of}
 use Rattle.kql_meaning.specs.Fits.{joined_columns}
 use Rattle.kql_meaning.proofs.OperatorFitLaws.{join-out}

@@ -15,7 +15,7 @@ use Rattle.kql_bound.specs.declared.plan.Op.TheVariants as V
 use Rattle.kql_bound.specs.declared.plan.Plan.{Plan, fold_out-Plan}
 use Rattle.plan_rules.specs.Weight.{IsLighter, Weight, and_then, in_order, mover, nothing, op_weight, ops_weight, other, plan_weight, plan_weight_step, weight_step}
 
-weight-out : (o : Op) (f : Op-F Op Plan) → out-Op o ≡ f → op_weight o ≡ weight_step (map-Op Op Plan Weight Weight op_weight plan_weight f)
+pub weight-out : (o : Op) (f : Op-F Op Plan) → out-Op o ≡ f → op_weight o ≡ weight_step (map-Op Op Plan Weight Weight op_weight plan_weight f)
 unfolding op_weight plan_weight
 weight-out o f e = fold_out-Op Weight Weight weight_step plan_weight_step o ∙ ap (λ (g : Op-F Op Plan). weight_step (map-Op Op Plan Weight Weight op_weight plan_weight g)) e
 

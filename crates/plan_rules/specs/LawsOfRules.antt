@@ -1,9 +1,12 @@
 -- What each rule keeps: where it fires, the operators become others that fit what these fit, mean the same, and are lighter.
-use Rattle.std.specs.Prelude.{◌≡◌, Bool, List, [], ◌∷◌, Option, Some}
+use Rattle.std.specs.Prelude.{◌≡◌, Bool, true, List, [], ◌∷◌, Option, Some}
+use Rattle.std.specs.List.{list_all}
 use Rattle.kql_cells.specs.declared.schema.Column.{Column}
+use Rattle.kql_bound.specs.declared.expr.BExpr.{BExpr}
 use Rattle.kql_bound.specs.declared.plan.Op.{Op}
 use Rattle.kql_meaning.specs.Fits.{Known}
 use Rattle.plan_rules.specs.Improves.{Improves}
+use Rattle.plan_rules.specs.Rules.{is_single, terms_of}
 
 -- A rule on one operator.
 abbrev pub OneImproves : (Op → Option (List Op)) → Type 0
@@ -24,3 +27,7 @@ PairImprovesOver rule = (k : Known) (inside : Bool) (cs : List Column) (x y : Op
 -- And of one that looks at what a plan may name.
 abbrev pub PairImprovesIn : (Known → List Column → Op → Op → Option (List Op)) → Type 0
 PairImprovesIn rule = (k : Known) (inside : Bool) (cs : List Column) (x y : Op) (zs : List Op) → rule k cs x y ≡ Some zs → Improves k inside cs (x ∷ y ∷ []) zs
+
+-- No term of an expression is an `and`. The filter that two filters become has the terms of both.
+abbrev pub TermsAreSingle : Type 0
+TermsAreSingle = (e : BExpr) → list_all is_single (terms_of e) ≡ true

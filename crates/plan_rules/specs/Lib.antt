@@ -1,6 +1,9 @@
 pub mod Becomes
 pub mod Constants
+pub mod FoldedPlans
+pub mod Folding
 pub mod Improves
+pub mod LawsOfFolding
 pub mod LawsOfRules
 pub mod OwnNames
 pub mod Reads

@@ -1,12 +1,12 @@
 -- The rules: what one operator, or two neighbours, become over tables of these columns; none where a rule does not fire.
-use Rattle.std.specs.Prelude.{ℕ, Bool, true, false, not, ◌&&◌, ◌++◌, List, [], ◌∷◌, Option, None, Some, bytes_eq, cond, is_some, map, min, option_and_then, option_map, if◌then◌else◌}
+use Rattle.std.specs.Prelude.{ℕ, Bool, true, false, not, ◌&&◌, ◌++◌, List, [], ◌∷◌, Option, None, Some, bytes_eq, cond, flat_map, is_some, map, min, option_and_then, option_map, unwrap_or, if◌then◌else◌}
 use Rattle.kql_cells.specs.declared.schema.Column.{Column}
 use Rattle.kql_cells.specs.declared.value.Value.{Value}
 use Rattle.kql_cells.specs.declared.value.Value.TheVariants as value
 use Rattle.kql_functions.specs.declared.func.Func.{Func}
 use Rattle.kql_functions.specs.declared.func.Func.TheVariants as func
 use Rattle.kql_functions.specs.declared.func.LogicFunc.TheVariants as logic
-use Rattle.kql_bound.specs.declared.expr.BExpr.{BExpr, out-BExpr}
+use Rattle.kql_bound.specs.declared.expr.BExpr.{BExpr, para-BExpr}
 use Rattle.kql_bound.specs.declared.expr.BExpr.TheOpen.{BExpr-F}
 use Rattle.kql_bound.specs.declared.expr.BExpr.TheVariants as V
 use Rattle.kql_bound.specs.declared.literal.Lit.{Lit}
@@ -48,20 +48,40 @@ abbrev pub is_true_literal : Option Lit → Bool
 is_true_literal None = false
 is_true_literal (Some l) = is_true_value l.value
 
--- The terms of an `and`, and any other expression alone.
 abbrev pub and_func : Func
 and_func = func.Logic logic.And
 
-abbrev pub terms_of_call : Func → List BExpr → BExpr → List BExpr
-terms_of_call (func.Logic logic.And) args e = args
-terms_of_call _ args e = e ∷ []
+-- The terms of an expression: those of each argument of an `and`, so that an `and` in an `and` gives its own singly, and any other expression
+-- alone.
 
-abbrev pub terms_step : BExpr-F BExpr → BExpr → List BExpr
-terms_step (BExpr-F.Call f args) e = terms_of_call f args e
-terms_step _ e = e ∷ []
+-- An expression, and its terms where it is an `and`.
+abbrev pub WithTerms : Type 0
+WithTerms = BExpr × Option (List BExpr)
+
+abbrev pub terms_or_alone : WithTerms → List BExpr
+terms_or_alone w = unwrap_or w.1 (w.0 ∷ [])
+
+abbrev pub terms_of_call : Func → List WithTerms → Option (List BExpr)
+terms_of_call (func.Logic logic.And) args = Some (flat_map terms_or_alone args)
+terms_of_call _ args = None
+
+abbrev pub terms_step : BExpr-F WithTerms → Option (List BExpr)
+terms_step (BExpr-F.Call f args) = terms_of_call f args
+terms_step _ = None
+
+unfoldable pub and_terms : BExpr → Option (List BExpr)
+and_terms = para-BExpr (Option (List BExpr)) terms_step
 
 unfoldable pub terms_of : BExpr → List BExpr
-terms_of e = terms_step (out-BExpr e) e
+terms_of e = terms_or_alone (e, and_terms e)
+
+-- Those of several.
+unfoldable pub terms_in : List BExpr → List BExpr
+terms_in es = flat_map terms_of es
+
+-- Whether an expression is no `and`, as no term is.
+unfoldable pub is_single : BExpr → Bool
+is_single e = not (is_some (and_terms e))
 
 unfoldable pub conjoined : BExpr → BExpr → BExpr
 conjoined p q = V.Call and_func (terms_of p ++ terms_of q)

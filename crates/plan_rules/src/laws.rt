@@ -1,15 +1,17 @@
 //! The laws.
-ghost use Rattle.plan_rules.specs.LawsOfRules.{OneImproves, OneImprovesOver, PairImproves, PairImprovesIn, PairImprovesOver};
+ghost use Rattle.plan_rules.specs.LawsOfFolding.{FoldingConstants, FoldingFits, FoldingPrograms, FoldingReads};
+ghost use Rattle.plan_rules.specs.LawsOfRules.{OneImproves, OneImprovesOver, PairImproves, PairImprovesIn, PairImprovesOver, TermsAreSingle};
 ghost use Rattle.plan_rules.specs.Rules.{bare_serialize, expand_then_filter, extend_then_filter, extend_then_take, group_then_filter, idle_projection, join_then_filter, join_then_right_filter, parse_then_filter, parse_then_take, project_then_filter, project_then_take, sort_then_filter, sort_then_take, top_then_take, true_filter, two_filters, two_projections, two_sorts, two_takes, unique_then_filter, unseen_then_count};
 
 /// The rules that leave fewer operators: a filter of the literal true, a bare `serialize` and a projection of all columns under their
 /// names are nothing; two filters, two takes, two sorts and two projections are one; `sort` and `take` are `top`, and so are `top` and
-/// `take`; and a count does not see `sort`, `extend` or `project`.
+/// `take`; and a count does not see `sort`, `extend` or `project`. The terms of two filters, which become one, are taken singly.
 pub fn law_of_shortening()
     ensures true_filter { OneImproves true_filter }
     ensures bare_serialize { OneImproves bare_serialize }
     ensures idle_projection { OneImprovesOver idle_projection }
     ensures two_filters { PairImproves two_filters }
+    ensures single { TermsAreSingle }
     ensures two_takes { PairImproves two_takes }
     ensures sort_then_take { PairImproves sort_then_take }
     ensures top_then_take { PairImproves top_then_take }
@@ -38,4 +40,15 @@ pub fn law_of_takes()
     ensures extend_then_take { PairImproves extend_then_take }
     ensures project_then_take { PairImproves project_then_take }
     ensures parse_then_take { PairImproves parse_then_take }
+{}
+
+/// The rule on the nodes of expressions: a node that is a constant and no literal becomes the literal of its value. What an expression
+/// becomes reads as it did, so it has the same type and value wherever it stands; it fits where it fitted, and then no node of it is a
+/// constant, but for literals. So what a program becomes fits what that fitted and means the same.
+#[tactic(auto, using(crate::proofs::FoldingLaws::folding_laws))]
+pub fn law_of_constants()
+    ensures reading { FoldingReads }
+    ensures fitting { FoldingFits }
+    ensures constants { FoldingConstants }
+    ensures programs { FoldingPrograms }
 {}

@@ -1,4 +1,5 @@
 use Rattle.plan_rules.proofs.RuleLaws.{true_filter_law, bare_serialize_law, idle_projection_law, two_filters_law, two_takes_law, sort_then_take_law, top_then_take_law, two_sorts_law, two_projections_law, unseen_then_count_law}
+use Rattle.plan_rules.proofs.TermSteps.{terms-single}
 use Rattle.plan_rules.proofs.laws.law_of_shortening.Goals as goal
 
 pub returns-clause-true_filter : goal.returns-clause-true_filter
@@ -12,6 +13,9 @@ returns-clause-idle_projection c = idle_projection_law
 
 pub returns-clause-two_filters : goal.returns-clause-two_filters
 returns-clause-two_filters c = two_filters_law
+
+pub returns-clause-single : goal.returns-clause-single
+returns-clause-single c = terms-single
 
 pub returns-clause-two_takes : goal.returns-clause-two_takes
 returns-clause-two_takes c = two_takes_law
