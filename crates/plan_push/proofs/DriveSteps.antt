@@ -23,7 +23,9 @@ use Rattle.plan_rules.specs.Improves.{Improves, PlanImproves, PlansImprove}
 use Rattle.plan_push.specs.Table.{rule_at}
 use Rattle.plan_push.specs.Settled.{if_known, settled_op, settled_ops, settled_plan}
 use Rattle.plan_rules.specs.Weight.{IsLighter, Weight, and_then, in_order, nothing, op_weight, ops_weight, other, plan_weight}
-use Rattle.plan_push.proofs.RuleTable.{improves-append, improves-behind, rule_at-improves}
+use Rattle.plan_push.proofs.RuleTable.{improves-append, improves-behind}
+use Rattle.plan_push.proofs.WalkSteps.{still-rest, still-rule}
+use Rattle.plan_push.specs.Walk.{is_still}
 use Rattle.plan_columns.specs.Made.{op_makes, plan_makes, source_makes}
 use Rattle.plan_columns.proofs.MadeLaws.{op-makes, plan-makes-its, source-makes}
 
@@ -189,27 +191,7 @@ take-drop ops zero = refl
 take-drop [] (suc i) = refl
 take-drop (o ∷ os) (suc i) = ap (λ xs. o ∷ xs) (take-drop os i)
 
-take-all : (ops : List Op) (n : ℕ) → length ops ≤ n → take n ops ≡ ops
-take-all [] zero h = refl
-take-all [] (suc n) h = refl
-take-all (o ∷ os) zero h = absurd (omega arith)
-take-all (o ∷ os) (suc n) h = ap (λ xs. o ∷ xs) (take-all os n (omega arith))
-
-drop-length : (ops : List Op) (i : ℕ) → length (drop i ops) ≤ length ops - i
-drop-length ops zero = omega arith
-drop-length [] (suc i) = omega arith
-drop-length (o ∷ os) (suc i) = let h = drop-length os i in omega (arith, h)
-
-pub rest-all : (ops : List Op) (i : ℕ) → take (length ops - i) (drop i ops) ≡ drop i ops
-rest-all ops i = take-all (drop i ops) (length ops - i) (drop-length ops i)
-
-pub ops-rule : EachOpKeeps → (ops : List Op) (i : ℕ) (k : Known) (inside : Bool) (cs before now : List Column) (rest made all : List Op) → ops_columns (take i ops) k inside cs ≡ Some before → now ≡ before → rest ≡ take (length ops - i) (drop i ops) → Some made ≡ rule_at k now rest → all ≡ take i ops ++ made → Improves k inside cs ops all
-ops-rule each ops i k inside cs before now rest made all e n r f a =
-    let fires : rule_at k before (drop i ops) ≡ Some made = ap₂ (λ x y. rule_at k x y) (sym n) (sym (r ∙ rest-all ops i)) ∙ sym f in
-    let here = improves-behind each k inside cs before (take i ops) (drop i ops) made e (rule_at-improves k inside before (drop i ops) made fires) in
-    subst (λ xs. Improves k inside cs xs all) (take-drop ops i) (subst (λ ys. Improves k inside cs (take i ops ++ drop i ops) ys) (sym a) here)
-
-one-more : (ops : List Op) (i : ℕ) (x : Op) → i < length ops → x ≡ get_or ops i x → drop i ops ≡ x ∷ drop (suc i) ops
+pub one-more : (ops : List Op) (i : ℕ) (x : Op) → i < length ops → x ≡ get_or ops i x → drop i ops ≡ x ∷ drop (suc i) ops
 one-more ops i x lt e = drop-at ops i x lt ∙ ap (λ y. y ∷ drop (suc i) ops) (sym e)
 
 columns-at : (ops : List Op) (i : ℕ) (k : Known) (inside : Bool) (cs before : List Column) → ops_columns (take i ops) k inside cs ≡ Some before → ops_columns ops k inside cs ≡ ops_columns (drop i ops) k inside before
@@ -227,21 +209,11 @@ op-there ops i x k inside cs before now lt at e n h =
     subst (λ c. IsSome (op_columns x k inside c)) (sym n)
     (next-there x (drop (suc i) ops) k inside before ds.0 (op_columns x k inside before) refl (ap (λ z. fold (after k inside) z (drop (suc i) ops)) (sym (after-some k inside before x)) ∙ (sym (ops-fold (x ∷ drop (suc i) ops) k inside before) ∙ behind)))
 
-pub ops-op : EachOpKeeps → (ops : List Op) (i : ℕ) (x y : Op) (k : Known) (inside : Bool) (cs before now : List Column) (rest made all : List Op) → i < length ops → x ≡ get_or ops i x → ops_columns (take i ops) k inside cs ≡ Some before → now ≡ before → Improves k inside now (x ∷ []) (y ∷ []) → rest ≡ take (length ops - (i + 1)) (drop (i + 1) ops) → made ≡ y ∷ rest → all ≡ take i ops ++ made → Improves k inside cs ops all
-ops-op each ops i x y k inside cs before now rest made all lt at e n h r m a =
-    let on : i + 1 ≡ suc i = omega arith in
-    let behind : rest ≡ drop (suc i) ops = r ∙ (rest-all ops (i + 1) ∙ ap (λ j. drop j ops) on) in
-    let one = improves-append k inside before (x ∷ []) (y ∷ []) (drop (suc i) ops) (subst (λ c. Improves k inside c (x ∷ []) (y ∷ [])) n h) in
-    let here = improves-behind each k inside cs before (take i ops) (x ∷ drop (suc i) ops) (y ∷ drop (suc i) ops) e one in
-    let whole : take i ops ++ (x ∷ drop (suc i) ops) ≡ ops = ap (λ zs. take i ops ++ zs) (sym (one-more ops i x lt at)) ∙ take-drop ops i in
-    let made_is : all ≡ take i ops ++ (y ∷ drop (suc i) ops) = a ∙ ap (λ zs. take i ops ++ zs) (m ∙ ap (λ zs. y ∷ zs) behind) in
-    subst (λ xs. Improves k inside cs xs all) whole (subst (λ ys. Improves k inside cs (take i ops ++ (x ∷ drop (suc i) ops)) ys) (sym made_is) here)
-
-pub settled-on : (ops : List Op) (i : ℕ) (x : Op) (k : Known) (inside : Bool) (cs before now mid : List Column) (rest : List Op) → i < length ops → x ≡ get_or ops i x → now ≡ before → rest ≡ take (length ops - i) (drop i ops) → rule_at k now rest ≡ None → settled_op x k inside now ≡ true → op_columns x k inside now ≡ Some mid → settled_ops ops k inside cs ≡ settled_ops (drop i ops) k inside before → settled_ops ops k inside cs ≡ settled_ops (drop (i + 1) ops) k inside mid
-settled-on ops i x k inside cs before now mid rest lt at n r f s o h =
+pub settled-on : (ops : List Op) (i : ℕ) (x : Op) (k : Known) (inside : Bool) (cs before mid : List Column) → i < length ops → x ≡ get_or ops i x → is_still (drop i ops) k inside before ≡ true → settled_op x k inside before ≡ true → op_columns x k inside before ≡ Some mid → settled_ops ops k inside cs ≡ settled_ops (drop i ops) k inside before → settled_ops ops k inside cs ≡ settled_ops (drop (i + 1) ops) k inside mid
+settled-on ops i x k inside cs before mid lt at q s o h =
     let on : suc i ≡ i + 1 = omega arith in
-    let quiet : rule_at k before (x ∷ drop (suc i) ops) ≡ None = ap₂ (λ c xs. rule_at k c xs) (sym n) (sym (r ∙ (rest-all ops i ∙ one-more ops i x lt at))) ∙ f in
-    h ∙ (ap (λ xs. settled_ops xs k inside before) (one-more ops i x lt at) ∙ (settled-next x (drop (suc i) ops) k inside before mid quiet (subst (λ c. settled_op x k inside c ≡ true) n s) (subst (λ c. op_columns x k inside c ≡ Some mid) n o) ∙ ap (λ j. settled_ops (drop j ops) k inside mid) on))
+    let quiet = still-rule k inside before x (drop (suc i) ops) (ap (λ xs. is_still xs k inside before) (sym (one-more ops i x lt at)) ∙ q) in
+    h ∙ (ap (λ xs. settled_ops xs k inside before) (one-more ops i x lt at) ∙ (settled-next x (drop (suc i) ops) k inside before mid quiet s o ∙ ap (λ j. settled_ops (drop j ops) k inside mid) on))
 
 pub settled-end : (ops : List Op) (i : ℕ) (k : Known) (inside : Bool) (cs before : List Column) → length ops ≤ i → settled_ops ops k inside cs ≡ settled_ops (drop i ops) k inside before → settled_ops ops k inside cs ≡ true
 settled-end ops i k inside cs before h e = e ∙ (ap (λ xs. settled_ops xs k inside before) (drop-all ops i h) ∙ settled-nil k inside before)
@@ -278,12 +250,7 @@ pub turn-columns : (ops : List Op) (i : ℕ) (x : Op) (k : Known) (inside : Bool
 turn-columns ops i x k inside cs before now mid lt at n e o =
     ops-more ops k inside cs i x before (Some mid) lt e (sym o ∙ ap₂ (λ y c. op_columns y k inside c) at n)
 
-pub turn-settled : (ops : List Op) (i : ℕ) (x y : Op) (k : Known) (inside : Bool) (cs before now1 now2 now3 mid : List Column) (rest : List Op) → i < length ops → x ≡ get_or ops i x → y ≡ get_or ops i y → now1 ≡ before → now2 ≡ before → now3 ≡ before → rest ≡ take (length ops - i) (drop i ops) → rule_at k now1 rest ≡ None → settled_op x k inside now2 ≡ true → op_columns y k inside now3 ≡ Some mid → settled_ops ops k inside cs ≡ settled_ops (drop i ops) k inside before → settled_ops ops k inside cs ≡ settled_ops (drop (i + 1) ops) k inside mid
-turn-settled ops i x y k inside cs before now1 now2 now3 mid rest lt at on1 a b c r f s o h =
-    let same : y ≡ x = at-either ops i y x lt on1 at in
-    settled-on ops i x k inside cs before before mid rest lt at refl r (ap (λ m. rule_at k m rest) (sym a) ∙ f) (ap (λ m. settled_op x k inside m) (sym b) ∙ s) (ap₂ (λ z m. op_columns z k inside m) (sym same) (sym c) ∙ o) h
-  where
-    at-either : (xs : List Op) (j : ℕ) (u v : Op) → j < length xs → u ≡ get_or xs j u → v ≡ get_or xs j v → u ≡ v
-    at-either [] j u v g p q = absurd (omega arith)
-    at-either (z ∷ zs) zero u v g p q = p ∙ sym q
-    at-either (z ∷ zs) (suc j) u v g p q = at-either zs j u v (omega arith) p q
+pub turn-still : (ops : List Op) (i : ℕ) (y : Op) (k : Known) (inside : Bool) (before now mid : List Column) → i < length ops → y ≡ get_or ops i y → now ≡ before → op_columns y k inside now ≡ Some mid → is_still (drop i ops) k inside before ≡ true → is_still (drop (i + 1) ops) k inside mid ≡ true
+turn-still ops i y k inside before now mid lt at n o q =
+    let on : i + 1 ≡ suc i = omega arith in
+    ap (λ j. is_still (drop j ops) k inside mid) on ∙ still-rest k inside before mid y (drop (suc i) ops) (ap (λ c. op_columns y k inside c) (sym n) ∙ o) (ap (λ xs. is_still xs k inside before) (sym (one-more ops i y lt at)) ∙ q)

@@ -3,8 +3,10 @@ pub mod DriveSteps
 pub mod FrontViewSteps
 pub mod InnerSteps
 pub mod ProgramSteps
+pub mod RewrittenSteps
 pub mod RuleTable
 pub mod SettleSteps
+pub mod SettledFits
 pub mod SettledSteps
-pub mod TermSteps
+pub mod WalkSteps
 pub mod ViewSteps

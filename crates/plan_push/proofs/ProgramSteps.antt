@@ -14,7 +14,7 @@ use Rattle.plan_rules.proofs.Programs.{main-columns, program-becomes}
 use Rattle.plan_rules.proofs.Weights.{lighter-before, lighter-behind, order-append}
 use Rattle.plan_rules.specs.Becomes.{EachBecomes, LetsBecome, PlanBecomes, ProgramBecomes}
 use Rattle.plan_rules.specs.Improves.{AreNoLonger, IsNoLonger, PlanImproves, PlansImprove, ProgramImproves}
-use Rattle.plan_push.specs.Settled.{if_known, lets_settled, settled, settled_plan}
+use Rattle.plan_push.specs.Settled.{if_known, is_quiet, lets_settled, settled_plan}
 use Rattle.plan_rules.specs.Weight.{IsLighter, Weight, and_then, in_order, plan_weight, program_weight}
 use Rattle.plan_push.proofs.DriveSteps.{found-none, found-some, none-there, there}
 
@@ -206,8 +206,8 @@ main-improves each p q i made ls lt f h same =
       fits = still-there p r refl lets main;
     })
 
-pub program-settled : (p : Program) (i : ℕ) (ls : List (List Column)) → length p.lets ≤ i → lets_columns (take i p.lets) p.tables ≡ Some ls → lets_settled p.tables [] p.lets ≡ lets_settled p.tables ls (drop i p.lets) → settled_plan p.main (known_of p.tables ls) ≡ true → settled p ≡ true
-unfolding settled
+pub program-settled : (p : Program) (i : ℕ) (ls : List (List Column)) → length p.lets ≤ i → lets_columns (take i p.lets) p.tables ≡ Some ls → lets_settled p.tables [] p.lets ≡ lets_settled p.tables ls (drop i p.lets) → settled_plan p.main (known_of p.tables ls) ≡ true → is_quiet p ≡ true
+unfolding is_quiet
 program-settled p i ls lt f e s =
     let whole : lets_columns p.lets p.tables ≡ Some ls = ap (λ ps. lets_columns ps p.tables) (sym (take-all p.lets i lt)) ∙ f in
     let all : lets_settled p.tables [] p.lets ≡ true = e ∙ lets-end p.tables p.lets i ls lt in

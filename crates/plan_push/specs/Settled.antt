@@ -1,4 +1,4 @@
--- No rule fires anywhere in a program, its lets or its subplans.
+-- No rule fires anywhere in a program, its lets or its subplans, and no constant in it is left to fold.
 use Rattle.std.specs.Prelude.{Bool, true, false, not, ◌&&◌, List, [], ◌∷◌, ◌++◌, Option, None, Some, fold, is_some, map, option_and_then}
 use Rattle.std.specs.List.{list_all}
 use Rattle.kql_cells.specs.declared.schemas.NamedSchema.{NamedSchema}
@@ -8,11 +8,12 @@ use Rattle.kql_bound.specs.declared.plan.Op.TheOpen.{Op-F, Plan-F}
 use Rattle.kql_bound.specs.declared.plan.Plan.{Plan, para-Plan}
 use Rattle.kql_bound.specs.declared.plan.Program.{Program}
 use Rattle.kql_meaning.specs.Fits.{Known, known_of, lets_columns, op_columns, plan_columns, source_columns}
+use Rattle.plan_rules.specs.FoldedPlans.{is_program_folded}
 use Rattle.plan_push.specs.Table.{rule_at}
 
--- A test that goes on with what is there, and passes where there is nothing.
+-- A test that goes on with what is there, and fails where there is nothing: what fits has columns at each of its places.
 abbrev pub if_known : {X : Type 0} → Option X → (X → Bool) → Bool
-if_known None f = true
+if_known None f = false
 if_known (Some x) f = f x
 
 abbrev pub OpTest : Type 0
@@ -50,6 +51,10 @@ abbrev pub lets_settled : List NamedSchema → List (List Column) → List Plan 
 lets_settled tables ls [] = true
 lets_settled tables ls (p ∷ ps) = settled_plan p (known_of tables ls) && if_known (plan_columns p (known_of tables ls)) (λ c. lets_settled tables (ls ++ c ∷ []) ps)
 
--- A program.
+-- A program in which no rule of the table fires.
+unfoldable pub is_quiet : Program → Bool
+is_quiet p = lets_settled p.tables [] p.lets && if_known (lets_columns p.lets p.tables) (λ ls. settled_plan p.main (known_of p.tables ls))
+
+-- A program to which no rule applies: none of the table fires, and no node of an expression is a constant, but for literals.
 unfoldable pub settled : Program → Bool
-settled p = lets_settled p.tables [] p.lets && if_known (lets_columns p.lets p.tables) (λ ls. settled_plan p.main (known_of p.tables ls))
+settled p = is_quiet p && is_program_folded p

@@ -1,13 +1,13 @@
-//! The first place at which a rule fires, and the loop over it.
-ghost use Rattle.std.specs.Prelude.{◌≡◌, ◌++◌, ◌∷◌, [], drop, take, true, IfOk, IsSome, MatchOption, length, ◌≤◌, ◌<◌, ◌+◌, option_map};
+//! The places at which rules fire, in operators and in the plans in them, and the loop over it.
+ghost use Rattle.std.specs.Prelude.{◌≡◌, ◌++◌, ◌∷◌, [], drop, take, true, IfOk, IsSome, MatchOption, OnOk, length, ◌<◌, ◌+◌, is_some, option_map, unwrap_or};
 ghost use Rattle.std.specs.List.{list_all};
 ghost use Rattle.kql_meaning.specs.Fits.{known_of, op_columns, ops_columns, plan_columns, plans_columns, program_columns};
 ghost use Rattle.plan_rules.specs.Becomes.{ProgramBecomes};
 ghost use Rattle.kql_bound.specs.declared.plan.Op.TheVariants as op;
 ghost use Rattle.plan_rules.specs.Improves.{Improves, IsNoLonger, PlanImproves, PlansImprove, ProgramImproves};
-ghost use Rattle.plan_push.specs.Settled.{settled, settled_op, settled_ops, settled_plan};
+ghost use Rattle.plan_push.specs.Settled.{is_quiet, settled, settled_op, settled_ops, settled_plan};
 
-use crate::rules::rule_at;
+use crate::walk::{either, walked};
 use kql_bound::{
     JoinPlan, Op, Ops, Plan, Plans, Program, clone_join, clone_op, clone_plan, clone_plans,
     clone_program, clone_source,
@@ -15,36 +15,24 @@ use kql_bound::{
 use kql_cells::{Column, KText, NamedSchema, copy_columns};
 use kql_items::Items;
 use plan_columns::{op_makes, plan_makes, source_makes};
+use plan_constants::fold_constants;
 use std::alloc::{AllocError, Global};
 
-// Operators before a place, as copies, and then others.
-fn front_then(alloc: Global, ops: &[Op], at: usize, made: Ops) -> Result<Ops, AllocError>
-    requires { at ≤ length ops.now }
-    ensures all { IfOk result (λ all. all ≡ take at ops.now ++ made) }
+// An operator, or what it becomes, behind others. Tells whether it becomes another.
+fn push_op(alloc: Global, all: &mut Ops, op: &Op, made: Option<Op>) -> Result<bool, AllocError>
+    ensures added { OnOk result (all.new ≡ all.old ++ unwrap_or made op.now ∷ []) }
+    ensures fired { IfOk result (λ fired. fired ≡ is_some made) }
 {
-    let mut all = Items::new(alloc);
-    for i in 0..at {
-        let copy = clone_op(alloc, &ops[i])?;
-        all.push(copy)?;
-    }
-    all.append(made)?;
-    Ok(all)
-}
-
-// An operator, and then copies of others.
-fn then_rest(alloc: Global, first: Op, rest: &[Op]) -> Result<Ops, AllocError>
-    ensures all { IfOk result (λ all. all ≡ first ∷ rest.now) }
-{
-    let mut all = Items::new(alloc);
-    all.push(first)?;
-    for op in rest {
+    let Some(made) = made else {
         let copy = clone_op(alloc, op)?;
         all.push(copy)?;
-    }
-    Ok(all)
+        return Ok(false);
+    };
+    all.push(made)?;
+    Ok(true)
 }
 
-/// What operators become at the first place at which a rule fires, or none where they are settled.
+/// What operators become where rules fire at some of them or some of them become others, or none where they are settled.
 #[cycle(rewrite)]
 fn rewritten_ops(
     alloc: Global,
@@ -57,20 +45,21 @@ fn rewritten_ops(
     requires { IsSome (ops_columns ops.now (known_of tables.now lets.now) inside columns.now) }
     ensures found { IfOk result (λ o. MatchOption o (settled_ops ops.now (known_of tables.now lets.now) inside columns.now ≡ true) (λ made. Improves (known_of tables.now lets.now) inside columns.now ops.now made)) }
 {
+    if let Some(made) = walked(alloc, ops, tables, lets, inside, columns)? {
+        return Ok(Some(made));
+    }
     let mut before = copy_columns(alloc, columns)?;
+    let mut all = Items::new(alloc);
+    let mut changed = false;
     for i in 0..ops.len() {
-        let rest = &ops[i..];
-        if let Some(made) = rule_at(alloc, tables, lets, before.as_slice(), rest)? {
-            let all = front_then(alloc, ops, i, made)?;
-            return Ok(Some(all));
-        }
-        if let Some(op) = rewritten_op(alloc, &ops[i], tables, lets, inside, before.as_slice())? {
-            let made = then_rest(alloc, op, &ops[i + 1..])?;
-            let all = front_then(alloc, ops, i, made)?;
-            return Ok(Some(all));
-        }
+        let made = rewritten_op(alloc, &ops[i], tables, lets, inside, before.as_slice())?;
+        let fired = push_op(alloc, &mut all, &ops[i], made)?;
         let next = op_makes(alloc, &ops[i], tables, lets, before.as_slice())?;
         before = next;
+        changed = either(changed, fired);
+    }
+    if changed {
+        return Ok(Some(all));
     }
     Ok(None)
 }
@@ -272,7 +261,7 @@ fn with_main(alloc: Global, p: &Program, main: Plan) -> Result<Program, AllocErr
 /// What a program becomes at the first place, or none.
 fn rewritten_program(alloc: Global, p: &Program) -> Result<Option<Program>, AllocError>
     requires { IsSome (program_columns p.now) }
-    ensures found { IfOk result (λ o. MatchOption o (settled p.now ≡ true) (λ made. ProgramImproves p.now made)) }
+    ensures found { IfOk result (λ o. MatchOption o (is_quiet p.now ≡ true) (λ made. ProgramImproves p.now made)) }
 {
     let tables = p.tables.schemas();
     let plans = p.lets.as_slice();
@@ -294,6 +283,9 @@ fn rewritten_program(alloc: Global, p: &Program) -> Result<Option<Program>, Allo
 }
 
 /// The same meaning on every catalogue that fits, and no rule's left side stands anywhere.
+///
+/// Constants are folded first, and again wherever rules of the table fired: two filters of constants become one of a new constant, and
+/// a filter that comes out true is dropped.
 #[tactic(auto, using(crate::proofs::SettleSteps::kept_steps))]
 pub fn settle(alloc: Global, p: &Program) -> Result<Program, AllocError>
     requires fits { IsSome (program_columns p.now) }
@@ -301,13 +293,17 @@ pub fn settle(alloc: Global, p: &Program) -> Result<Program, AllocError>
     ensures no_longer { IfOk result (λ q. IsNoLonger q p.now) }
     ensures same { IfOk result (λ q. ProgramBecomes p.now q) }
 {
-    let mut done = clone_program(alloc, p)?;
+    let copy = clone_program(alloc, p)?;
+    let mut done = fold_constants(alloc, copy)?;
     'rules: loop {
         match rewritten_program(alloc, &done) {
             Ok(None) => return Ok(done),
             Ok(Some(next)) => {
                 drop(done);
-                done = next;
+                match fold_constants(alloc, next) {
+                    Ok(made) => done = made,
+                    Err(fault) => return Err(fault),
+                }
             }
             Err(fault) => {
                 drop(done);

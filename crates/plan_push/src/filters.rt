@@ -1,19 +1,18 @@
 //! The rules that carry a filter or a `take` in front of another operator, and the merge of two filters.
-ghost use Rattle.std.specs.Prelude.{◌≡◌, ◌∷◌, ◌++◌, [], ◌&&◌, IfOk, Some, not};
+ghost use Rattle.std.specs.Prelude.{◌≡◌, ◌∷◌, ◌++◌, [], ◌&&◌, IfOk, OnOk, Some, not};
 ghost use Rattle.kql_bound.specs.declared.plan.Op.TheVariants as op;
 ghost use Rattle.kql_meaning.specs.FittingOperators.{expand_names};
 ghost use Rattle.kql_meaning.specs.Parse.{pattern_names};
 ghost use Rattle.kql_meaning.specs.Items.{items_names};
 ghost use Rattle.kql_meaning.specs.Tables.{has_column, is_name_among};
 ghost use Rattle.plan_rules.specs.Reads.{reads_only};
-ghost use Rattle.plan_rules.specs.Rules.{conjoined, expand_then_filter, extend_then_filter, extend_then_take, goes_by_left, is_left_key, is_unique, join_then_filter, parse_then_filter, project_then_take, reads_some, sort_then_filter, terms_of, two_filters, unique_then_filter, when};
+ghost use Rattle.plan_rules.specs.Rules.{conjoined, expand_then_filter, extend_then_filter, extend_then_take, goes_by_left, is_left_key, is_unique, join_then_filter, parse_then_filter, project_then_take, reads_some, sort_then_filter, terms_in, terms_of, two_filters, unique_then_filter, when};
 
 use crate::rules::one;
 use crate::views::{expand_of, extend_of, filter_of, parse_of, project_of, sort_of, take_of};
 use kql_bound::{
     BExpr, BItems, Expand, ExpandItem, Exprs, JoinKind, JoinPlan, Op, Ops, ParsePlan, Pattern,
-    Plan, clone_expand, clone_expr, clone_exprs, clone_items, clone_join, clone_keys, clone_parse,
-    clone_plan,
+    Plan, clone_expand, clone_expr, clone_items, clone_join, clone_keys, clone_parse, clone_plan,
 };
 use kql_cells::{Column, Names};
 use kql_columns::{items_names, names_of, pattern_columns};
@@ -32,36 +31,48 @@ fn filter_alone(alloc: Global, q: &BExpr) -> Result<Ops, AllocError>
 
 // Two filters.
 
-fn one_term(alloc: Global, e: &BExpr) -> Result<Exprs, AllocError>
-    ensures one { IfOk result (λ es. es ≡ e.now ∷ []) }
+// A copy of an expression behind others.
+fn push_copy(alloc: Global, e: &BExpr, terms: &mut Exprs) -> Result<(), AllocError>
+    ensures added { OnOk result (terms.new ≡ terms.old ++ e.now ∷ []) }
 {
     let copy = clone_expr(alloc, e)?;
-    let mut terms = Items::new(alloc);
-    terms.push(copy)?;
-    Ok(terms)
+    terms.push(copy)
 }
 
-// The terms of an `and`, and any other expression alone.
-#[tactic(auto, using(crate::proofs::TermSteps::terms_steps))]
-fn terms_of(alloc: Global, e: &BExpr) -> Result<Exprs, AllocError>
-    ensures terms { IfOk result (λ es. es ≡ terms_of e.now) }
+// The terms of an expression behind others: those of each argument of an `and`, and any other expression alone.
+#[cycle(push_terms)]
+#[tactic(auto, using(plan_rules::proofs::TermSteps::terms_steps))]
+fn push_terms(alloc: Global, e: &BExpr, terms: &mut Exprs) -> Result<(), AllocError>
+    ensures added { OnOk result (terms.new ≡ terms.old ++ terms_of e.now) }
 {
     match e {
-        BExpr::Literal(_) => one_term(alloc, e),
-        BExpr::Column(_) => one_term(alloc, e),
-        BExpr::Step(_) => one_term(alloc, e),
+        BExpr::Literal(_) => push_copy(alloc, e, terms),
+        BExpr::Column(_) => push_copy(alloc, e, terms),
+        BExpr::Step(_) => push_copy(alloc, e, terms),
         BExpr::Call(f, args) => {
             if *f == Func::Logic(LogicFunc::And) {
-                clone_exprs(alloc, args)
+                push_terms_in(alloc, args.as_slice(), terms)
             } else {
-                one_term(alloc, e)
+                push_copy(alloc, e, terms)
             }
         }
-        BExpr::Chain(_, _) => one_term(alloc, e),
-        BExpr::Path(_, _) => one_term(alloc, e),
-        BExpr::Window(_, _) => one_term(alloc, e),
-        BExpr::Aggregate(_, _) => one_term(alloc, e),
+        BExpr::Chain(_, _) => push_copy(alloc, e, terms),
+        BExpr::Path(_, _) => push_copy(alloc, e, terms),
+        BExpr::Window(_, _) => push_copy(alloc, e, terms),
+        BExpr::Aggregate(_, _) => push_copy(alloc, e, terms),
     }
+}
+
+// Those of several.
+#[cycle(push_terms)]
+#[tactic(auto, unfolding(plan_rules::specs::Rules::terms_in))]
+fn push_terms_in(alloc: Global, es: &[BExpr], terms: &mut Exprs) -> Result<(), AllocError>
+    ensures added { OnOk result (terms.new ≡ terms.old ++ terms_in es.now) }
+{
+    for e in es {
+        push_terms(alloc, e, terms)?;
+    }
+    Ok(())
 }
 
 // `where p`, `where q`: `where` of both.
@@ -75,9 +86,9 @@ pub(crate) fn two_filters(alloc: Global, x: &Op, y: &Op) -> Result<Option<Ops>, 
     if !is_plain(q) {
         return Ok(None);
     }
-    let mut terms = terms_of(alloc, p)?;
-    let more = terms_of(alloc, q)?;
-    terms.append(more)?;
+    let mut terms = Items::new(alloc);
+    push_terms(alloc, p, &mut terms)?;
+    push_terms(alloc, q, &mut terms)?;
     let ops = one(
         alloc,
         Op::Where(BExpr::Call(Func::Logic(LogicFunc::And), terms)),

@@ -1,10 +1,10 @@
 //! The rules: for each the function of its definition, in the order of the table.
-ghost use Rattle.std.specs.Prelude.{◌≡◌, ◌∷◌, ◌++◌, [], IfOk, Some, min, option_and_then};
+ghost use Rattle.std.specs.Prelude.{◌≡◌, ◌∷◌, ◌++◌, [], IfOk, Some, min};
 ghost use Rattle.kql_bound.specs.declared.plan.Op.TheVariants as op;
 ghost use Rattle.kql_meaning.specs.Fits.{known_of};
 ghost use Rattle.kql_meaning.specs.FittingExpressions.{column_of, literal_of};
 ghost use Rattle.plan_rules.specs.Rules.{are_all_columns, bare_serialize, idle_projection, is_name, is_one_name, is_true_literal, is_true_value, parse_then_take, sort_then_take, top_then_take, true_filter, two_sorts, two_takes, unseen_then_count};
-ghost use Rattle.plan_push.specs.Table.{filter_rule, merge_rule, pair_rule, rule_at, single_rule, take_rule};
+ghost use Rattle.plan_push.specs.Table.{filter_rule, merge_rule, pair_rule, single_rule, take_rule};
 
 use crate::filters::{
     expand_then_filter, extend_then_filter, extend_then_take, join_then_filter, parse_then_filter,
@@ -279,7 +279,7 @@ fn parse_then_take(alloc: Global, x: &Op, y: &Op) -> Result<Option<Ops>, AllocEr
 
 // The first rule on one operator that fires.
 #[tactic(auto, unfolding(crate::specs::Table::single_rule))]
-fn single_rule(
+pub(crate) fn single_rule(
     alloc: Global,
     tables: &[NamedSchema],
     lets: &[Items<Column>],
@@ -379,7 +379,7 @@ fn take_rule(alloc: Global, x: &Op, y: &Op) -> Result<Option<Ops>, AllocError>
 
 // The first rule on two neighbours that fires.
 #[tactic(auto, unfolding(crate::specs::Table::pair_rule))]
-fn pair_rule(
+pub(crate) fn pair_rule(
     alloc: Global,
     tables: &[NamedSchema],
     lets: &[Items<Column>],
@@ -399,7 +399,7 @@ fn pair_rule(
 }
 
 // Operators, and then copies of others.
-fn then_copies(alloc: Global, made: Ops, rest: &[Op]) -> Result<Ops, AllocError>
+pub(crate) fn then_copies(alloc: Global, made: Ops, rest: &[Op]) -> Result<Ops, AllocError>
     ensures all { IfOk result (λ all. all ≡ made ++ rest.now) }
 {
     let mut all = made;
@@ -408,58 +408,4 @@ fn then_copies(alloc: Global, made: Ops, rest: &[Op]) -> Result<Ops, AllocError>
         all.push(copy)?;
     }
     Ok(all)
-}
-
-fn then_some_copies(
-    alloc: Global,
-    made: Option<Ops>,
-    rest: &[Op],
-) -> Result<Option<Ops>, AllocError>
-    ensures all { IfOk result (λ all. all ≡ option_and_then (λ zs. Some (zs ++ rest.now)) made) }
-{
-    let Some(made) = made else {
-        return Ok(None);
-    };
-    let all = then_copies(alloc, made, rest)?;
-    Ok(Some(all))
-}
-
-/// What operators become where a rule fires at the first of them.
-#[tactic(auto, unfolding(crate::specs::Table::rule_at))]
-pub(crate) fn rule_at(
-    alloc: Global,
-    tables: &[NamedSchema],
-    lets: &[Items<Column>],
-    columns: &[Column],
-    ops: &[Op],
-) -> Result<Option<Ops>, AllocError>
-    ensures rule { IfOk result (λ o. o ≡ rule_at (known_of tables.now lets.now) columns.now ops.now) }
-{
-    let Some((x, behind)) = ops.split_first() else {
-        return Ok(None);
-    };
-    rule_from(alloc, tables, lets, columns, x, behind)
-}
-
-// The rules on the first operator, and then those on the first two.
-#[tactic(auto, unfolding(crate::specs::Table::rule_at))]
-fn rule_from(
-    alloc: Global,
-    tables: &[NamedSchema],
-    lets: &[Items<Column>],
-    columns: &[Column],
-    x: &Op,
-    behind: &[Op],
-) -> Result<Option<Ops>, AllocError>
-    ensures rule { IfOk result (λ o. o ≡ rule_at (known_of tables.now lets.now) columns.now (x.now ∷ behind.now)) }
-{
-    let Some((y, rest)) = behind.split_first() else {
-        return single_rule(alloc, tables, lets, columns, x);
-    };
-    let one = single_rule(alloc, tables, lets, columns, x)?;
-    if let Some(made) = then_some_copies(alloc, one, behind)? {
-        return Ok(Some(made));
-    }
-    let two = pair_rule(alloc, tables, lets, columns, x, y)?;
-    then_some_copies(alloc, two, rest)
 }

@@ -2,10 +2,9 @@ use Rattle.std.proofs.Common.{◌≡◌, ◌∙◌, refl, sym, ap, subst, arith,
 use Rattle.std.specs.Prelude.{IsSome, Some}
 use Rattle.kql_bound.specs.declared.plan.Op.{the_lemmas}
 use Rattle.kql_meaning.specs.Fits.{known_of, op_columns, plan_columns, ops_columns, plans_columns, source_columns}
-use Rattle.kql_meaning.proofs.OperatorFitLaws.{ops-more, ops-start}
-use Rattle.plan_push.specs.Settled.{settled_ops}
 use Rattle.kql_fit_laws.proofs.OperatorLaws.{each_op_keeps, each_source_keeps}
-use Rattle.plan_push.proofs.DriveSteps.{found-none, found-some, join-arm, join-fits, op-there, ops-op, ops-rule, partition-arm, partition-fits, plan-none-now, plan-ops-now, plan-some-now, source-made-some, made-some, settled-end, turn-columns, turn-settled, union-arm, union-fits}
+use Rattle.plan_push.proofs.DriveSteps.{found-none, found-some, join-arm, join-fits, op-there, partition-arm, partition-fits, plan-none-now, plan-ops-now, plan-some-now, source-made-some, made-some, union-arm, union-fits}
+use Rattle.plan_push.proofs.RewrittenSteps.{rewritten-better, rewritten-first, rewritten-settled, rewritten-turn}
 use Rattle.plan_push.proofs.ProgramSteps.{plan-there, plans-end, plans-turn, plans-with}
 use Rattle.plan_push.proofs.driver.+rewrite.Goals as goal
 
@@ -34,36 +33,30 @@ pub rewritten_op-returns-in_ok-made-in-Partition : goal.rewritten_op-returns-in_
 rewritten_op-returns-in_ok-made-in-Partition t c =
     record { found = partition-arm c.args.op.now c.in-Partition.key c.in-Partition.ops c.as_slice-in-Partition.result.now (known_of c.args.tables.now c.args.lets.now) c.args.inside c.args.columns.now c.in_ok-made-in-Partition.made c.in_partition.result c.in-Partition.is c.as_slice-in-Partition.ensures.items c.in_ok-made-in-Partition.ensures.found c.in_partition.ensures.op }
 
-pub rewritten_ops-loop-i-init : goal.rewritten_ops-loop-i-init
-rewritten_ops-loop-i-init t c =
-    record {
-      columns = ops-start (known_of c.args.tables.now c.args.lets.now) c.args.inside c.args.columns.now ∙ ap (λ m. Some m) (sym c.in_ok-before.ensures.same);
-      settled = ap (λ m. settled_ops c.args.ops.now (known_of c.args.tables.now c.args.lets.now) c.args.inside m) (sym c.in_ok-before.ensures.same);
-    }
-
 pub rewritten_ops-returns-in-Some : goal.rewritten_ops-returns-in-Some
 rewritten_ops-returns-in-Some t c =
-    record { found = ops-rule each_op_keeps c.args.ops.now c.loop-i.i (known_of c.args.tables.now c.args.lets.now) c.args.inside c.args.columns.now c.loop-i.before c.as_slice.result.now _ c.in-Some.made c.in_ok-all.all c.loop-i.invariant.columns c.as_slice.ensures.items refl (sym c.in-Some.is ∙ c.in_ok-made.ensures.rule) c.in_ok-all.ensures.all }
+    record { found = found-some c.in_ok-made.field-0 _ _ c.in-Some.made c.in_ok-made.ensures.found c.in-Some.is }
+
+pub rewritten_ops-loop-i-init : goal.rewritten_ops-loop-i-init
+rewritten_ops-loop-i-init t c =
+    rewritten-first (known_of c.args.tables.now c.args.lets.now) c.args.inside c.args.columns.now c.args.ops.now c.in_ok-before.before c.new-all.result c.in_ok-before.ensures.same c.new-all.ensures.empty (found-none c.in_ok-made.field-0 _ _ c.in_ok-made.ensures.found c.in_default.is)
 
 pub rewritten_ops-rewritten_op-requires : goal.rewritten_ops-rewritten_op-requires
 rewritten_ops-rewritten_op-requires t c =
-    (search (rules, the_lemmas), op-there c.args.ops.now c.loop-i.i c.index-ops-i.result (known_of c.args.tables.now c.args.lets.now) c.args.inside c.args.columns.now c.loop-i.before c.as_slice-in-loop-i.result.now c.loop-i-test.true c.index-ops-i.is c.loop-i.invariant.columns c.as_slice-in-loop-i.ensures.items c.requires)
-
-pub rewritten_ops-returns-in-Some-2 : goal.rewritten_ops-returns-in-Some-2
-rewritten_ops-returns-in-Some-2 t c =
-    record { found = ops-op each_op_keeps c.args.ops.now c.loop-i.i c.index-ops-i.result c.in-Some-2.op (known_of c.args.tables.now c.args.lets.now) c.args.inside c.args.columns.now c.loop-i.before c.as_slice-in-loop-i.result.now _ c.in_ok-made-2.made c.in_ok-all-2.all c.loop-i-test.true c.index-ops-i.is c.loop-i.invariant.columns c.as_slice-in-loop-i.ensures.items (found-some c.in_ok-op.field-0 _ _ c.in-Some-2.op c.in_ok-op.ensures.found c.in-Some-2.is) refl c.in_ok-made-2.ensures.all c.in_ok-all-2.ensures.all }
+    (search (rules, the_lemmas), op-there c.args.ops.now c.loop-i.i c.index-ops-i.result (known_of c.args.tables.now c.args.lets.now) c.args.inside c.args.columns.now c.loop-i.before c.as_slice.result.now c.loop-i-test.true c.index-ops-i.is c.loop-i.invariant.columns c.as_slice.ensures.items c.requires)
 
 pub rewritten_ops-loop-i-preserved : goal.rewritten_ops-loop-i-preserved
 rewritten_ops-loop-i-preserved t c =
-    let made = made-some c.index-ops-i-in-loop-i.result (known_of c.args.tables.now c.args.lets.now) c.args.inside c.as_slice-in-loop-i-2.result.now c.in_ok-next.next (op-there c.args.ops.now c.loop-i.i c.index-ops-i-in-loop-i.result (known_of c.args.tables.now c.args.lets.now) c.args.inside c.args.columns.now c.loop-i.before c.as_slice-in-loop-i-2.result.now c.loop-i-test.true c.index-ops-i-in-loop-i.is c.loop-i.invariant.columns c.as_slice-in-loop-i-2.ensures.items c.requires) c.in_ok-next.ensures.columns in
-    record {
-      columns = turn-columns c.args.ops.now c.loop-i.i c.index-ops-i-in-loop-i.result (known_of c.args.tables.now c.args.lets.now) c.args.inside c.args.columns.now c.loop-i.before c.as_slice-in-loop-i-2.result.now c.in_ok-next.next c.loop-i-test.true c.index-ops-i-in-loop-i.is c.as_slice-in-loop-i-2.ensures.items c.loop-i.invariant.columns made;
-      settled = turn-settled c.args.ops.now c.loop-i.i c.index-ops-i.result c.index-ops-i-in-loop-i.result (known_of c.args.tables.now c.args.lets.now) c.args.inside c.args.columns.now c.loop-i.before c.as_slice.result.now c.as_slice-in-loop-i.result.now c.as_slice-in-loop-i-2.result.now c.in_ok-next.next _ c.loop-i-test.true c.index-ops-i.is c.index-ops-i-in-loop-i.is c.as_slice.ensures.items c.as_slice-in-loop-i.ensures.items c.as_slice-in-loop-i-2.ensures.items refl (sym c.in_ok-made.ensures.rule ∙ c.in_default.is) (found-none c.in_ok-op.field-0 _ _ c.in_ok-op.ensures.found c.in_default-2.is) made c.loop-i.invariant.settled;
-    }
+    let made = made-some c.index-ops-i-in-loop-i-2.result (known_of c.args.tables.now c.args.lets.now) c.args.inside c.as_slice-in-loop-i.result.now c.in_ok-next.next (op-there c.args.ops.now c.loop-i.i c.index-ops-i-in-loop-i-2.result (known_of c.args.tables.now c.args.lets.now) c.args.inside c.args.columns.now c.loop-i.before c.as_slice-in-loop-i.result.now c.loop-i-test.true c.index-ops-i-in-loop-i-2.is c.loop-i.invariant.columns c.as_slice-in-loop-i.ensures.items c.requires) c.in_ok-next.ensures.columns in
+    rewritten-turn each_op_keeps (known_of c.args.tables.now c.args.lets.now) c.args.inside c.args.columns.now c.args.ops.now c.loop-i.i c.loop-i.before c.as_slice.result.now c.as_slice-in-loop-i.result.now c.in_ok-next.next c.loop-i.all c.push_op.new.all c.loop-i.changed c.in_ok-fired.fired c.either-changed.result c.index-ops-i.result c.index-ops-i-in-loop-i.result c.index-ops-i-in-loop-i-2.result c.in_ok-made-2.made c.loop-i.invariant c.loop-i-test.true c.index-ops-i.is c.index-ops-i-in-loop-i.is c.index-ops-i-in-loop-i-2.is c.as_slice.ensures.items c.as_slice-in-loop-i.ensures.items c.in_ok-made-2.ensures.found c.in_ok-fired.ensures.added c.in_ok-fired.ensures.fired c.either-changed.ensures.either made
+
+pub rewritten_ops-returns-then-changed : goal.rewritten_ops-returns-then-changed
+rewritten_ops-returns-then-changed t c =
+    record { found = rewritten-better (known_of c.args.tables.now c.args.lets.now) c.args.inside c.args.columns.now c.args.ops.now c.loop-i.i c.loop-i.before c.loop-i.all c.loop-i.changed c.loop-i.invariant (omega arith) c.if-changed.true }
 
 pub rewritten_ops-returns : goal.rewritten_ops-returns
 rewritten_ops-returns t c =
-    record { found = settled-end c.args.ops.now c.loop-i.i (known_of c.args.tables.now c.args.lets.now) c.args.inside c.args.columns.now c.loop-i.before (omega arith) c.loop-i.invariant.settled }
+    record { found = rewritten-settled (known_of c.args.tables.now c.args.lets.now) c.args.inside c.args.columns.now c.args.ops.now c.loop-i.i c.loop-i.before c.loop-i.all c.loop-i.changed c.loop-i.invariant (omega arith) c.if-changed.false }
 
 pub rewritten_plan-rewritten_ops-requires : goal.rewritten_plan-rewritten_ops-requires
 rewritten_plan-rewritten_ops-requires t c =

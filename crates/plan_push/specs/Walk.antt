@@ -1,0 +1,57 @@
+-- A walk over operators: what it holds at a place, and what a step of it keeps.
+use Rattle.std.specs.Prelude.{ℕ, suc, ◌≡◌, ◌+◌, ◌*◌, ◌<◌, ◌≤◌, Bool, true, false, not, ◌&&◌, List, [], ◌∷◌, ◌++◌, Option, None, Some, IsSome, is_some, length, reverse}
+use Rattle.kql_cells.specs.declared.schema.Column.{Column}
+use Rattle.kql_bound.specs.declared.plan.Op.{Op}
+use Rattle.kql_meaning.specs.Fits.{Known, op_columns, ops_columns}
+use Rattle.plan_columns.specs.Made.{op_makes}
+use Rattle.plan_rules.specs.Improves.{Improves}
+use Rattle.plan_rules.specs.Weight.{ops_weight}
+use Rattle.plan_push.specs.Settled.{if_known}
+use Rattle.plan_push.specs.Table.{pair_rule, rule_at, single_rule}
+
+-- The columns before each operator, and those behind the last.
+unfoldable pub places : List Op → Known → List Column → List (List Column)
+places [] k cs = cs ∷ []
+places (o ∷ os) k cs = cs ∷ places os k (op_makes o k cs)
+
+-- No rule fires at any of these operators; what is in them is not looked at.
+unfoldable pub is_still : List Op → Known → Bool → List Column → Bool
+is_still [] k inside cs = true
+is_still (x ∷ xs) k inside cs = not (is_some (rule_at k cs (x ∷ xs))) && if_known (op_columns x k inside cs) (is_still xs k inside)
+
+-- What an operator and the one behind it become, where there is one.
+abbrev pub next_rule : Known → List Column → Op → List Op → Option (List Op)
+next_rule k cs x [] = None
+next_rule k cs x (y ∷ ys) = pair_rule k cs x y
+
+-- No rule fires at any of the first operators, with others behind them.
+unfoldable pub is_quiet : List Op → List Op → Known → List Column → Bool
+is_quiet [] rest k cs = true
+is_quiet (x ∷ xs) rest k cs = not (is_some (single_rule k cs x)) && (not (is_some (next_rule k cs x (xs ++ rest))) && is_quiet xs rest k (op_makes x k cs))
+
+-- Operators that are passed, with the columns before each and behind the last, and those that wait, the next of these last.
+pub record Walk (k : Known) (inside : Bool) (cs : List Column) (before : List (List Column)) (passed waiting : List Op) : Type 0 where
+  pub fitting : IsSome (ops_columns (passed ++ reverse waiting) k inside cs)
+  pub columns : before ≡ places passed k cs
+  pub quiet : is_quiet passed (reverse waiting) k cs ≡ true
+
+-- A step back: the last operator that was passed waits again, where there is one.
+pub record Back (before : List (List Column)) (passed waiting : List Op) (before_now : List (List Column)) (passed_now waiting_now : List Op) : Type 0 where
+  pub same : passed_now ++ reverse waiting_now ≡ passed ++ reverse waiting
+  pub columns : (k : Known) (cs : List Column) → before ≡ places passed k cs → before_now ≡ places passed_now k cs
+  pub quiet : (k : Known) (cs : List Column) (rest : List Op) → is_quiet passed rest k cs ≡ true → is_quiet passed_now (reverse waiting_now) k cs ≡ true
+  pub slower : length waiting_now ≤ suc (length waiting)
+
+-- Operators after a step: others, which are better, where a rule fired, and the same where none did.
+abbrev pub Turned : Bool → Known → Bool → List Column → List Op → List Op → Type 0
+Turned true k inside cs xs ys = Improves k inside cs xs ys
+Turned false k inside cs xs ys = ys ≡ xs
+
+-- What falls at each step.
+abbrev pub pace : List Op → List Op → ℕ
+pace passed waiting = 2 * (ops_weight (passed ++ reverse waiting)).load + length waiting
+
+pub record Stepped (k : Known) (inside : Bool) (cs : List Column) (fired : Bool) (passed waiting : List Op) (before_now : List (List Column)) (passed_now waiting_now : List Op) : Type 0 where
+  pub walk : Walk k inside cs before_now passed_now waiting_now
+  pub turned : Turned fired k inside cs (passed ++ reverse waiting) (passed_now ++ reverse waiting_now)
+  pub faster : 0 < length waiting → pace passed_now waiting_now < pace passed waiting
