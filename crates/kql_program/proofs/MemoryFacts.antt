@@ -1,5 +1,5 @@
 -- What an outcome is over files and sinks in memory.
-use Rattle.std.proofs.Common.{◌≡◌, ◌⊎◌, ◌∙◌, ◌≤◌, ℕ, List, ◌++◌, length, refl, sym, inl, inr, arith}
+use Rattle.std.proofs.Common.{◌≡◌, ◌⊎◌, ◌∙◌, ◌≤◌, ◌<◌, ℕ, List, ◌++◌, length, refl, subst, sym, inl, inr, arith}
 use Rattle.std.specs.Prelude.{Some, Ok, Err}
 use Rattle.std.proofs.lemmas.List.{append-nil}
 use Rattle.kql_outside.specs.Causes.{Rose}
@@ -7,11 +7,12 @@ use Rattle.kql_outside.specs.Memory.{SinkState, room_left}
 use Rattle.kql_program.specs.Answer.{Answers}
 use Rattle.kql_program.specs.Endings.{refused_as}
 use Rattle.kql_program.specs.Files.{Files}
-use Rattle.kql_program.specs.InMemory.{Answered, HaveRoomFor, RunsOut, in_memory}
+use Rattle.kql_program.specs.InMemory.{Answered, HadNoRoom, HasRoomForMemoryLine, HaveRoom, RunsOut, in_memory}
 use Rattle.kql_program.specs.Lines.{line_of, memory_line}
-use Rattle.kql_program.specs.Outcomes.{Ends, IsErrorLine, IsText, Outside, outside}
+use Rattle.kql_program.specs.Outcomes.{Ends, IsCutText, IsErrorLine, IsText, outside}
 use Rattle.kql_program.specs.declared.ended.Ended.{Ended}
 use Rattle.kql_program.specs.declared.ended.Ended.TheVariants as ended
+use Rattle.kql_words.specs.Refusals.{Answer}
 use Rattle.kql_words.specs.declared.refusal.Refusal.{Refusal}
 use Rattle.kql_words.specs.declared.refusal.Refusal.TheVariants as refusal
 
@@ -30,26 +31,53 @@ refused-answers : (words : List (List ℕ)) (files : Files) (o p e f : SinkState
 refused-answers words files o p e f r d i n q l = record {
   to = Err r;
   is = i;
-  ending = n;
-  output = bytes-of p.bytes o.bytes q ∙ sym (append-nil o.bytes);
-  error = bytes-of f.bytes (e.bytes ++ line_of r) l;
+  given =
+      inl (record {
+        ending = n;
+        output = bytes-of p.bytes o.bytes q ∙ sym (append-nil o.bytes);
+        error = bytes-of f.bytes (e.bytes ++ line_of r) l;
+      });
 }
 
 text-answers : (words : List (List ℕ)) (files : Files) (o p e f : SinkState) (d : Ended) → IsText words (Answers words files) (outside 0 (in_memory o) (in_memory e)) (outside 0 (in_memory p) (in_memory f)) d → Answered words files o p e f d
 text-answers words files o p e f d h = record {
   to = Ok h.text;
   is = h.is;
-  ending = h.done;
-  output = bytes-of p.bytes (o.bytes ++ h.text) h.whole;
-  error = bytes-of f.bytes e.bytes h.quiet ∙ sym (append-nil e.bytes);
+  given =
+      inl (record {
+        ending = h.done;
+        output = bytes-of p.bytes (o.bytes ++ h.text) h.whole;
+        error = bytes-of f.bytes e.bytes h.quiet ∙ sym (append-nil e.bytes);
+      });
 }
 
-long-line : (words : List (List ℕ)) (files : Files) (line : List ℕ) (b n : Outside) (o e : SinkState) → b.shelf_faults ≡ 0 → n.shelf_faults ≡ 0 → IsErrorLine words (Answers words files) b n line → HaveRoomFor words files o e → length line ≤ room_left e
-long-line words files line b n o e z y (inl (r, i, l)) h = rw l (h.answer (Err r) i).error
-long-line words files line b n o e z y (inr (inl l)) h = rw l h.memory
-long-line words files line b n o e z y (inr (inr (l, fails))) h = absurd (never (rw (z, y) at fails.cause))
+-- a text that was left unfinished had no room
+no-room : (a : Answer (List ℕ)) (o e : SinkState) → (HaveRoom a o e → ⊥) → HadNoRoom a o e ended.WriteFault
+no-room a o e full = record { ending = refl; full = full }
 
-pub clean-ends : (words : List (List ℕ)) (files : Files) (o p e f : SinkState) (d : Ended) → Ends words (Answers words files) (outside 0 (in_memory o) (in_memory e)) (outside 0 (in_memory p) (in_memory f)) d → HaveRoomFor words files o e
+text-is-long : (o e : SinkState) (text : List ℕ) → room_left o < length text → HaveRoom (Ok text) o e → ⊥
+text-is-long o e text short room =
+    let fits : length text ≤ room_left o = room.output in
+    absurd (omega (arith, short, fits))
+
+line-is-long : (o e : SinkState) (r : Refusal) → room_left e < length (line_of r) → HaveRoom (Err r) o e → ⊥
+line-is-long o e r short room =
+    let fits : length (line_of r) ≤ room_left e = room.error in
+    absurd (omega (arith, short, fits))
+
+cut-answers : (words : List (List ℕ)) (files : Files) (o p e f : SinkState) → IsCutText (Answers words files) (outside 0 (in_memory o) (in_memory e)) (outside 0 (in_memory p) (in_memory f)) → Answered words files o p e f ended.WriteFault
+cut-answers words files o p e f h = record { to = Ok h.text; is = h.is; given = inr (no-room (Ok h.text) o e (text-is-long o e h.text h.cut.full)) }
+
+-- and so had a line
+line-answers : (words : List (List ℕ)) (files : Files) (o p e f : SinkState) (line : List ℕ) → IsErrorLine words (Answers words files) (outside 0 (in_memory o) (in_memory e)) (outside 0 (in_memory p) (in_memory f)) line → room_left e < length line
+    → HasRoomForMemoryLine e → Answered words files o p e f ended.WriteFault
+line-answers words files o p e f line (inl (r, i, l)) short memory = record { to = Err r; is = i; given = inr (no-room (Err r) o e (line-is-long o e r (subst (λ t. room_left e < length t) l short))) }
+line-answers words files o p e f line (inr (inl l)) short memory =
+    let fits : length line ≤ room_left e = rw l memory in
+    absurd (omega (arith, short, fits))
+line-answers words files o p e f line (inr (inr (l, fails))) short memory = absurd (never fails.cause)
+
+pub clean-ends : (words : List (List ℕ)) (files : Files) (o p e f : SinkState) (d : Ended) → Ends words (Answers words files) (outside 0 (in_memory o) (in_memory e)) (outside 0 (in_memory p) (in_memory f)) d → HasRoomForMemoryLine e
     → Answered words files o p e f d ⊎ RunsOut o p e f d
 clean-ends words files o p e f (ended.Table plan) h room = inl (text-answers words files o p e f (ended.Table plan) h)
 clean-ends words files o p e f (ended.Explained plan) h room = inl (text-answers words files o p e f (ended.Explained plan) h)
@@ -65,9 +93,5 @@ clean-ends words files o p e f ended.OutOfMemory h room = inr (record {
   output = bytes-of p.bytes o.bytes h.quiet;
   error = bytes-of f.bytes (e.bytes ++ memory_line) h.line;
 })
-clean-ends words files o p e f ended.WriteFault (inl h) room =
-    let fits : length h.text ≤ room_left o = (room.answer (Ok h.text) h.is).output in
-    absurd (omega (arith, h.cut.full, fits))
-clean-ends words files o p e f ended.WriteFault (inr h) room =
-    let fits = long-line words files h.text (outside 0 (in_memory o) (in_memory e)) (outside 0 (in_memory p) (in_memory f)) o e refl refl h.is room in
-    absurd (omega (arith, h.cut.full, fits))
+clean-ends words files o p e f ended.WriteFault (inl h) room = inl (cut-answers words files o p e f h)
+clean-ends words files o p e f ended.WriteFault (inr h) room = inl (line-answers words files o p e f h.text h.is h.cut.full room)

@@ -17,7 +17,7 @@ use Rattle.kql_words.specs.declared.refusal.Refusal.TheVariants as refusal
 use Rattle.kql_program.specs.Answer.{AnswersCommand, AreOne, ExplainTheSame, HasOneAnswer}
 use Rattle.kql_program.specs.Files.{Files, file_tokens, query_tokens, tables_from}
 use Rattle.kql_program.specs.Plans.{AnswersExplain, Explains}
-use Rattle.kql_program.specs.Queries.{AnswersQuery, AreRows, IsBound, query_bound, rows_of, text_of}
+use Rattle.kql_program.specs.Queries.{AnswersQuery, AreRows, IsBound, IsBoundAsked, query_bound, rows_of, text_of}
 use Rattle.kql_program.specs.Refusals.{after}
 use Rattle.kql_program.specs.Syntax.{IsVerdict, Verdict}
 use Rattle.kql_program.specs.Trials.{AreLines, IsLine, LinesFrom, line_as}
@@ -52,17 +52,17 @@ one-text : (words : List (List ℕ)) (files : Files) (asked : Asked) (a b : Answ
 one-text words files asked a b h k =
     h.is ∙ (ap text_of (one-rows (file_tokens files (query_path words asked)) (tables_from files 1 0 (table_words words asked)) asked.moment h.rows k.rows h.are k.are) ∙ sym k.is)
 
--- there is one refusal of `explain`, and each text is of a plan of one program
-same-explained : (bound : Answer BoundQuery) (a b : Answer (List ℕ)) → Explains bound a → Explains bound b → ExplainTheSame a b
-same-explained (Err r) a b h k = subst (λ (x : Answer (List ℕ)). ExplainTheSame x b) (sym h) k
-same-explained (Ok bound) (Ok s) (Ok t) h k = record { bound = bound; first = h; second = k }
-same-explained (Ok bound) (Ok s) (Err r) h (plan, i, e) = cc e
-same-explained (Ok bound) (Err q) b (plan, i, e) k = cc e
+-- there is one refusal of `explain`, and each text is of a plan of the one program that is bound
+same-explained : (words : List (List ℕ)) (files : Files) (asked : Asked) (bound : Answer BoundQuery) (a b : Answer (List ℕ)) → IsBoundAsked words files asked bound → Explains bound a → Explains bound b → ExplainTheSame words files asked a b
+same-explained words files asked (Err r) a b i h k = subst (λ (x : Answer (List ℕ)). ExplainTheSame words files asked x b) (sym h) k
+same-explained words files asked (Ok bound) (Ok s) (Ok t) i h k = record { bound = bound; is_bound = i; first = h; second = k }
+same-explained words files asked (Ok bound) (Ok s) (Err r) i h (plan, p, e) = cc e
+same-explained words files asked (Ok bound) (Err q) b i (plan, p, e) k = cc e
 
-one-explained : (words : List (List ℕ)) (files : Files) (asked : Asked) (a b : Answer (List ℕ)) → AnswersExplain words files asked a → AnswersExplain words files asked b → ExplainTheSame a b
+one-explained : (words : List (List ℕ)) (files : Files) (asked : Asked) (a b : Answer (List ℕ)) → AnswersExplain words files asked a → AnswersExplain words files asked b → ExplainTheSame words files asked a b
 one-explained words files asked a b h k =
     let same = one-bound (file_tokens files (query_path words asked)) (tables_from files 1 0 (table_words words asked)) asked.moment k.bound h.bound k.is_bound h.is_bound in
-    same-explained h.bound a b h.is (subst (λ (x : Answer BoundQuery). Explains x b) same k.is)
+    same-explained words files asked h.bound a b h.is_bound h.is (subst (λ (x : Answer BoundQuery). Explains x b) same k.is)
 
 one-line : (tables : List Named) (number : ℕ) (text : List ℕ) (a b : Answer (List ℕ)) → IsLine tables number text a → IsLine tables number text b → a ≡ b
 one-line tables number text a b h k = h.is ∙ (ap (line_as number) (one-rows (query_tokens text) (Ok tables) None h.rows k.rows h.are k.are) ∙ sym k.is)
@@ -79,7 +79,7 @@ one-lines tables number (text ∷ texts) a b (x, p, h) (y, q, k) =
     one-from (AreLines tables (number + 1) texts) x a b (one-lines tables (number + 1) texts) h
     (subst (λ (line : Answer (List ℕ)). LinesFrom (AreLines tables (number + 1) texts) line b) same k)
 
-one-command : (words : List (List ℕ)) (files : Files) (c : Answer Command) (a b : Answer (List ℕ)) → AnswersCommand words files c a → AnswersCommand words files c b → AreOne c a b
+one-command : (words : List (List ℕ)) (files : Files) (c : Answer Command) (a b : Answer (List ℕ)) → AnswersCommand words files c a → AnswersCommand words files c b → AreOne words files c a b
 one-command words files (Err r) a b h k = h ∙ sym k
 one-command words files (Ok (command.Run asked)) a b h k = one-text words files asked a b h k
 one-command words files (Ok (command.Plain asked)) a b h k = one-text words files asked a b h k

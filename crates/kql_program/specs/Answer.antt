@@ -2,6 +2,7 @@
 use Rattle.std.specs.Prelude.{◌≡◌, ℕ, List, Ok, Err}
 use Rattle.kql_words.specs.Command.{command_of}
 use Rattle.kql_words.specs.Refusals.{Answer}
+use Rattle.kql_words.specs.declared.command.Asked.{Asked}
 use Rattle.kql_words.specs.declared.command.Command.{Command}
 use Rattle.kql_words.specs.declared.command.Command.TheVariants as command
 use Rattle.kql_program.specs.Files.{Files}
@@ -21,20 +22,20 @@ AnswersCommand words files (Ok (command.Trial trial)) a = AnswersTrial trial a
 abbrev pub Answers : List (List ℕ) → Files → Answer (List ℕ) → Type 0
 Answers words files a = AnswersCommand words files (command_of words) a
 
--- two answers to `explain`: one refusal, or texts of plans of one program
-abbrev pub ExplainTheSame : Answer (List ℕ) → Answer (List ℕ) → Type 0
-ExplainTheSame (Ok s) (Ok t) = ExplainOne s t
-ExplainTheSame (Ok s) (Err r) = ⊥
-ExplainTheSame (Err q) b = b ≡ Err q
+-- two answers to `explain`: one refusal, or texts of plans of the program that the query is bound to
+abbrev pub ExplainTheSame : List (List ℕ) → Files → Asked → Answer (List ℕ) → Answer (List ℕ) → Type 0
+ExplainTheSame words files asked (Ok s) (Ok t) = ExplainOne words files asked s t
+ExplainTheSame words files asked (Ok s) (Err r) = ⊥
+ExplainTheSame words files asked (Err q) b = b ≡ Err q
 
 -- two answers to what the words are: they are one, and where it is `explain`, they explain the same
-abbrev pub AreOne : Answer Command → Answer (List ℕ) → Answer (List ℕ) → Type 0
-AreOne (Err refusal) a b = a ≡ b
-AreOne (Ok (command.Run asked)) a b = a ≡ b
-AreOne (Ok (command.Plain asked)) a b = a ≡ b
-AreOne (Ok (command.Explain asked)) a b = ExplainTheSame a b
-AreOne (Ok (command.Trial trial)) a b = a ≡ b
+abbrev pub AreOne : List (List ℕ) → Files → Answer Command → Answer (List ℕ) → Answer (List ℕ) → Type 0
+AreOne words files (Err refusal) a b = a ≡ b
+AreOne words files (Ok (command.Run asked)) a b = a ≡ b
+AreOne words files (Ok (command.Plain asked)) a b = a ≡ b
+AreOne words files (Ok (command.Explain asked)) a b = ExplainTheSame words files asked a b
+AreOne words files (Ok (command.Trial trial)) a b = a ≡ b
 
 -- there is no other answer
 abbrev pub HasOneAnswer : List (List ℕ) → Files → Type 0
-HasOneAnswer words files = (a b : Answer (List ℕ)) → Answers words files a → Answers words files b → AreOne (command_of words) a b
+HasOneAnswer words files = (a b : Answer (List ℕ)) → Answers words files a → Answers words files b → AreOne words files (command_of words) a b

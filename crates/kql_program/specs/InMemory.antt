@@ -1,9 +1,9 @@
 -- The top call over sinks in memory.
-use Rattle.std.specs.Prelude.{◌≡◌, ◌≤◌, ℕ, List, [], ◌++◌, length, Some, Ok, Err}
+use Rattle.std.specs.Prelude.{◌≡◌, ◌≤◌, ◌⊎◌, ℕ, List, [], ◌++◌, length, Some, Ok, Err}
 use Rattle.kql_outside.specs.Memory.{SinkState, room_left}
 use Rattle.kql_program.specs.Answer.{Answers}
 use Rattle.kql_program.specs.declared.ended.Ended.{Ended}
-use Rattle.kql_program.specs.declared.ended.Ended.TheVariants.{OutOfMemory}
+use Rattle.kql_program.specs.declared.ended.Ended.TheVariants.{OutOfMemory, WriteFault}
 use Rattle.kql_program.specs.Endings.{IsEndingOf}
 use Rattle.kql_program.specs.Files.{Files}
 use Rattle.kql_program.specs.Lines.{line_of, memory_line}
@@ -29,18 +29,26 @@ pub record HaveRoom (a : Answer (List ℕ)) (out err : SinkState) : Type 0 where
   pub output : length (output_text a) ≤ room_left out
   pub error : length (error_text a) ≤ room_left err
 
--- there is room for what the answer to the words and files writes, and for the line of want of memory
-pub record HaveRoomFor (words : List (List ℕ)) (files : Files) (out err : SinkState) : Type 0 where
-  pub answer : (a : Answer (List ℕ)) → Answers words files a → HaveRoom a out err
-  pub memory : length memory_line ≤ room_left err
+-- the ending and the bytes of an answer
+pub record IsGiven (words : List (List ℕ)) (a : Answer (List ℕ)) (out out_new err err_new : SinkState) (e : Ended) : Type 0 where
+  pub ending : IsEndingOf words a e
+  pub output : out_new.bytes ≡ out.bytes ++ output_text a
+  pub error : err_new.bytes ≡ err.bytes ++ error_text a
 
--- the ending and the bytes of the answer to the words and files
+-- there was no room for an answer: a write fault
+pub record HadNoRoom (a : Answer (List ℕ)) (out err : SinkState) (e : Ended) : Type 0 where
+  pub ending : e ≡ WriteFault
+  pub full : HaveRoom a out err → ⊥
+
+-- the answer to the words and files was given, or there was no room for it
 pub record Answered (words : List (List ℕ)) (files : Files) (out out_new err err_new : SinkState) (e : Ended) : Type 0 where
   pub to : Answer (List ℕ)
   pub is : Answers words files to
-  pub ending : IsEndingOf words to e
-  pub output : out_new.bytes ≡ out.bytes ++ output_text to
-  pub error : err_new.bytes ≡ err.bytes ++ error_text to
+  pub given : IsGiven words to out out_new err err_new e ⊎ HadNoRoom to out err e
+
+-- there is room for the line of want of memory
+abbrev pub HasRoomForMemoryLine : SinkState → Type 0
+HasRoomForMemoryLine err = length memory_line ≤ room_left err
 
 -- want of memory: its line, and nothing on the output
 pub record RunsOut (out out_new err err_new : SinkState) (e : Ended) : Type 0 where

@@ -37,9 +37,10 @@ pub record IsPlanAsked (words : List (List ℕ)) (files : Files) (asked : Asked)
   pub is_bound : IsBoundAsked words files asked (Ok bound)
   pub is : IsPlanOf bound.program plan
 
--- two texts of plans of one program
-pub record ExplainOne (s t : List ℕ) : Type 0 where
+-- two texts of plans of the program that the query of a command is bound to
+pub record ExplainOne (words : List (List ℕ)) (files : Files) (asked : Asked) (s t : List ℕ) : Type 0 where
   pub bound : BoundQuery
+  pub is_bound : IsBoundAsked words files asked (Ok bound)
   pub first : Explains (Ok bound) (Ok s)
   pub second : Explains (Ok bound) (Ok t)
 

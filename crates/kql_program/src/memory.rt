@@ -1,7 +1,7 @@
 ghost use Rattle.std.specs.Prelude.{◌≡◌, ◌⊎◌, Some};
 ghost use Rattle.kql_program.specs.Answer.{HasOneAnswer};
 ghost use Rattle.kql_words.specs.Command.{texts};
-ghost use Rattle.kql_program.specs.InMemory.{Answered, HaveRoomFor, RunsOut, in_memory};
+ghost use Rattle.kql_program.specs.InMemory.{Answered, HasRoomForMemoryLine, RunsOut, in_memory};
 ghost use Rattle.kql_program.specs.Outcomes.{HasOutcome, outside};
 
 use crate::ended::Ended;
@@ -10,8 +10,9 @@ use kql_outside::{CleanShelf, CleanSink, Gate};
 use std::alloc::Global;
 use std::thread::Threads;
 
-/// The top call over files and sinks in memory. Where the sinks have room for the texts, its ending and its bytes are
-/// those of the answer, of which there is one, or of want of memory. Of `explain` there is one refusal, or texts of plans of one program.
+/// The top call over files and sinks in memory. Its ending and its bytes are those of the answer, of which there is one, or of want of
+/// memory; where there is no room for the answer, it is a write fault. Of `explain` the answer is one refusal, or one of the texts of plans
+/// of the one program that the query is bound to.
 pub fn kql_in_memory<R: Threads + Sync, G: Gate + Sync>(
     rt: &R,
     alloc: Global,
@@ -28,7 +29,7 @@ pub fn kql_in_memory<R: Threads + Sync, G: Gate + Sync>(
         (outside 0 (in_memory out.old) (in_memory err.old))
         (outside 0 (in_memory out.new) (in_memory err.new)) result }
 
-    ensures answers { HaveRoomFor (texts words.now) shelf.old.files out.old err.old →
+    ensures answers { HasRoomForMemoryLine err.old →
         Answered (texts words.now) shelf.old.files out.old out.new err.old err.new result ⊎ RunsOut out.old out.new err.old err.new result }
 
     ensures one { HasOneAnswer (texts words.now) shelf.old.files }

@@ -49,7 +49,7 @@ pub fn kql<R: Threads + Sync, F: Shelf, O: Sink, E: Sink, G: Gate + Sync>(
         let err_at : E → SinkNow = λ e. sink_now (E.written e) (E.room e) (E.faults e) in
         HasOutcome (texts words.now) (F.files shelf.old) (outside (F.faults shelf.old) (out_at out.old) (err_at err.old)) (outside (F.faults shelf.new) (out_at out.new) (err_at err.new)) result }
 
-    // Where the files are told there is one answer; of `explain` there is one refusal, or texts of plans of one program.
+    // Where the files are told there is one answer; of `explain` one refusal, or texts of plans of the one program that the query is bound to.
     ensures one { IfSome (F.files shelf.old) (λ files. HasOneAnswer (texts words.now) files) }
 {
     match read_command(words) {
