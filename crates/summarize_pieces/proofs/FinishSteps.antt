@@ -1,132 +1,53 @@
--- The table of the groups of all rows.
-use Rattle.std.proofs.Common.{◌≡◌, ◌≢◌, ◌<◌, ◌≤◌, ◌+◌, ◌-◌, ◌==◌, ◌++◌, ℕ, zero, suc, Bool, true, false, List, [], ◌∷◌, drop, filter, get_or, length, map, take, refl, ap, ap₂, sym, ◌∙◌, subst, arith, rules}
-use Rattle.std.specs.Prelude.{flat_map, not}
-use Rattle.std.specs.List.{list_all, range_with_len}
-use Rattle.std.proofs.lemmas.Bool.{and_parts}
-use Rattle.std.proofs.lemmas.Bool.Decides.{nat_tests}
+-- The rows of the groups of all rows.
+use Rattle.std.proofs.Common.{◌≡◌, ◌<◌, ◌≤◌, ◌+◌, ◌-◌, ◌++◌, ℕ, zero, suc, false, List, [], ◌∷◌, filter, get_or, length, map, take, refl, ap, ap₂, sym, ◌∙◌, subst, arith, rules}
+use Rattle.std.specs.Prelude.{All, not, slice_index_or}
+use Rattle.std.specs.List.{AllByRecursion, range_with_len}
 use Rattle.std.proofs.lemmas.List.{get_or-map, length-map, map-append, take_more}
-use Rattle.std.proofs.lemmas.List.FromFn.{get_or-map-range_with_len, length-map-range_with_len}
+use Rattle.std.proofs.lemmas.List.Elements.{All-from_recursion, recursion_from_All}
 use Rattle.kql_cells.specs.Keys.{same_keys}
-use Rattle.kql_cells.specs.Seen.{value_at}
-use Rattle.kql_cells.specs.Table.{Grid, IsGrid, gathered}
+use Rattle.kql_cells.specs.Seen.{row_at}
+use Rattle.kql_cells.specs.Table.{Grid, IsGrid, RowFits, gathered}
 use Rattle.kql_cells.specs.declared.schema.Column.{Column}
 use Rattle.kql_cells.specs.declared.value.Value.{Value}
-use Rattle.kql_cells.specs.declared.value.Value.TheVariants as value
-use Rattle.kql_values.specs.Grids.{HaveLength, row_of, rows_of}
-use Rattle.kql_values.proofs.GridLaws.{HaveLength-append}
+use Rattle.kql_cells.proofs.RowLaws.{length-RowFits}
+use Rattle.kql_values.specs.Grids.{HaveLength}
 use Rattle.kql_keys.specs.Numbers.{distinct}
 use Rattle.kql_functions.specs.declared.aggregate.Aggregate.{Aggregate}
 use Rattle.kql_functions.specs.declared.aggregate.Aggregate.TheVariants as aggregate
-use Rattle.kql_bound.specs.declared.expr.BExpr.{BExpr, out-BExpr, roll-BExpr, roll-out-BExpr}
-use Rattle.kql_bound.specs.declared.expr.BExpr.TheOpen.{BExpr-F}
-use Rattle.kql_bound.specs.declared.expr.BExpr.TheVariants as V
+use Rattle.kql_scalar_fns.specs.Arguments.{AreWellFormed}
+use Rattle.kql_bound.specs.declared.expr.BExpr.{BExpr}
 use Rattle.kql_bound.specs.declared.parts.BItem.{BItem}
 use Rattle.kql_bound.specs.declared.parts.GroupPlan.{GroupPlan}
 use Rattle.kql_bound.specs.declared.plan.Op.{the_lemmas}
 use Rattle.kql_bound.specs.declared.plan.Op.TheOpen.{Op-F}
 use Rattle.kql_bound.specs.declared.plan.Op.TheVariants as O
-use Rattle.kql_meaning.specs.declared.position.Position.TheVariants as position
-use Rattle.kql_meaning.specs.Expressions.{val, values_in}
 use Rattle.kql_meaning.specs.Fits.{Known}
-use Rattle.kql_meaning.specs.FittingExpressions.{aggregate_takes, call_or_expr_fits, call_or_expr_fits_step, expr_fits, scope_of}
-use Rattle.kql_meaning.specs.FittingOperators.{group_item_fits, summarize_fits}
+use Rattle.kql_meaning.specs.FittingOperators.{summarize_fits}
 use Rattle.kql_meaning.specs.Groups.{distinct_keys, group_of, key_by}
 use Rattle.kql_meaning.specs.Items.{items_values}
 use Rattle.kql_meaning.specs.Plans.{World}
-use Rattle.kql_meaning.specs.Results.{has_one_result, results, results_step}
-use Rattle.kql_meaning.specs.RowByRow.{is_plain}
 use Rattle.kql_meaning.specs.Summarize.{group_columns, group_row, group_rows, summarize_table}
 use Rattle.kql_meaning.specs.Tables.{distinct_by, places, places_below}
 use Rattle.kql_meaning.proofs.ListLaws.{gathered-all}
 use Rattle.kql_meaning.proofs.OperatorFitLaws.{op-Summarize}
-use Rattle.kql_meaning.proofs.ValueLaws.{val-Aggregate}
 use Rattle.kql_fit_laws.specs.LawsOfRows.{IsTable}
 use Rattle.kql_fit_laws.proofs.ItemLaws.{each_summarize_keeps}
+use Rattle.kql_fit_laws.proofs.RowFacts.{gathered-table}
 use Rattle.kql_fit_laws.proofs.RowLaws.{means}
-use Rattle.kql_row_laws.specs.Arguments.{argument_rows}
-use Rattle.kql_row_laws.proofs.GatheredLaws.{aggregate_arguments_are_plain, arguments_of_gathered, at-each}
 use Rattle.kql_scalar.specs.Rows.{rows}
-use Rattle.agg_folds.specs.Calls.{call_of, needs}
-use Rattle.agg_folds.specs.Folds.{folded}
-use Rattle.agg_folds.specs.Laws.{argument_rows as fold_rows}
 use Rattle.agg_folds.specs.States.{Kept, fold_of}
 use Rattle.agg_folds.specs.declared.call.FoldCall.{FoldCall}
-use Rattle.agg_folds.proofs.FoldLaws.{fold-is-aggregate}
 use Rattle.summarize_op.specs.Calls.{IsCall}
-use Rattle.summarize_pieces.specs.Pieces.{Grouped, args_at, args_of, call_in, call_over, call_step, calls_of, comes_in_pieces, groups_in, is_folded, is_folded_call, is_folded_step, keys_in, rows_with, state_in, value_for}
+use Rattle.summarize_pieces.specs.Calls.{AreGiven, calls_of, given}
+use Rattle.summarize_pieces.specs.Pieces.{AreAligned, AreAllGroups, Grouped, args_at, call_over, group_line, groups_in, keys_in, rows_with, state_in, value_for}
+use Rattle.summarize_pieces.proofs.GivenLaws.{are-formed, are-given}
 use Rattle.summarize_pieces.proofs.GroupSteps.{all-same}
-use Rattle.summarize_pieces.proofs.PlanSteps.{Fits, answer-is, call-arguments, items-of, one-fits, plan-fits}
-
--- A call over a group.
-
-same-call : (e : BExpr) (f : Aggregate) (args : List BExpr) → out-BExpr e ≡ BExpr-F.Aggregate f args → e ≡ V.Aggregate f args
-same-call e f args o = sym (roll-out-BExpr e) ∙ (ap roll-BExpr o ∙ V.rolls-Aggregate f args)
-
-not-any : (f : Aggregate) (args : List BExpr) → is_folded f args ≡ true → f ≢ aggregate.TakeAny
-unfolding is_folded
-not-any f args h e = let bad : false ≡ true = subst (λ (x : Aggregate). is_folded x args ≡ true) e h in absurd (cc bad)
-
-drop-none : (args : List BExpr) (u : Grid) (i : ℕ) → (length args == 1) ≡ true → values_in (drop 1 args) u i [] ≡ []
-unfolding values_in
-drop-none [] u i h = refl
-drop-none (a ∷ []) u i h = refl
-drop-none (a ∷ b ∷ args) u i h = absurd (grind (arith, nat_tests))
-
-one-result : (f : Aggregate) (args : List BExpr) (v : Value) (u : Grid) → is_folded f args ≡ true → results_step (BExpr-F.Aggregate f args) v u [] ≡ v ∷ []
-unfolding is_folded has_one_result
-one-result aggregate.TakeAny args v u h = absurd cc
-one-result aggregate.ArgMax args v u h = ap (λ (vs : List Value). v ∷ vs) (drop-none args u _ h)
-one-result aggregate.ArgMin args v u h = ap (λ (vs : List Value). v ∷ vs) (drop-none args u _ h)
-one-result _ args v u h = refl
-
-take-all : (p : BExpr → Bool) (n : ℕ) (es : List BExpr) → list_all p es ≡ true → list_all p (take n es) ≡ true
-take-all p zero es h = refl
-take-all p (suc n) [] h = refl
-take-all p (suc n) (e ∷ es) h =
-    let parts = and_parts (p e) (list_all p es) h in
-    rw (parts.0, take-all p n es parts.1) refl
-
-call-value : (f : Aggregate) (args : List BExpr) (t : Grid) (ps : List ℕ) → IsCall t.columns f args → is_folded f args ≡ true → val (V.Aggregate f args) (gathered t ps) 0 [] ≡ folded (call_over (f, args) t.columns) (args_at (f, args) t ps)
-unfolding call_over args_at args_of fold_rows argument_rows
-call-value f args t ps call h =
-    let u = gathered t ps in
-    let takes : aggregate_takes f args t.columns ≡ true = (call-arguments t.columns f args call).1 in
-    let plain = take-all is_plain (needs f) args (aggregate_arguments_are_plain f args (scope_of t.columns) position.Group call.fits) in
-    val-Aggregate f args u 0 []
-    ∙ (fold-is-aggregate f args u takes (λ e. absurd (not-any f args h e))
-    ∙ ap (folded (call_of f args t.columns)) (arguments_of_gathered (take (needs f) args) t ps [] plain))
-
--- Items over a group.
-
--- What a call gives for rows.
-abbrev given : Grid → List ℕ → Aggregate × List BExpr → Value
-given t ps c = folded (call_over c t.columns) (args_at c t ps)
-
-item-by : (e : BExpr) (y : BExpr-F BExpr) (other : Bool) (t : Grid) (ps : List ℕ) → out-BExpr e ≡ y → is_folded_step y ≡ true → call_or_expr_fits_step y other (scope_of t.columns) position.Group ≡ true → results_step y (val e (gathered t ps) 0 []) (gathered t ps) [] ≡ map (given t ps) (call_step y)
-item-by e (BExpr-F.Aggregate f args) other t ps o h fits =
-    one-result f args (val e (gathered t ps) 0 []) (gathered t ps) h
-    ∙ ap (λ (v : Value). v ∷ []) (ap (λ (x : BExpr). val x (gathered t ps) 0 []) (same-call e f args o) ∙ call-value f args t ps (record { fits = fits }) h)
-item-by e _ other t ps o h fits = absurd cc
-
-item-over : (e : BExpr) (t : Grid) (ps : List ℕ) → is_folded_call e ≡ true → call_or_expr_fits e (scope_of t.columns) position.Group ≡ true → results e (gathered t ps) 0 [] ≡ map (given t ps) (call_in e)
-unfolding is_folded_call call_or_expr_fits results call_in
-item-over e t ps h fits = item-by e (out-BExpr e) (expr_fits e (scope_of t.columns) position.Group) t ps refl h fits
-
-abbrev all_folded : List BItem → Bool
-all_folded items = list_all (λ (b : BItem). is_folded_call b.expr) items
-
-items-over : (items : List BItem) (t : Grid) (ps : List ℕ) → all_folded items ≡ true → list_all (group_item_fits t.columns) items ≡ true → items_values items (gathered t ps) 0 ≡ map (given t ps) (calls_of items)
-unfolding items_values calls_of
-items-over [] t ps h fits = refl
-items-over (b ∷ bs) t ps h fits =
-    let p = and_parts (is_folded_call b.expr) (all_folded bs) h in
-    let q = and_parts (group_item_fits t.columns b) (list_all (group_item_fits t.columns) bs) fits in
-    ap₂ (λ (xs ys : List Value). xs ++ ys) (item-over b.expr t ps p.0 (one-fits t.columns b q.0)) (items-over bs t ps p.1 q.1)
-    ∙ sym (map-append (given t ps) (call_in b.expr) (flat_map (λ (b : BItem). call_in b.expr) bs))
+use Rattle.summarize_pieces.proofs.NeighbourLaws.{with-inside}
+use Rattle.summarize_pieces.proofs.PlanSteps.{Fits, answer-is, calls-fit, items-of, plan-fits}
 
 -- The rows of the groups.
 
-all-places : (t : Grid) → rows 0 (length t.lines) ≡ places t
+pub all-places : (t : Grid) → rows 0 (length t.lines) ≡ places t
 unfolding rows places places_below
 all-places t = let same : length t.lines - 0 ≡ length t.lines = omega arith in ap (range_with_len 0) same
 
@@ -151,86 +72,110 @@ whole-group : (t : Grid) → gathered t (rows_with [] t 0 (length t.lines) []) �
 unfolding rows_with
 whole-group t = ap (gathered t) (all-same t (rows 0 (length t.lines)) ∙ all-places t) ∙ gathered-all t
 
-group-rows-are : (keys items : List BItem) (t : Grid) → group_rows keys items t ≡ map (with_items keys items t) (keys_in keys t 0 (length t.lines))
+rows-by-key : (keys items : List BItem) (t : Grid) → group_rows keys items t ≡ map (with_items keys items t) (keys_in keys t 0 (length t.lines))
 unfolding group_rows keys_in distinct_keys
-group-rows-are [] items t = ap (λ (u : Grid). items_values items u 0 ∷ []) (sym (whole-group t))
-group-rows-are (key ∷ keys) items t =
+rows-by-key [] items t = ap (λ (u : Grid). items_values items u 0 ∷ []) (sym (whole-group t))
+rows-by-key (key ∷ keys) items t =
     let by = key_by (key ∷ keys) t in
     each-same (group_row (key ∷ keys) items t) (with_items (key ∷ keys) items t) (distinct_by same_keys (map by (places t))) (one-row key keys items t)
     ∙ ap (map (with_items (key ∷ keys) items t)) (distinct-same (map by (places t)) ∙ ap (λ (is : List ℕ). distinct same_keys (map by is)) (sym (all-places t)))
 
--- The rows of the columns.
+pub lines-are : (g : GroupPlan) (t : Grid) → group_rows g.keys g.items t ≡ map (group_line g t) (keys_in g.keys t 0 (length t.lines))
+unfolding group_line
+lines-are g t = rows-by-key g.keys g.items t
 
-row-of-append : (cs ds : List (List Value)) (g : ℕ) → row_of (cs ++ ds) g ≡ row_of cs g ++ row_of ds g
-unfolding row_of
-row-of-append [] ds g = refl
-row-of-append (c ∷ cs) ds g = ap (λ (vs : List Value). value_at c g ∷ vs) (row-of-append cs ds g)
+-- What is known of the groups of all rows.
 
-row-of-values : {C : Type 0} (f : C → List Value → Value) (cs : List C) (ks : List (List Value)) (j : ℕ) → j < length ks → row_of (map (λ c. map (f c) ks) cs) j ≡ map (λ c. f c (get_or ks j [])) cs
-unfolding row_of
-row-of-values f [] ks j lt = refl
-row-of-values f (c ∷ cs) ks j lt = ap₂ (λ (v : Value) (vs : List Value). v ∷ vs) (get_or-map (f c) ks j [] value.Null lt) (row-of-values f cs ks j lt)
+abbrev pub AreGroups : GroupPlan → Grid → Grouped → Type 0
+AreGroups g t x = x ≡ groups_in g t 0 (length t.lines)
 
--- The values of each call for each group.
-abbrev pub all_values : GroupPlan → Grid → List (List Value)
-all_values g t = map (λ c. map (value_for c g.keys t 0 (length t.lines)) (keys_in g.keys t 0 (length t.lines))) (calls_of g.items)
+pub keys-of-groups : (g : GroupPlan) (t : Grid) (x : Grouped) → AreGroups g t x → x.keys ≡ keys_in g.keys t 0 (length t.lines)
+unfolding groups_in
+keys-of-groups g t x is = ap (λ (y : Grouped). y.keys) is
 
-rows-are : (g : GroupPlan) (t : Grid) (count : ℕ) (cs vs : List (List Value)) → comes_in_pieces g ≡ true → summarize_fits g t.columns ≡ true → rows_of count cs ≡ keys_in g.keys t 0 (length t.lines) → vs ≡ all_values g t → rows_of count (cs ++ vs) ≡ group_rows g.keys g.items t
-unfolding rows_of comes_in_pieces value_for
-rows-are g t count cs vs h fits own is =
-    let n = length t.lines in
-    let ks = keys_in g.keys t 0 n in
-    let size : length ks ≡ count = ap (λ (js : List (List Value)). length js) (sym own) ∙ length-map-range_with_len (row_of cs) 0 count in
-    let each : (j : ℕ) → j < length ks → row_of (cs ++ vs) j ≡ with_items g.keys g.items t (get_or ks j []) = λ j lt.
-    let k = get_or ks j [] in
-    let below : j < count = omega (arith, size, lt) in
-    let key : row_of cs j ≡ k = sym (get_or-map-range_with_len (row_of cs) 0 count j j [] below (omega arith)) ∙ ap (λ (js : List (List Value)). get_or js j []) own in
-    let made : row_of vs j ≡ map (λ c. value_for c g.keys t 0 n k) (calls_of g.items) = ap (λ (us : List (List Value)). row_of us j) is ∙ row-of-values (λ c. value_for c g.keys t 0 n) (calls_of g.items) ks j lt in
-    row-of-append cs vs j ∙ ap₂ (λ (xs ys : List Value). xs ++ ys) key (made ∙ sym (items-over g.items t (rows_with g.keys t 0 n k) h (items-of g t.columns fits))) in
-    ap (λ m. map (row_of (cs ++ vs)) (range_with_len 0 m)) (sym size)
-    ∙ (at-each [] (row_of (cs ++ vs)) (with_items g.keys g.items t) ks each
-    ∙ sym (group-rows-are g.keys g.items t))
+pub calls-of-groups : (g : GroupPlan) (t : Grid) (x : Grouped) → AreGroups g t x → x.calls ≡ map (λ (c : Aggregate × List BExpr). call_over c t.columns) (calls_of g.items)
+unfolding groups_in
+calls-of-groups g t x is = ap (λ (y : Grouped). y.calls) is
 
-pub table-is : (g : GroupPlan) (t made : Grid) (count : ℕ) (cs vs all lines : List (List Value)) (named : List Column) → comes_in_pieces g ≡ true → summarize_fits g t.columns ≡ true → rows_of count cs ≡ keys_in g.keys t 0 (length t.lines) → vs ≡ all_values g t → all ≡ cs ++ vs → lines ≡ rows_of count all → named ≡ group_columns g t.columns → made ≡ record { columns = named; lines = lines } → made ≡ summarize_table g t
-unfolding summarize_table
-table-is g t made count cs vs all lines named h fits own is ea el en em =
-    em ∙ ap₂ (λ (ds : List Column) (ls : List (List Value)). record { columns = ds; lines = ls }) en (el ∙ (ap (rows_of count) ea ∙ rows-are g t count cs vs h fits own is))
+pub states-of-groups : (g : GroupPlan) (t : Grid) (x : Grouped) → AreGroups g t x → x.states ≡ map (λ (c : Aggregate × List BExpr). map (state_in c g.keys t 0 (length t.lines)) (keys_in g.keys t 0 (length t.lines))) (calls_of g.items)
+unfolding groups_in
+states-of-groups g t x is = ap (λ (y : Grouped). y.states) is
 
-summary-table : (g : GroupPlan) (t : Grid) → IsTable t → Fits g t.columns → IsTable (summarize_table g t)
-summary-table g t h fits =
-    let k : Known = record { tables = []; lets = [] } in
-    let w : World = record { tables = []; lets = [] } in
-    let there = op-Summarize g k false t.columns ∙ answer-is (summarize_fits g t.columns) (group_columns g t.columns) fits in
-    let made = each_summarize_keeps k w g false t (group_columns g t.columns) h there in
-    subst IsTable (means (O.Summarize g) (Op-F.Summarize g) (search (rules, the_lemmas)) w t) made.1
+pub states-by-keys : (g : GroupPlan) (t : Grid) (x : Grouped) → AreGroups g t x → x.states ≡ map (λ (c : Aggregate × List BExpr). map (state_in c g.keys t 0 (length t.lines)) x.keys) (calls_of g.items)
+states-by-keys g t x is =
+    states-of-groups g t x is ∙ ap (λ (ks : List (List Value)). map (λ (c : Aggregate × List BExpr). map (state_in c g.keys t 0 (length t.lines)) ks) (calls_of g.items)) (sym (keys-of-groups g t x is))
 
-pub table-fits : (g : GroupPlan) (t : Grid) (count : ℕ) (cs vs all lines : List (List Value)) (named : List Column) → comes_in_pieces g ≡ true → Fits g t.columns → IsTable t → rows_of count cs ≡ keys_in g.keys t 0 (length t.lines) → vs ≡ all_values g t → all ≡ cs ++ vs → lines ≡ rows_of count all → named ≡ group_columns g t.columns → IsGrid (record { columns = named; lines = lines })
-table-fits g t count cs vs all lines named h fits whole own is ea el en =
-    let made = summary-table g t whole fits in
-    subst IsGrid (sym (table-is g t (record { columns = named; lines = lines }) count cs vs all lines named h (plan-fits g t.columns fits) own is ea el en refl)) made.1
+states-long : (cs : List (Aggregate × List BExpr)) (keys : List BItem) (t : Grid) (from to k : ℕ) (ks : List (List Value)) → k < length ks → AllByRecursion (λ (s : List Kept). k < length s) (map (λ c. map (state_in c keys t from to) ks) cs)
+states-long [] keys t from to k ks lt = tt
+states-long (c ∷ cs) keys t from to k ks lt = (let size = length-map ks (state_in c keys t from to) in omega (arith, size, lt), states-long cs keys t from to k ks lt)
 
-values-long : {C : Type 0} (f : C → List Value → Value) (cs : List C) (ks : List (List Value)) (count : ℕ) → length ks ≡ count → HaveLength count (map (λ c. map (f c) ks) cs)
-unfolding HaveLength
-values-long f [] ks count e = tt
-values-long f (c ∷ cs) ks count e = (length-map ks (f c) ∙ e, values-long f cs ks count e)
-
-pub all-long : (g : GroupPlan) (t : Grid) (count : ℕ) (cs vs all : List (List Value)) → HaveLength count cs → rows_of count cs ≡ keys_in g.keys t 0 (length t.lines) → vs ≡ all_values g t → all ≡ cs ++ vs → HaveLength count all
-unfolding rows_of
-all-long g t count cs vs all h own is ea =
+pub aligned : (g : GroupPlan) (cs : List Column) (x : Grouped) (k : ℕ) (calls : List FoldCall) (states : List (List Kept)) → AreAllGroups g cs x → k < length x.keys → calls ≡ x.calls → states ≡ x.states → AreAligned k calls states
+aligned g cs x k calls states h lt ec es =
+    let t = h.table in
     let ks = keys_in g.keys t 0 (length t.lines) in
-    let size : length ks ≡ count = ap (λ (js : List (List Value)). length js) (sym own) ∙ length-map-range_with_len (row_of cs) 0 count in
-    subst (HaveLength count) (sym ea) (HaveLength-append count cs vs h (subst (HaveLength count) (sym is) (values-long (λ c. value_for c g.keys t 0 (length t.lines)) (calls_of g.items) ks count size)))
+    let ck = calls-of-groups g t x h.groups in
+    let sk = states-of-groups g t x h.groups in
+    let below : k < length ks = subst (λ (js : List (List Value)). k < length js) (keys-of-groups g t x h.groups) lt in
+    let f = λ (c : Aggregate × List BExpr). map (state_in c g.keys t 0 (length t.lines)) ks in
+    let over = λ (c : Aggregate × List BExpr). call_over c t.columns in
+    record {
+      many = ap (λ (xs : List FoldCall). length xs) (ec ∙ ck) ∙ (length-map (calls_of g.items) over ∙ sym (ap (λ (xs : List (List Kept)). length xs) (es ∙ sk) ∙ length-map (calls_of g.items) f));
+      each = subst (All (λ (s : List Kept). k < length s)) (sym (es ∙ sk)) (All-from_recursion (λ (s : List Kept). k < length s) (map f (calls_of g.items)) (states-long (calls_of g.items) g.keys t 0 (length t.lines) k ks below));
+    }
 
--- The values of folds.
+pub aligned-call : (k : ℕ) (calls : List FoldCall) (states : List (List Kept)) (j : ℕ) → AreAligned k calls states → j < length states → j < length calls
+aligned-call k calls states j h lt = let many = h.many in omega (arith, many, lt)
 
-pub finish-step : (call : FoldCall) (lists : List (List (List Value))) (folds : List Kept) (i : ℕ) (fold : Kept) (v : Value) (old new : List Value) → i < length folds → fold ≡ get_or folds i fold → folds ≡ map (fold_of call) lists → old ≡ map (folded call) (take i lists) → ((rs : List (List Value)) → fold ≡ fold_of call rs → v ≡ folded call rs) → new ≡ old ++ v ∷ [] → new ≡ map (folded call) (take (i + 1) lists)
-finish-step call lists folds i fold v old new lt is all before value after =
-    let size : length folds ≡ length lists = ap (λ (ks : List Kept). length ks) all ∙ length-map lists (fold_of call) in
-    let below : i < length lists = omega (arith, size, lt) in
-    let own : fold ≡ fold_of call (get_or lists i []) = is ∙ (ap (λ (ks : List Kept). get_or ks i fold) all ∙ get_or-map (fold_of call) lists i [] fold below) in
+pub aligned-state : (k : ℕ) (calls : List FoldCall) (states : List (List Kept)) (j : ℕ) (s : List Kept) → AreAligned k calls states → j < length states → s ≡ get_or states j s → k < length s
+aligned-state k calls states j s h lt is = subst (λ (r : List Kept). k < length r) (sym is) (h.each j s lt)
+
+pub ruleset aligned_steps = (aligned-call, aligned-state)
+
+-- What each call gives for a group.
+
+abbrev pub values_for : List (Aggregate × List BExpr) → List BItem → Grid → ℕ → ℕ → List Value → List Value
+values_for cs keys t from to k = map (λ c. value_for c keys t from to k) cs
+
+state-lists : (c : Aggregate × List BExpr) (keys : List BItem) (t : Grid) (from to : ℕ) (ks : List (List Value)) → map (state_in c keys t from to) ks ≡ map (fold_of (call_over c t.columns)) (map (λ k. args_at c t (rows_with keys t from to k)) ks)
+unfolding state_in
+state-lists c keys t from to [] = refl
+state-lists c keys t from to (k ∷ ks) = ap (λ (xs : List Kept). fold_of (call_over c t.columns) (args_at c t (rows_with keys t from to k)) ∷ xs) (state-lists c keys t from to ks)
+
+pub values-start : (cs : List (Aggregate × List BExpr)) (keys : List BItem) (t : Grid) (from to : ℕ) (k made : List Value) → made ≡ [] → made ≡ values_for (take 0 cs) keys t from to k
+values-start cs keys t from to k made e = e
+
+pub values-step : (cs : List (Aggregate × List BExpr)) (keys : List BItem) (t : Grid) (from to k : ℕ) (ks : List (List Value)) (calls : List FoldCall) (folds : List (List Kept)) (j : ℕ) (call : FoldCall) (list : List Kept) (v : Value) (old new : List Value) → j < length folds → k < length list → call ≡ get_or calls j call → list ≡ get_or folds j list → calls ≡ map (λ c. call_over c t.columns) cs → folds ≡ map (λ c. map (state_in c keys t from to) ks) cs → old ≡ values_for (take j cs) keys t from to (slice_index_or ks k [])
+    → ((lists : List (List (List Value))) → list ≡ map (fold_of call) lists → v ≡ given call (slice_index_or lists k [])) → new ≡ old ++ v ∷ [] → new ≡ values_for (take (j + 1) cs) keys t from to (slice_index_or ks k [])
+unfolding value_for
+values-step cs keys t from to k ks calls folds j call list v old new lt inside ci li ec es before value after =
+    let size : length folds ≡ length cs = ap (λ (xs : List (List Kept)). length xs) es ∙ length-map cs _ in
+    let below : j < length cs = omega (arith, size, lt) in
+    let d : Aggregate × List BExpr = (aggregate.Count, []) in
+    let c = get_or cs j d in
+    let own : list ≡ map (state_in c keys t from to) ks = li ∙ (ap (λ (xs : List (List Kept)). get_or xs j list) es ∙ get_or-map (λ c. map (state_in c keys t from to) ks) cs j d list below) in
+    let named : call ≡ call_over c t.columns = ci ∙ (ap (λ (xs : List FoldCall). get_or xs j call) ec ∙ get_or-map (λ c. call_over c t.columns) cs j d call below) in
+    let lists = map (λ k. args_at c t (rows_with keys t from to k)) ks in
+    let many : length list ≡ length ks = ap (λ (xs : List Kept). length xs) own ∙ length-map ks _ in
+    let there : k < length ks = omega (arith, many, inside) in
+    let made : v ≡ given (call_over c t.columns) (args_at c t (rows_with keys t from to (slice_index_or ks k []))) =
+    value lists (own ∙ (state-lists c keys t from to ks ∙ ap (λ (h : FoldCall). map (fold_of h) lists) (sym named)))
+    ∙ ap₂ (λ (h : FoldCall) (rs : List (List Value)). given h rs) named (get_or-map (λ k. args_at c t (rows_with keys t from to k)) ks k [] [] there) in
+    let f = λ (c : Aggregate × List BExpr). given (call_over c t.columns) (args_at c t (rows_with keys t from to (slice_index_or ks k []))) in
     after
-    ∙ (ap₂ (λ (xs : List Value) (x : Value). xs ++ x ∷ []) before (value (get_or lists i []) own)
-    ∙ (sym (map-append (folded call) (take i lists) (get_or lists i [] ∷ [])) ∙ ap (map (folded call)) (sym (take_more lists i [] below))))
+    ∙ (ap₂ (λ (xs : List Value) (x : Value). xs ++ x ∷ []) before made
+    ∙ (sym (map-append f (take j cs) (c ∷ [])) ∙ ap (map f) (sym (take_more cs j d below))))
+
+same-default : (calls : List FoldCall) (j : ℕ) (d e : FoldCall) → j < length calls → get_or calls j d ≡ get_or calls j e
+same-default [] j d e lt = absurd (omega (arith, lt))
+same-default (c ∷ calls) zero d e lt = refl
+same-default (c ∷ calls) (suc j) d e lt = same-default calls j d e (omega (arith, lt))
+
+-- The same, where a call is read with a default.
+pub values-next : (cs : List (Aggregate × List BExpr)) (keys : List BItem) (t : Grid) (from to k : ℕ) (ks : List (List Value)) (calls : List FoldCall) (folds : List (List Kept)) (j : ℕ) (d : FoldCall) (list : List Kept) (v : Value) (old new : List Value) → AreAligned k calls folds → j < length folds → list ≡ get_or folds j list → calls ≡ map (λ c. call_over c t.columns) cs → folds ≡ map (λ c. map (state_in c keys t from to) ks) cs → old ≡ values_for (take j cs) keys t from to (slice_index_or ks k [])
+    → ((lists : List (List (List Value))) → list ≡ map (fold_of (get_or calls j d)) lists → v ≡ given (get_or calls j d) (slice_index_or lists k [])) → new ≡ old ++ v ∷ [] → new ≡ values_for (take (j + 1) cs) keys t from to (slice_index_or ks k [])
+values-next cs keys t from to k ks calls folds j d list v old new h lt li ec es before value after =
+    values-step cs keys t from to k ks calls folds j (get_or calls j d) list v old new lt (aligned-state k calls folds j list h lt li)
+    (same-default calls j d (get_or calls j d) (aligned-call k calls folds j h lt)) li ec es before value after
 
 take-whole : {X : Type 0} (n : ℕ) (xs : List X) → length xs ≤ n → take n xs ≡ xs
 take-whole zero [] le = refl
@@ -238,54 +183,114 @@ take-whole (suc n) [] le = refl
 take-whole zero (x ∷ xs) le = absurd (omega arith)
 take-whole (suc n) (x ∷ xs) le = ap (λ ys. x ∷ ys) (take-whole n xs (omega (arith, le)))
 
-pub finish-end : (call : FoldCall) (lists : List (List (List Value))) (folds : List Kept) (i : ℕ) (made : List Value) → length folds ≤ i → folds ≡ map (fold_of call) lists → made ≡ map (folded call) (take i lists) → made ≡ map (folded call) lists
-finish-end call lists folds i made le all is =
+pub values-end : (cs : List (Aggregate × List BExpr)) (keys : List BItem) (t : Grid) (from to : ℕ) (k : List Value) (ks : List (List Value)) (folds : List (List Kept)) (j : ℕ) (made : List Value) → length folds ≤ j → folds ≡ map (λ c. map (state_in c keys t from to) ks) cs → made ≡ values_for (take j cs) keys t from to k → made ≡ values_for cs keys t from to k
+values-end cs keys t from to k ks folds j made le all is =
+    let size : length folds ≡ length cs = ap (λ (xs : List (List Kept)). length xs) all ∙ length-map cs _ in
+    is ∙ ap (λ (ds : List (Aggregate × List BExpr)). values_for ds keys t from to k) (take-whole j cs (omega (arith, size, le)))
+
+pub one-fold : (call : FoldCall) (lists : List (List (List Value))) (folds : List Kept) (k : ℕ) (fold : Kept) → k < length folds → fold ≡ get_or folds k fold → folds ≡ map (fold_of call) lists → fold ≡ fold_of call (slice_index_or lists k [])
+one-fold call lists folds k fold lt is all =
     let size : length folds ≡ length lists = ap (λ (ks : List Kept). length ks) all ∙ length-map lists (fold_of call) in
-    is ∙ ap (map (folded call)) (take-whole i lists (omega (arith, size, le)))
+    let below : k < length lists = omega (arith, size, lt) in
+    is ∙ (ap (λ (ks : List Kept). get_or ks k fold) all ∙ get_or-map (fold_of call) lists k [] fold below)
 
--- Of each call.
+-- The row of a group.
 
--- What the calls keep of groups, and what they give for them.
-abbrev pub states_for : List (Aggregate × List BExpr) → List BItem → Grid → ℕ → ℕ → List (List Value) → List (List Kept)
-states_for cs keys t from to ks = map (λ c. map (state_in c keys t from to) ks) cs
+members-under : (from n : ℕ) (is : List ℕ) → AllByRecursion (λ i. (from ≤ i) × (i < n)) is → AllByRecursion (λ i. i < n) is
+members-under from n [] h = tt
+members-under from n (i ∷ is) h = (h.0.1, members-under from n is h.1)
 
-abbrev pub values_for : List (Aggregate × List BExpr) → List BItem → Grid → ℕ → ℕ → List (List Value) → List (List Value)
-values_for cs keys t from to ks = map (λ c. map (value_for c keys t from to) ks) cs
+group-table : (keys : List BItem) (t : Grid) (k : List Value) → IsTable t → IsTable (gathered t (rows_with keys t 0 (length t.lines) k))
+group-table keys t k h =
+    let ps = rows_with keys t 0 (length t.lines) k in
+    gathered-table t ps h (All-from_recursion (λ i. i < length t.lines) ps (members-under 0 (length t.lines) ps (with-inside keys t 0 (length t.lines) k (omega arith))))
 
-state-lists : (c : Aggregate × List BExpr) (keys : List BItem) (t : Grid) (from to : ℕ) (ks : List (List Value)) → map (state_in c keys t from to) ks ≡ map (fold_of (call_over c t.columns)) (map (λ k. args_at c t (rows_with keys t from to k)) ks)
-unfolding state_in
-state-lists c keys t from to [] = refl
-state-lists c keys t from to (k ∷ ks) = ap (λ (xs : List Kept). fold_of (call_over c t.columns) (args_at c t (rows_with keys t from to k)) ∷ xs) (state-lists c keys t from to ks)
+calls-that-fit : (g : GroupPlan) (t : Grid) → Fits g t.columns → AllByRecursion (λ (c : Aggregate × List BExpr). IsCall t.columns c.0 c.1) (calls_of g.items)
+calls-that-fit g t fits = calls-fit t.columns g.items (items-of g t.columns (plan-fits g t.columns fits))
 
-value-lists : (c : Aggregate × List BExpr) (keys : List BItem) (t : Grid) (from to : ℕ) (ks : List (List Value)) → map (folded (call_over c t.columns)) (map (λ k. args_at c t (rows_with keys t from to k)) ks) ≡ map (value_for c keys t from to) ks
+same-values : (cs : List (Aggregate × List BExpr)) (keys : List BItem) (t : Grid) (from to : ℕ) (k : List Value) → values_for cs keys t from to k ≡ map (λ (c : Aggregate × List BExpr). given (call_over c t.columns) (args_at c t (rows_with keys t from to k))) cs
 unfolding value_for
-value-lists c keys t from to [] = refl
-value-lists c keys t from to (k ∷ ks) = ap (λ (xs : List Value). folded (call_over c t.columns) (args_at c t (rows_with keys t from to k)) ∷ xs) (value-lists c keys t from to ks)
+same-values [] keys t from to k = refl
+same-values (c ∷ cs) keys t from to k = ap (λ (vs : List Value). given (call_over c t.columns) (args_at c t (rows_with keys t from to k)) ∷ vs) (same-values cs keys t from to k)
 
-pub values-start : (cs : List (Aggregate × List BExpr)) (keys : List BItem) (t : Grid) (from to : ℕ) (ks made : List (List Value)) → made ≡ [] → made ≡ values_for (take 0 cs) keys t from to ks
-values-start cs keys t from to ks made e = e
+pub values-given : (g : GroupPlan) (t : Grid) (k vs : List Value) → Fits g t.columns → vs ≡ values_for (calls_of g.items) g.keys t 0 (length t.lines) k → AreGiven (calls_of g.items) (gathered t (rows_with g.keys t 0 (length t.lines) k)) vs
+values-given g t k vs fits is =
+    are-given (calls_of g.items) t (rows_with g.keys t 0 (length t.lines) k) vs (calls-that-fit g t fits) (is ∙ same-values (calls_of g.items) g.keys t 0 (length t.lines) k)
 
-pub values-step : (cs : List (Aggregate × List BExpr)) (keys : List BItem) (t : Grid) (from to : ℕ) (ks : List (List Value)) (folds : List (List Kept)) (j : ℕ) (item : List Kept) (v : List Value) (old new : List (List Value)) → j < length folds → item ≡ get_or folds j item → folds ≡ states_for cs keys t from to ks → old ≡ values_for (take j cs) keys t from to ks → ((call : FoldCall) (lists : List (List (List Value))) → item ≡ map (fold_of call) lists → v ≡ map (folded call) lists) → new ≡ old ++ v ∷ [] → new ≡ values_for (take (j + 1) cs) keys t from to ks
-values-step cs keys t from to ks folds j item v old new lt is all before value after =
-    let size : length folds ≡ length cs = ap (λ (xs : List (List Kept)). length xs) all ∙ length-map cs _ in
-    let below : j < length cs = omega (arith, size, lt) in
-    let d : Aggregate × List BExpr = (aggregate.Count, []) in
-    let c = get_or cs j d in
-    let own : item ≡ map (state_in c keys t from to) ks = is ∙ (ap (λ (xs : List (List Kept)). get_or xs j item) all ∙ get_or-map (λ c. map (state_in c keys t from to) ks) cs j d item below) in
-    let made : v ≡ map (value_for c keys t from to) ks = value (call_over c t.columns) (map (λ k. args_at c t (rows_with keys t from to k)) ks) (own ∙ state-lists c keys t from to ks) ∙ value-lists c keys t from to ks in
-    after
-    ∙ (ap₂ (λ (xs : List (List Value)) (x : List Value). xs ++ x ∷ []) before made
-    ∙ (sym (map-append (λ c. map (value_for c keys t from to) ks) (take j cs) (c ∷ [])) ∙ ap (map (λ c. map (value_for c keys t from to) ks)) (sym (take_more cs j d below))))
+pub values-formed : (g : GroupPlan) (t : Grid) (k vs : List Value) → IsTable t → Fits g t.columns → vs ≡ values_for (calls_of g.items) g.keys t 0 (length t.lines) k → AreWellFormed vs
+values-formed g t k vs h fits is =
+    are-formed (calls_of g.items) t (rows_with g.keys t 0 (length t.lines) k) vs (group-table g.keys t k h) (calls-that-fit g t fits) (is ∙ same-values (calls_of g.items) g.keys t 0 (length t.lines) k)
 
-pub values-end : (cs : List (Aggregate × List BExpr)) (keys : List BItem) (t : Grid) (from to : ℕ) (ks : List (List Value)) (folds : List (List Kept)) (j : ℕ) (made : List (List Value)) → length folds ≤ j → folds ≡ states_for cs keys t from to ks → made ≡ values_for (take j cs) keys t from to ks → made ≡ values_for cs keys t from to ks
-values-end cs keys t from to ks folds j made le all is =
-    let size : length folds ≡ length cs = ap (λ (xs : List (List Kept)). length xs) all ∙ length-map cs _ in
-    is ∙ ap (map (λ c. map (value_for c keys t from to) ks)) (take-whole j cs (omega (arith, size, le)))
+pub line-is : (g : GroupPlan) (t : Grid) (x : Grouped) (n : ℕ) (key line : List Value) → key ≡ row_at x.keys n → line ≡ key ++ items_values g.items (gathered t (rows_with g.keys t 0 (length t.lines) (slice_index_or x.keys n []))) 0 → line ≡ group_line g t (slice_index_or x.keys n [])
+unfolding group_line
+line-is g t x n key line ek is = is ∙ ap (λ (k : List Value). k ++ items_values g.items (gathered t (rows_with g.keys t 0 (length t.lines) (slice_index_or x.keys n []))) 0) ek
 
-pub keys-of-groups : (g : GroupPlan) (t : Grid) (x : Grouped) (keys : List (List Value)) → x ≡ groups_in g t 0 (length t.lines) → keys ≡ x.keys → keys ≡ keys_in g.keys t 0 (length t.lines)
-unfolding groups_in
-keys-of-groups g t x keys is e = e ∙ ap (λ (y : Grouped). y.keys) is
+-- One row after another.
 
-pub states-of-groups : (g : GroupPlan) (t : Grid) (x : Grouped) (states : List (List Kept)) → x ≡ groups_in g t 0 (length t.lines) → states ≡ x.states → states ≡ states_for (calls_of g.items) g.keys t 0 (length t.lines) (keys_in g.keys t 0 (length t.lines))
-unfolding groups_in
-states-of-groups g t x states is e = e ∙ ap (λ (y : Grouped). y.states) is
+pub lines-start : (g : GroupPlan) (t : Grid) (made : List (List Value)) → made ≡ [] → made ≡ take 0 (group_rows g.keys g.items t)
+lines-start g t made e = e
+
+lines-many : (g : GroupPlan) (t : Grid) (x : Grouped) → AreGroups g t x → length (group_rows g.keys g.items t) ≡ length x.keys
+lines-many g t x is =
+    ap (λ (ls : List (List Value)). length ls) (lines-are g t) ∙ (length-map (keys_in g.keys t 0 (length t.lines)) (group_line g t) ∙ sym (ap (λ (ks : List (List Value)). length ks) (keys-of-groups g t x is)))
+
+line-at : (g : GroupPlan) (t : Grid) (x : Grouped) (n : ℕ) → AreGroups g t x → n < length x.keys → get_or (group_rows g.keys g.items t) n [] ≡ group_line g t (slice_index_or x.keys n [])
+line-at g t x n is lt =
+    let ks = keys_in g.keys t 0 (length t.lines) in
+    let same = keys-of-groups g t x is in
+    let below : n < length ks = subst (λ (js : List (List Value)). n < length js) same lt in
+    ap (λ (ls : List (List Value)). get_or ls n []) (lines-are g t) ∙ (get_or-map (group_line g t) ks n [] [] below ∙ ap (λ (js : List (List Value)). group_line g t (slice_index_or js n [])) (sym same))
+
+pub lines-step : (g : GroupPlan) (t : Grid) (x : Grouped) (n : ℕ) (line : List Value) (old new : List (List Value)) → AreGroups g t x → n < length x.keys → old ≡ take n (group_rows g.keys g.items t) → line ≡ group_line g t (slice_index_or x.keys n []) → new ≡ old ++ line ∷ [] → new ≡ take (n + 1) (group_rows g.keys g.items t)
+lines-step g t x n line old new is lt before made after =
+    let many = lines-many g t x is in
+    let below : n < length (group_rows g.keys g.items t) = omega (arith, many, lt) in
+    after ∙ (ap₂ (λ (ls : List (List Value)) (l : List Value). ls ++ l ∷ []) before (made ∙ sym (line-at g t x n is lt)) ∙ sym (take_more (group_rows g.keys g.items t) n [] below))
+
+pub lines-end : (g : GroupPlan) (t : Grid) (x : Grouped) (n : ℕ) (made : List (List Value)) → AreGroups g t x → length x.keys ≤ n → made ≡ take n (group_rows g.keys g.items t) → made ≡ group_rows g.keys g.items t
+lines-end g t x n made is le same =
+    let many = lines-many g t x is in
+    same ∙ take-whole n (group_rows g.keys g.items t) (omega (arith, many, le))
+
+pub summary-table : (g : GroupPlan) (t : Grid) → IsTable t → Fits g t.columns → IsTable (summarize_table g t)
+summary-table g t h fits =
+    let k : Known = record { tables = []; lets = [] } in
+    let w : World = record { tables = []; lets = [] } in
+    let there = op-Summarize g k false t.columns ∙ answer-is (summarize_fits g t.columns) (group_columns g t.columns) fits in
+    let made = each_summarize_keeps k w g false t (group_columns g t.columns) h there in
+    subst IsTable (means (O.Summarize g) (Op-F.Summarize g) (search (rules, the_lemmas)) w t) made.1
+
+lines-fit : (g : GroupPlan) (t : Grid) → IsTable t → Fits g t.columns → All (RowFits (group_columns g t.columns)) (group_rows g.keys g.items t)
+unfolding summarize_table
+lines-fit g t h fits = (summary-table g t h fits).1
+
+wide : (cs : List Column) (ls : List (List Value)) → AllByRecursion (RowFits cs) ls → HaveLength (length cs) ls
+unfolding HaveLength
+wide cs [] h = tt
+wide cs (l ∷ ls) h = (length-RowFits cs l h.0, wide cs ls h.1)
+
+wide-take : (w n : ℕ) (ls : List (List Value)) → HaveLength w ls → HaveLength w (take n ls)
+unfolding HaveLength
+wide-take w zero ls h = tt
+wide-take w (suc n) [] h = tt
+wide-take w (suc n) (l ∷ ls) h = (h.0, wide-take w n ls h.1)
+
+pub lines-wide : (g : GroupPlan) (t : Grid) (x : Grouped) (n : ℕ) (line : List Value) (old : List (List Value)) → IsTable t → Fits g t.columns → AreGroups g t x → n < length x.keys → line ≡ group_line g t (slice_index_or x.keys n []) → old ≡ take n (group_rows g.keys g.items t) → HaveLength (length line) old
+lines-wide g t x n line old h fits is lt made before =
+    let cs = group_columns g t.columns in
+    let many = lines-many g t x is in
+    let below : n < length (group_rows g.keys g.items t) = omega (arith, many, lt) in
+    let all = lines-fit g t h fits in
+    let size : length line ≡ length cs = ap (λ (l : List Value). length l) (made ∙ sym (line-at g t x n is lt)) ∙ length-RowFits cs (get_or (group_rows g.keys g.items t) n []) (all n [] below) in
+    subst (λ w. HaveLength w old) (sym size) (subst (HaveLength (length cs)) (sym before) (wide-take (length cs) n (group_rows g.keys g.items t) (wide cs (group_rows g.keys g.items t) (recursion_from_All (RowFits cs) (group_rows g.keys g.items t) all))))
+
+pub table-fits : (g : GroupPlan) (t : Grid) (named : List Column) (lines : List (List Value)) → IsTable t → Fits g t.columns → named ≡ group_columns g t.columns → lines ≡ group_rows g.keys g.items t → IsGrid (record { columns = named; lines = lines })
+unfolding summarize_table
+table-fits g t named lines h fits en el =
+    subst IsGrid (ap₂ (λ (cs : List Column) (ls : List (List Value)). record { columns = cs; lines = ls }) (sym en) (sym el)) (summary-table g t h fits).1
+
+pub table-is : (g : GroupPlan) (t made : Grid) (named : List Column) (lines : List (List Value)) → named ≡ group_columns g t.columns → lines ≡ group_rows g.keys g.items t → made ≡ record { columns = named; lines = lines } → made ≡ summarize_table g t
+unfolding summarize_table
+table-is g t made named lines en el em = em ∙ ap₂ (λ (cs : List Column) (ls : List (List Value)). record { columns = cs; lines = ls }) en el
+
+pub ruleset one_steps = (one-fold)

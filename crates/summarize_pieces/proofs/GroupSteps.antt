@@ -35,10 +35,12 @@ use Rattle.kql_row_laws.proofs.GatheredLaws.{at-each}
 use Rattle.kql_scalar.specs.Rows.{rows}
 use Rattle.agg_folds.specs.Calls.{call_of, needs}
 use Rattle.agg_folds.specs.States.{Kept, fold_of}
+use Rattle.agg_folds.specs.declared.call.FoldCall.{FoldCall}
 use Rattle.summarize_op.specs.Calls.{IsCall}
 use Rattle.summarize_op.specs.Grouped.{AreFormed}
 use Rattle.summarize_op.specs.Passes.{folds_of, group_args}
-use Rattle.summarize_pieces.specs.Pieces.{Called, CanBeFolded, IsRead, Piece, AreStored, ColumnsStored, args_at, args_of, call_over, called, calls_of, columns_along, group_keys, groups_in, keys_in, piece_of, rows_with, state_in, values_along}
+use Rattle.summarize_pieces.specs.Calls.{calls_of}
+use Rattle.summarize_pieces.specs.Pieces.{Called, CanBeFolded, IsRead, Piece, AreStored, ColumnsStored, args_at, args_of, call_over, called, columns_along, group_keys, groups_in, keys_in, piece_of, rows_with, state_in, values_along}
 use Rattle.summarize_pieces.proofs.KeyLists.{turned}
 use Rattle.summarize_pieces.proofs.PlanSteps.{along-long, along-row, call-arguments, calls-fit, items-of, map-shift, take-plain}
 use Rattle.summarize_pieces.proofs.ColumnSteps.{fits_plain}
@@ -165,10 +167,15 @@ states-are : (cs : List (Aggregate × List BExpr)) (keys : List BItem) (t : Grid
 states-are [] keys t from to = refl
 states-are ((f, args) ∷ cs) keys t from to = ap₂ (λ (x : List Kept) (xs : List (List Kept)). x ∷ xs) (one-state f args keys t from to) (states-are cs keys t from to)
 
-pub piece-groups : (g : GroupPlan) (t : Grid) (from to : ℕ) (p : Piece) (count width : ℕ) (keys : List (List Value)) (numbers : List ℕ) (states : List (List Kept)) → p ≡ piece_of g t from to → count ≡ length p.keys → width ≡ p.width → keys ≡ group_keys p.width p.keys → numbers ≡ numbers_of same_keys p.keys
-    → states ≡ map (λ (c : Called). folds_of c.call c.columns numbers (length keys)) p.calls → record { count = count; width = width; keys = keys; states = states } ≡ groups_in g t from to
+over-calls : (cs : List (Aggregate × List BExpr)) (t : Grid) (from to : ℕ) → map (λ (c : Called). c.call) (map (called t from to) cs) ≡ map (λ (c : Aggregate × List BExpr). call_over c t.columns) cs
+unfolding called call_over
+over-calls [] t from to = refl
+over-calls ((f, args) ∷ cs) t from to = ap (λ (xs : List FoldCall). call_of f args t.columns ∷ xs) (over-calls cs t from to)
+
+pub piece-groups : (g : GroupPlan) (t : Grid) (from to : ℕ) (p : Piece) (count width : ℕ) (keys : List (List Value)) (numbers : List ℕ) (calls : List FoldCall) (states : List (List Kept)) → p ≡ piece_of g t from to → count ≡ length p.keys → width ≡ p.width → keys ≡ group_keys p.width p.keys → numbers ≡ numbers_of same_keys p.keys
+    → calls ≡ map (λ (c : Called). c.call) p.calls → states ≡ map (λ (c : Called). folds_of c.call c.columns numbers (length keys)) p.calls → record { count = count; width = width; keys = keys; calls = calls; states = states } ≡ groups_in g t from to
 unfolding groups_in piece_of
-piece-groups g t from to p count width keys numbers states is ec ew ek en es =
+piece-groups g t from to p count width keys numbers calls states is ec ew ek en el es =
     let ks = map (key_by g.keys t) (rows from to) in
     let pk : p.keys ≡ ks = ap (λ (q : Piece). q.keys) is in
     let pw : p.width ≡ length g.keys = ap (λ (q : Piece). q.width) is in
@@ -176,12 +183,25 @@ piece-groups g t from to p count width keys numbers states is ec ew ek en es =
     let own : keys ≡ keys_in g.keys t from to = ek ∙ (ap₂ group_keys pw pk ∙ keys-are g.keys t from to) in
     let size : count ≡ to - from = ec ∙ (ap (λ (js : List (List Value)). length js) pk ∙ keys-many g.keys t from to) in
     let wide : width ≡ length g.keys = ew ∙ pw in
+    let over : calls ≡ map (λ (c : Aggregate × List BExpr). call_over c t.columns) (calls_of g.items) = el ∙ (ap (map (λ (c : Called). c.call)) pc ∙ over-calls (calls_of g.items) t from to) in
     let kept : states ≡ map (λ c. map (state_in c g.keys t from to) (keys_in g.keys t from to)) (calls_of g.items) =
     es
     ∙ (ap (map (λ (c : Called). folds_of c.call c.columns numbers (length keys))) pc
     ∙ (ap₂ (λ (ns : List ℕ) (js : List (List Value)). map (λ (c : Called). folds_of c.call c.columns ns (length js)) (map (called t from to) (calls_of g.items))) (en ∙ ap (numbers_of same_keys) pk) own
     ∙ states-are (calls_of g.items) g.keys t from to)) in
-    rw (size, wide, own, kept) refl
+    rw (size, wide, own, over, kept) refl
+
+pub fold-calls-none : (cs : List Called) → map (λ (c : Called). c.call) (take 0 cs) ≡ []
+fold-calls-none cs = refl
+
+pub ruleset call_steps = (fold-calls-none)
+
+pub fold-calls-more : (cs : List Called) (i : ℕ) (c : Called) (x : FoldCall) (old new : List FoldCall) → i < length cs → c ≡ get_or cs i c → x ≡ c.call → old ≡ map (λ (c : Called). c.call) (take i cs) → new ≡ old ++ x ∷ [] → new ≡ map (λ (c : Called). c.call) (take (i + 1) cs)
+fold-calls-more cs i c x old new lt is own before after =
+    let f = λ (c : Called). c.call in
+    after
+    ∙ (ap₂ (λ (xs : List FoldCall) (y : FoldCall). xs ++ y ∷ []) before (own ∙ ap f is)
+    ∙ (sym (map-append f (take i cs) (get_or cs i c ∷ [])) ∙ ap (map f) (sym (take_more cs i c lt))))
 
 -- What can be folded.
 

@@ -1,6 +1,6 @@
 -- What the groups of a range and of the range behind it have together.
 use Rattle.std.proofs.Common.{◌≡◌, ◌≢◌, ◌<◌, ◌≤◌, ◌+◌, ◌-◌, ◌||◌, ◌++◌, ◌^◌, ℕ, zero, suc, Bool, true, false, not, List, [], ◌∷◌, drop, filter, get_or, length, map, reverse, take, refl, ap, ap₂, sym, ◌∙◌, subst, inl, inr, arith}
-use Rattle.std.specs.Prelude.{All, AllPairs, nat_lt}
+use Rattle.std.specs.Prelude.{All, AllPairs, IfSome, MatchOption, None, Option, Some, nat_lt}
 use Rattle.std.specs.List.{AllByRecursion, list_any, position_or_len, range_with_len}
 use Rattle.std.proofs.lemmas.Bool.{cases_Bool}
 use Rattle.std.proofs.lemmas.List.{append-nil, append_assoc, drop_all, drop_more, get_or-set_other, length-append, length-map, length-set, reverse-append, reverse-reverse, take_rest}
@@ -19,9 +19,11 @@ use Rattle.kql_bound.specs.declared.parts.BItem.{BItem}
 use Rattle.kql_meaning.specs.Groups.{key_by}
 use Rattle.kql_scalar.specs.Rows.{rows}
 use Rattle.agg_folds.specs.States.{Kept, with_fold}
+use Rattle.agg_folds.specs.declared.call.FoldCall.{FoldCall}
 use Rattle.agg_folds.proofs.RowLaws.{count-of-fold}
+use Rattle.summarize_pieces.specs.Calls.{calls_of}
 use Rattle.summarize_pieces.specs.Joined.{AllFew, Differ, further_numbers, joined_groups, joined_states, with_group, with_groups}
-use Rattle.summarize_pieces.specs.Pieces.{AreNeighbours, Grouped, args_at, args_of, call_over, calls_of, groups_in, keys_in, rows_with, state_in}
+use Rattle.summarize_pieces.specs.Pieces.{AreNeighbours, Grouped, args_at, args_of, call_over, groups_in, keys_in, rows_with, state_in}
 use Rattle.summarize_pieces.proofs.KeyLists.{Distinct, further-are, or-none}
 use Rattle.summarize_pieces.proofs.NeighbourLaws.{keys-apart}
 
@@ -175,6 +177,35 @@ calls-none first folds ns more count further made left right before behind a h e
       few = l.0;
       others = subst (AllByRecursion (FewEach (length ns) further)) (sym eb) tt;
     }
+
+-- One turn, where the other list may be at its end.
+
+abbrev pub Taken : List (List Kept) → List (List Kept) → Option (List Kept) → Type 0
+Taken right behind o = MatchOption o ((right ≡ []) × (behind ≡ [])) (λ (b : List Kept). right ≡ behind ++ b ∷ [])
+
+pub calls-more : (first : ℕ) (folds : List (List Kept)) (ns : List ℕ) (more : List (List Kept)) (count further : ℕ) (made left right behind : List (List Kept)) (o : Option (List Kept)) → JoiningCalls first folds ns more count further made left right → Taken right behind o → IfSome o (All (Few further))
+calls-more first folds ns more count further made left right behind None h t = tt
+calls-more first folds ns more count further made left right behind (Some b) h t = (calls-others first folds ns more count further made left right behind b h t).1
+
+pub calls-turn : (first : ℕ) (folds : List (List Kept)) (ns : List ℕ) (more : List (List Kept)) (count further : ℕ) (made left right new before behind : List (List Kept)) (a : List Kept) (o : Option (List Kept)) → JoiningCalls first folds ns more count further made left right → left ≡ before ++ a ∷ [] → Taken right behind o → (o ≡ None → new ≡ made) → ((b : List Kept) → o ≡ Some b → new ≡ made ++ with_groups first a ns b ∷ []) → JoiningCalls first folds ns more count further new before behind
+calls-turn first folds ns more count further made left right new before behind a None h el t none some =
+    subst (λ (xs : List (List Kept)). JoiningCalls first folds ns more count further xs before behind) (sym (none refl)) (calls-none first folds ns more count further made left right before behind a h el t.0 t.1)
+calls-turn first folds ns more count further made left right new before behind a (Some b) h el t none some =
+    calls-next first folds ns more count further made left right new before behind a b (with_groups first a ns b) h el t refl (some b refl)
+
+pub some-more : (o : Option (List Kept)) (b : List Kept) (further : ℕ) → IfSome o (All (Few further)) → o ≡ Some b → All (Few further) b
+some-more None b further h e = absurd cc
+some-more (Some c) b further h e = let same : c ≡ b = cc in subst (All (Few further)) same h
+
+pub same-some : (o : Option (List Kept)) (b c : List Kept) → o ≡ Some b → o ≡ Some c → b ≡ c
+same-some None b c e f = cc
+same-some (Some d) b c e f = cc
+
+pub not-some : (o : Option (List Kept)) (b : List Kept) → o ≡ Some b → o ≡ None → ⊥
+not-some None b e f = cc
+not-some (Some d) b e f = cc
+
+pub ruleset one_steps = (some-more, same-some, not-some)
 
 pub calls-end : (first : ℕ) (folds : List (List Kept)) (ns : List ℕ) (more : List (List Kept)) (count further : ℕ) (made left right : List (List Kept)) → JoiningCalls first folds ns more count further made left right → left ≡ [] → made ≡ joined_states first folds ns more
 unfolding joined_states
@@ -358,12 +389,12 @@ right-few a b ns n is =
     (size ∙ ap (λ (g : Grouped). length g.keys) n.right.groups) (ap (λ (g : Grouped). g.count) n.right.groups) (ap (λ (g : Grouped). g.states) n.right.groups)
 
 -- Both together.
-pub both-groups : (a b : Grouped) (first count width : ℕ) (whole keys : List (List Value)) (ns : List ℕ) (states : List (List Kept)) → first ≡ length a.keys → whole ≡ a.keys ++ b.keys → keys ≡ distinct same_keys whole → ns ≡ further_numbers a.keys b.keys → states ≡ joined_states first a.states ns b.states → count ≡ a.count + b.count → width ≡ a.width → record { count = count; width = width; keys = keys; states = states } ≡ joined_groups a b
+pub both-groups : (a b : Grouped) (first count width : ℕ) (whole keys : List (List Value)) (ns : List ℕ) (calls : List FoldCall) (states : List (List Kept)) → first ≡ length a.keys → whole ≡ a.keys ++ b.keys → keys ≡ distinct same_keys whole → ns ≡ further_numbers a.keys b.keys → states ≡ joined_states first a.states ns b.states → count ≡ a.count + b.count → width ≡ a.width → calls ≡ a.calls → record { count = count; width = width; keys = keys; calls = calls; states = states } ≡ joined_groups a b
 unfolding joined_groups
-both-groups a b first count width whole keys ns states ef ew ek en es ec ewi =
+both-groups a b first count width whole keys ns calls states ef ew ek en es ec ewi el =
     let ks : keys ≡ distinct same_keys (a.keys ++ b.keys) = ek ∙ ap (distinct same_keys) ew in
     let ss : states ≡ joined_states (length a.keys) a.states (further_numbers a.keys b.keys) b.states = es ∙ ap₂ (λ n (xs : List ℕ). joined_states n a.states xs b.states) ef en in
-    rw (ec, ewi, ks, ss) refl
+    rw (ec, ewi, ks, el, ss) refl
 
 pub ruleset call_steps = (calls-start)
 

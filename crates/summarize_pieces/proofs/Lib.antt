@@ -1,10 +1,17 @@
+mod CallLaws
+mod CallSteps
 mod ColumnSteps
 mod FinishSteps
+mod FirstSteps
+mod GivenLaws
 mod GroupSteps
+mod ItemSteps
 mod JoinLaws
 mod JoinSteps
 mod KeyLists
 mod KeySteps
 mod NeighbourLaws
+mod PartSteps
 mod PassSteps
 mod PlanSteps
+mod ValueSteps

@@ -39,8 +39,9 @@ use Rattle.agg_folds.specs.States.{Kept, fold_of, with_fold}
 use Rattle.agg_folds.specs.declared.call.FoldCall.{FoldCall}
 use Rattle.agg_folds.proofs.PieceLaws.{fold-joins}
 use Rattle.summarize_op.specs.Calls.{IsCall}
+use Rattle.summarize_pieces.specs.Calls.{calls_of}
 use Rattle.summarize_pieces.specs.Joined.{further_numbers, joined_groups, joined_states, with_groups}
-use Rattle.summarize_pieces.specs.Pieces.{AreGroupsOf, AreNeighbours, AreStored, Grouped, args_at, args_of, call_over, calls_of, groups_in, keys_in, rows_with, state_in}
+use Rattle.summarize_pieces.specs.Pieces.{AreGroupsOf, AreNeighbours, AreStored, Grouped, args_at, args_of, call_over, groups_in, keys_in, rows_with, state_in}
 use Rattle.summarize_pieces.proofs.ColumnSteps.{fits_plain}
 use Rattle.summarize_pieces.proofs.JoinLaws.{states-joined}
 use Rattle.summarize_pieces.proofs.KeyLists.{Distinct, distinct-distinct, distinct-twice, or-none, turned}
@@ -120,7 +121,7 @@ kept-inside p a (suc n) m b low high =
     let rest = kept-inside p (a + 1) n m b (omega (arith, low)) (omega (arith, high)) in
     elim (cases_Bool (p a)) [ inl t ↦ rw t ((low, omega (arith, high)), rest) | inr n ↦ rw n rest ]
 
-with-inside : (keys : List BItem) (t : Grid) (from to : ℕ) (k : List Value) → from ≤ to → AllByRecursion (λ i. (from ≤ i) × (i < to)) (rows_with keys t from to k)
+pub with-inside : (keys : List BItem) (t : Grid) (from to : ℕ) (k : List Value) → from ≤ to → AllByRecursion (λ i. (from ≤ i) × (i < to)) (rows_with keys t from to k)
 unfolding rows_with rows
 with-inside keys t from to k order = kept-inside (λ i. same_keys (key_by keys t i) k) from (to - from) to from (omega arith) (omega (arith, order))
 

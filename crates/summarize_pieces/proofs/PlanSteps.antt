@@ -1,10 +1,9 @@
 -- The parts of a plan that fits, and what is read of rows for it.
 use Rattle.std.proofs.Common.{◌≡◌, ◌<◌, ◌≤◌, ◌+◌, ◌-◌, ◌++◌, ℕ, zero, suc, Bool, true, false, List, [], ◌∷◌, get_or, length, map, take, refl, ap, ap₂, sym, ◌∙◌, subst, arith}
-use Rattle.std.specs.Prelude.{◌&&◌, Some, flat_map, is_some}
+use Rattle.std.specs.Prelude.{◌&&◌, None, Option, Some, flat_map, is_some}
 use Rattle.std.specs.List.{AllByRecursion, list_all, range_with_len}
-use Rattle.std.proofs.lemmas.Bool.{and_parts}
-use Rattle.std.proofs.lemmas.Grind.{flat_map-append}
-use Rattle.std.proofs.lemmas.List.{append-nil, map-append, take_more}
+use Rattle.std.proofs.lemmas.Bool.{and_from, and_parts}
+use Rattle.std.proofs.lemmas.List.{map-append, take_more}
 use Rattle.std.proofs.lemmas.List.FromFn.{get_or-map-range_with_len, length-map-range_with_len}
 use Rattle.kql_cells.specs.Named.{HasDistinctNames, column_name}
 use Rattle.kql_cells.specs.Table.{Grid, IsGrid}
@@ -13,14 +12,15 @@ use Rattle.kql_cells.specs.declared.value.Value.{Value}
 use Rattle.kql_cells.specs.declared.value.Value.TheVariants as value
 use Rattle.kql_values.specs.Grids.{HaveLength, row_of, rows_of}
 use Rattle.kql_functions.specs.declared.aggregate.Aggregate.{Aggregate}
-use Rattle.kql_bound.specs.declared.expr.BExpr.{BExpr, out-BExpr}
+use Rattle.kql_functions.specs.declared.aggregate.Aggregate.TheVariants as aggregate
+use Rattle.kql_bound.specs.declared.expr.BExpr.{BExpr, out-BExpr, roll-BExpr, roll-out-BExpr}
 use Rattle.kql_bound.specs.declared.expr.BExpr.TheOpen.{BExpr-F}
 use Rattle.kql_bound.specs.declared.expr.BExpr.TheVariants as V
 use Rattle.kql_bound.specs.declared.parts.BItem.{BItem}
 use Rattle.kql_bound.specs.declared.parts.GroupPlan.{GroupPlan}
 use Rattle.kql_meaning.specs.declared.position.Position.TheVariants as position
 use Rattle.kql_meaning.specs.Expressions.{val, values_in}
-use Rattle.kql_meaning.specs.FittingExpressions.{aggregate_takes, call_or_expr_fits, call_or_expr_fits_step, expr_fits, scope_of, takes_aggregate}
+use Rattle.kql_meaning.specs.FittingExpressions.{aggregate_takes, call_or_expr_fits, call_or_expr_fits_step, expr_fits, first_row_of, is_plain_column, scope_of, takes_aggregate}
 use Rattle.kql_meaning.specs.FittingOperators.{answer_if, columns_if, group_item_fits, has_its_names, key_item_fits, summarize_fits}
 use Rattle.kql_meaning.specs.Groups.{key_by}
 use Rattle.kql_meaning.specs.Summarize.{group_columns}
@@ -29,7 +29,9 @@ use Rattle.kql_fit_laws.proofs.RowFacts.{answer-some}
 use Rattle.kql_scalar.specs.Rows.{rows}
 use Rattle.summarize_op.specs.Calls.{IsCall}
 use Rattle.summarize_op.specs.Passes.{AreArguments}
-use Rattle.summarize_pieces.specs.Pieces.{Called, IsRead, Piece, call_in, call_step, called, calls_of, columns_along, piece_of, values_along}
+use Rattle.summarize_pieces.specs.Calls.{AreCalls, call_columns, calls_by, calls_in, calls_of, comes_in_pieces, first_columns, first_columns_step, firsts, is_kept, item_calls}
+use Rattle.summarize_pieces.specs.Pieces.{Called, IsRead, Piece, called, columns_along, piece_of, values_along}
+use Rattle.summarize_pieces.proofs.CallLaws.{all-beside, calls-Aggregate, calls_that_fit}
 use Rattle.summarize_pieces.proofs.ColumnSteps.{fits_plain, key_exprs}
 
 -- What fits.
@@ -120,23 +122,7 @@ pub read-fits : (g : GroupPlan) (t : Grid) (from to : ℕ) (p : Piece) → Fits 
 read-fits g t from to p fits names here order range is =
     record { plan = g; table = t; from = from; to = to; fits = plan-fits g t.columns fits; whole = (names, here); order = order; range = range; piece = is }
 
-pub ruleset plan_steps = (keys-fit, items-fit, keys-long)
-
 -- Items.
-
-pub calls-start : (t : Grid) (from to : ℕ) → map (called t from to) (calls_of []) ≡ []
-unfolding calls_of
-calls-start t from to = refl
-
-pub calls-step : (items : List BItem) (t : Grid) (from to i : ℕ) (b : BItem) (old new : List Called) → i < length items → b ≡ get_or items i b → old ≡ map (called t from to) (calls_of (take i items)) → new ≡ old ++ map (called t from to) (call_in b.expr) → new ≡ map (called t from to) (calls_of (take (i + 1) items))
-unfolding calls_of
-calls-step items t from to i b old new lt is before after =
-    let f = λ (b : BItem). call_in b.expr in
-    let h = called t from to in
-    let more : flat_map f (take (i + 1) items) ≡ flat_map f (take i items) ++ call_in b.expr = ap (flat_map f) (take_more items i b lt ∙ ap (λ (x : BItem). take i items ++ x ∷ []) (sym is)) ∙ (flat_map-append f (take i items) (b ∷ []) ∙ ap (λ (cs : List (Aggregate × List BExpr)). flat_map f (take i items) ++ cs) (append-nil (call_in b.expr))) in
-    after
-    ∙ (ap (λ (cs : List Called). cs ++ map h (call_in b.expr)) before
-    ∙ (sym (map-append h (flat_map f (take i items)) (call_in b.expr)) ∙ ap (map h) (sym more)))
 
 pub one-fits : (cs : List Column) (b : BItem) → group_item_fits cs b ≡ true → call_or_expr_fits b.expr (scope_of cs) position.Group ≡ true
 unfolding group_item_fits
@@ -147,13 +133,27 @@ item-fits [] cs i b fits lt is = absurd (omega arith)
 item-fits (c ∷ ks) cs zero b fits lt is = subst (λ (x : BItem). call_or_expr_fits x.expr (scope_of cs) position.Group ≡ true) (sym is) (one-fits cs c (and_parts (group_item_fits cs c) (list_all (group_item_fits cs) ks) fits).0)
 item-fits (c ∷ ks) cs (suc i) b fits lt is = item-fits ks cs i b (and_parts (group_item_fits cs c) (list_all (group_item_fits cs) ks) fits).1 (omega (arith, lt)) is
 
-pub ruleset item_steps = (calls-start, item-fits)
+-- Calls.
 
-pub call-is : (cs : List Column) (e : BExpr) (f : Aggregate) (args : List BExpr) → call_or_expr_fits e (scope_of cs) position.Group ≡ true → e ≡ V.Aggregate f args → IsCall cs f args
-call-is cs e f args fits is =
-    record { fits = sym (call-Aggregate f args (scope_of cs) position.Group) ∙ (ap (λ (x : BExpr). call_or_expr_fits x (scope_of cs) position.Group) (sym is) ∙ fits) }
+nth-call : (cs : List Column) (calls : List (Aggregate × List BExpr)) (i : ℕ) (c : Aggregate × List BExpr) → AllByRecursion (λ (c : Aggregate × List BExpr). IsCall cs c.0 c.1) calls → i < length calls → c ≡ get_or calls i c → IsCall cs c.0 c.1
+nth-call cs [] i c h lt is = absurd (omega arith)
+nth-call cs (x ∷ calls) zero c h lt is = subst (λ (y : Aggregate × List BExpr). IsCall cs y.0 y.1) (sym is) h.0
+nth-call cs (x ∷ calls) (suc i) c h lt is = nth-call cs calls i c h.1 (omega (arith, lt)) is
 
-pub ruleset call_steps = (call-is)
+pub call-at : (cs : List Column) (calls : List (Aggregate × List BExpr)) (i : ℕ) (c : Aggregate × List BExpr) (f : Aggregate) (args : List BExpr) → AreCalls cs calls → i < length calls → c ≡ get_or calls i c → f ≡ c.0 → args ≡ c.1 → IsCall cs f args
+call-at cs calls i c f args h lt is ef ea = subst (λ (g : Aggregate). IsCall cs g args) (sym ef) (subst (IsCall cs c.0) (sym ea) (nth-call cs calls i c h.each lt is))
+
+pub calls-none : (t : Grid) (from to : ℕ) (calls : List (Aggregate × List BExpr)) → map (called t from to) (take 0 calls) ≡ []
+calls-none t from to calls = refl
+
+pub calls-more : (t : Grid) (from to : ℕ) (calls : List (Aggregate × List BExpr)) (i : ℕ) (c : Aggregate × List BExpr) (f : Aggregate) (args : List BExpr) (old new : List Called) (x : Called) → i < length calls → c ≡ get_or calls i c → f ≡ c.0 → args ≡ c.1 → old ≡ map (called t from to) (take i calls) → x ≡ called t from to (f, args) → new ≡ old ++ x ∷ [] → new ≡ map (called t from to) (take (i + 1) calls)
+calls-more t from to calls i c f args old new x lt is ef ea before one after =
+    let same : called t from to (f, args) ≡ called t from to c = ap (λ (g : Aggregate). called t from to (g, args)) ef ∙ ap (λ (es : List BExpr). called t from to (c.0, es)) ea in
+    after
+    ∙ (ap₂ (λ (xs : List Called) (y : Called). xs ++ y ∷ []) before (one ∙ (same ∙ ap (called t from to) is))
+    ∙ (sym (map-append (called t from to) (take i calls) (get_or calls i c ∷ [])) ∙ ap (map (called t from to)) (sym (take_more calls i c lt))))
+
+pub ruleset call_steps = (call-at, calls-none)
 
 -- The arguments of a call.
 
@@ -176,21 +176,92 @@ pub ruleset one_steps = (first-arguments)
 
 -- The calls of items that fit.
 
-calls-of-step : (cs : List Column) (y : BExpr-F BExpr) (other : Bool) → call_or_expr_fits_step y other (scope_of cs) position.Group ≡ true → AllByRecursion (λ (c : Aggregate × List BExpr). IsCall cs c.0 c.1) (call_step y)
-calls-of-step cs (BExpr-F.Aggregate f args) other h = (record { fits = h }, tt)
-calls-of-step cs _ other h = tt
+calls-of-step : (cs : List Column) (e : BExpr) (y : BExpr-F BExpr) → out-BExpr e ≡ y → call_or_expr_fits_step y (expr_fits e (scope_of cs) position.Group) (scope_of cs) position.Group ≡ true → AllByRecursion (λ (c : Aggregate × List BExpr). IsCall cs c.0 c.1) (calls_in e)
+calls-of-step cs e (BExpr-F.Aggregate f args) o h =
+    let is : e ≡ V.Aggregate f args = sym (roll-out-BExpr e) ∙ (ap roll-BExpr o ∙ V.rolls-Aggregate f args) in
+    subst (AllByRecursion (λ (c : Aggregate × List BExpr). IsCall cs c.0 c.1)) (sym (ap calls_in is ∙ calls-Aggregate f args)) (record { fits = h }, tt)
+calls-of-step cs e (BExpr-F.Literal l) o h = calls_that_fit e cs h
+calls-of-step cs e (BExpr-F.Column n) o h = calls_that_fit e cs h
+calls-of-step cs e (BExpr-F.Step c) o h = calls_that_fit e cs h
+calls-of-step cs e (BExpr-F.Call f args) o h = calls_that_fit e cs h
+calls-of-step cs e (BExpr-F.Chain first links) o h = calls_that_fit e cs h
+calls-of-step cs e (BExpr-F.Path whole steps) o h = calls_that_fit e cs h
+calls-of-step cs e (BExpr-F.Window f args) o h = calls_that_fit e cs h
 
-all-beside : {X : Type 0} (P : X → Type 0) (xs ys : List X) → AllByRecursion P xs → AllByRecursion P ys → AllByRecursion P (xs ++ ys)
-all-beside P [] ys h g = g
-all-beside P (x ∷ xs) ys h g = (h.0, all-beside P xs ys h.1 g)
+expression-calls : (cs : List Column) (e : BExpr) → call_or_expr_fits e (scope_of cs) position.Group ≡ true → AllByRecursion (λ (c : Aggregate × List BExpr). IsCall cs c.0 c.1) (calls_in e)
+unfolding call_or_expr_fits
+expression-calls cs e h = calls-of-step cs e (out-BExpr e) refl h
+
+-- Those of `take_any` of columns.
+
+each-first : (cs : List Column) (args : List BExpr) → takes_aggregate position.Group aggregate.TakeAny ≡ true → list_all (fits_plain cs) args ≡ true → list_all (is_plain_column cs) args ≡ true → AllByRecursion (λ (c : Aggregate × List BExpr). IsCall cs c.0 c.1) (firsts args)
+unfolding firsts aggregate_takes first_row_of
+each-first cs [] takes plain columns = tt
+each-first cs (a ∷ args) takes plain columns =
+    let p = and_parts (fits_plain cs a) (list_all (fits_plain cs) args) plain in
+    let q = and_parts (is_plain_column cs a) (list_all (is_plain_column cs) args) columns in
+    let one : list_all (fits_plain cs) (a ∷ []) ≡ true = and_from (fits_plain cs a) true p.0 refl in
+    let named : list_all (is_plain_column cs) (a ∷ []) ≡ true = and_from (is_plain_column cs a) true q.0 refl in (
+      record { fits = aggregate-checked aggregate.TakeAny (a ∷ []) (scope_of cs) position.Group ∙ and_from (takes_aggregate position.Group aggregate.TakeAny) (list_all (fits_plain cs) (a ∷ []) && aggregate_takes aggregate.TakeAny (a ∷ []) cs) takes (and_from (list_all (fits_plain cs) (a ∷ [])) (aggregate_takes aggregate.TakeAny (a ∷ []) cs) one named) },
+      each-first cs args takes p.1 q.1,
+    )
+
+named-columns : (args : List BExpr) (cs : List Column) → aggregate_takes aggregate.TakeAny args cs ≡ true → list_all (is_plain_column cs) args ≡ true
+unfolding aggregate_takes first_row_of
+named-columns [] cs h = absurd cc
+named-columns (e ∷ es) cs h = h
+
+all-firsts : (cs : List Column) (args : List BExpr) → IsCall cs aggregate.TakeAny args → AllByRecursion (λ (c : Aggregate × List BExpr). IsCall cs c.0 c.1) (firsts args)
+all-firsts cs args h =
+    let b = and_parts (takes_aggregate position.Group aggregate.TakeAny) (list_all (fits_plain cs) args && aggregate_takes aggregate.TakeAny args cs) (sym (aggregate-checked aggregate.TakeAny args (scope_of cs) position.Group) ∙ h.fits) in
+    let p = and_parts (list_all (fits_plain cs) args) (aggregate_takes aggregate.TakeAny args cs) b.1 in
+    each-first cs args b.0 p.0 (named-columns args cs p.1)
+
+first-fits : (cs : List Column) (f : Aggregate) (args columns : List BExpr) → call_columns f args ≡ Some columns → IsCall cs f args → IsCall cs aggregate.TakeAny columns
+unfolding call_columns
+first-fits cs aggregate.TakeAny args columns is h = let same : args ≡ columns = cc in subst (IsCall cs aggregate.TakeAny) same h
+first-fits cs _ args columns is h = absurd cc
+
+first-step : (cs : List Column) (e : BExpr) (y : BExpr-F BExpr) (columns : List BExpr) → first_columns_step y ≡ Some columns → call_or_expr_fits_step y (expr_fits e (scope_of cs) position.Group) (scope_of cs) position.Group ≡ true → IsCall cs aggregate.TakeAny columns
+first-step cs e (BExpr-F.Aggregate f args) columns is h = first-fits cs f args columns is (record { fits = h })
+first-step cs e (BExpr-F.Literal l) columns is h = absurd cc
+first-step cs e (BExpr-F.Column n) columns is h = absurd cc
+first-step cs e (BExpr-F.Step c) columns is h = absurd cc
+first-step cs e (BExpr-F.Call f args) columns is h = absurd cc
+first-step cs e (BExpr-F.Chain first links) columns is h = absurd cc
+first-step cs e (BExpr-F.Path whole steps) columns is h = absurd cc
+first-step cs e (BExpr-F.Window f args) columns is h = absurd cc
+
+first-call : (cs : List Column) (e : BExpr) (columns : List BExpr) → first_columns e ≡ Some columns → call_or_expr_fits e (scope_of cs) position.Group ≡ true → IsCall cs aggregate.TakeAny columns
+unfolding first_columns call_or_expr_fits
+first-call cs e columns is h = first-step cs e (out-BExpr e) columns is h
+
+calls-by : (cs : List Column) (e : BExpr) (o : Option (List BExpr)) → first_columns e ≡ o → call_or_expr_fits e (scope_of cs) position.Group ≡ true → AllByRecursion (λ (c : Aggregate × List BExpr). IsCall cs c.0 c.1) (calls_by o e)
+unfolding calls_by
+calls-by cs e None is h = expression-calls cs e h
+calls-by cs e (Some columns) is h = all-firsts cs columns (first-call cs e columns is h)
+
+item-calls : (cs : List Column) (e : BExpr) → call_or_expr_fits e (scope_of cs) position.Group ≡ true → AllByRecursion (λ (c : Aggregate × List BExpr). IsCall cs c.0 c.1) (item_calls e)
+unfolding item_calls
+item-calls cs e h = calls-by cs e (first_columns e) refl h
 
 pub calls-fit : (cs : List Column) (items : List BItem) → list_all (group_item_fits cs) items ≡ true → AllByRecursion (λ (c : Aggregate × List BExpr). IsCall cs c.0 c.1) (calls_of items)
-unfolding calls_of call_in call_or_expr_fits
+unfolding calls_of
 calls-fit cs [] fits = tt
 calls-fit cs (b ∷ bs) fits =
     let own = and_parts (group_item_fits cs b) (list_all (group_item_fits cs) bs) fits in
-    all-beside (λ (c : Aggregate × List BExpr). IsCall cs c.0 c.1) (call_step (out-BExpr b.expr)) (flat_map (λ (b : BItem). call_step (out-BExpr b.expr)) bs)
-    (calls-of-step cs (out-BExpr b.expr) (expr_fits b.expr (scope_of cs) position.Group) (one-fits cs b own.0))
+    all-beside (λ (c : Aggregate × List BExpr). IsCall cs c.0 c.1) (item_calls b.expr) (flat_map (λ (b : BItem). item_calls b.expr) bs)
+    (item-calls cs b.expr (one-fits cs b own.0))
     (calls-fit cs bs own.1)
+
+pub found-fit : (g : GroupPlan) (cs : List Column) (found : List (Aggregate × List BExpr)) (items : List BItem) → Fits g cs → items ≡ g.items → found ≡ calls_of items → AreCalls cs found
+found-fit g cs found items fits same is =
+    subst (AreCalls cs) (sym (is ∙ ap calls_of same)) (record { each = calls-fit cs g.items (items-of g cs (plan-fits g cs fits)) })
+
+pub ruleset plan_steps = (keys-fit, keys-long)
+
+pub kept-items : (g : GroupPlan) (items : List BItem) → comes_in_pieces g ≡ true → items ≡ g.items → list_all (λ (b : BItem). is_kept b.expr) items ≡ true
+unfolding comes_in_pieces
+kept-items g items h is = ap (list_all (λ (b : BItem). is_kept b.expr)) is ∙ h
 
 pub ruleset name_steps = (names-differ)

@@ -32,6 +32,7 @@ joined_groups a b = record {
   count = a.count + b.count;
   width = a.width;
   keys = distinct same_keys (a.keys ++ b.keys);
+  calls = a.calls;
   states = joined_states (length a.keys) a.states (further_numbers a.keys b.keys) b.states;
 }
 

@@ -1,61 +1,30 @@
 -- The groups of a range of a table's rows, with what the aggregates keep of each.
-use Rattle.std.specs.Prelude.{◌≡◌, ◌≤◌, ◌<◌, ◌-◌, ◌==◌, ◌&&◌, ℕ, ℤ, Bool, true, false, List, [], ◌∷◌, filter, flat_map, length, map, take, if◌then◌else◌, FitsSigned, Some}
+use Rattle.std.specs.Prelude.{◌≡◌, ◌≤◌, ◌<◌, ◌-◌, ◌==◌, ◌&&◌, ◌++◌, ℕ, ℤ, All, true, List, [], ◌∷◌, filter, length, map, take, if◌then◌else◌, FitsSigned, Some}
 use Rattle.std.specs.Int.{w64}
-use Rattle.std.specs.List.{AllByRecursion, list_all}
+use Rattle.std.specs.List.{AllByRecursion}
 use Rattle.kql_cells.specs.Keys.{same_keys}
-use Rattle.kql_cells.specs.Table.{Grid}
+use Rattle.kql_cells.specs.Table.{Grid, gathered}
 use Rattle.kql_cells.specs.declared.schema.Column.{Column}
 use Rattle.kql_cells.specs.declared.value.Value.{Value}
 use Rattle.kql_values.specs.Grids.{HaveLength, row_of}
 use Rattle.kql_keys.specs.Numbers.{distinct}
 use Rattle.kql_functions.specs.declared.aggregate.Aggregate.{Aggregate}
-use Rattle.kql_functions.specs.declared.aggregate.Aggregate.TheVariants as aggregate
-use Rattle.kql_bound.specs.declared.expr.BExpr.{BExpr, out-BExpr}
-use Rattle.kql_bound.specs.declared.expr.BExpr.TheOpen.{BExpr-F}
+use Rattle.kql_bound.specs.declared.expr.BExpr.{BExpr}
 use Rattle.kql_bound.specs.declared.parts.BItem.{BItem}
 use Rattle.kql_bound.specs.declared.parts.GroupPlan.{GroupPlan}
 use Rattle.kql_meaning.specs.Expressions.{val, values_in}
 use Rattle.kql_meaning.specs.FittingOperators.{summarize_fits}
 use Rattle.kql_meaning.specs.Groups.{key_by}
-use Rattle.kql_meaning.specs.Results.{has_one_result}
+use Rattle.kql_meaning.specs.Items.{items_values}
 use Rattle.kql_meaning.specs.Values.{number_of}
 use Rattle.kql_scalar_fns.specs.Arguments.{argument}
 use Rattle.kql_fit_laws.specs.LawsOfRows.{IsTable}
 use Rattle.kql_scalar.specs.Rows.{rows}
 use Rattle.agg_folds.specs.Calls.{call_of, needs}
-use Rattle.agg_folds.specs.Folds.{folded}
 use Rattle.agg_folds.specs.States.{Kept, fold_of}
 use Rattle.agg_folds.specs.declared.call.FoldCall.{FoldCall}
 use Rattle.summarize_op.specs.Grouped.{AreFormed}
-
--- The plans whose groups come in pieces: each item is a call of an aggregate with one result column. `take_any` is none of them, since
--- without a row it gives what its column's type has there.
-
-unfoldable pub is_folded : Aggregate → List BExpr → Bool
-is_folded aggregate.TakeAny args = false
-is_folded f args = has_one_result f args
-
-abbrev pub is_folded_step : BExpr-F BExpr → Bool
-is_folded_step (BExpr-F.Aggregate f args) = is_folded f args
-is_folded_step _ = false
-
-unfoldable pub is_folded_call : BExpr → Bool
-is_folded_call e = is_folded_step (out-BExpr e)
-
-unfoldable pub comes_in_pieces : GroupPlan → Bool
-comes_in_pieces g = list_all (λ (b : BItem). is_folded_call b.expr) g.items
-
--- The calls of items, in order.
-
-abbrev pub call_step : BExpr-F BExpr → List (Aggregate × List BExpr)
-call_step (BExpr-F.Aggregate f args) = (f, args) ∷ []
-call_step _ = []
-
-unfoldable pub call_in : BExpr → List (Aggregate × List BExpr)
-call_in e = call_step (out-BExpr e)
-
-unfoldable pub calls_of : List BItem → List (Aggregate × List BExpr)
-calls_of items = flat_map (λ (b : BItem). call_in b.expr) items
+use Rattle.summarize_pieces.specs.Calls.{calls_of, given}
 
 -- The keys of the rows of a range, each once, in order of first occurrence. Without keys all rows are one group, also where there is none.
 unfoldable pub keys_in : List BItem → Grid → ℕ → ℕ → List (List Value)
@@ -82,14 +51,19 @@ state_in c keys t from to k = fold_of (call_over c t.columns) (args_at c t (rows
 
 -- What a call gives for the rows of a range that have a key.
 unfoldable pub value_for : Aggregate × List BExpr → List BItem → Grid → ℕ → ℕ → List Value → Value
-value_for c keys t from to k = folded (call_over c t.columns) (args_at c t (rows_with keys t from to k))
+value_for c keys t from to k = given (call_over c t.columns) (args_at c t (rows_with keys t from to k))
 
--- What is known of groups: how many rows they are made of, how many values a key has, the key of each group in their order, and for each
--- call what is kept of each group.
+-- The row of a key: the key, and behind it what the items give for the rows that have it.
+unfoldable pub group_line : GroupPlan → Grid → List Value → List Value
+group_line g t k = k ++ items_values g.items (gathered t (rows_with g.keys t 0 (length t.lines) k)) 0
+
+-- What is known of groups: how many rows they are made of, how many values a key has, the key of each group in their order, the calls, and
+-- for each of these what is kept of each group.
 pub record Grouped : Type 0 where
   pub count : ℕ
   pub width : ℕ
   pub keys : List (List Value)
+  pub calls : List FoldCall
   pub states : List (List Kept)
 
 -- The groups of the rows of a range.
@@ -98,6 +72,7 @@ groups_in g t from to = record {
   count = to - from;
   width = length g.keys;
   keys = keys_in g.keys t from to;
+  calls = map (λ c. call_over c t.columns) (calls_of g.items);
   states = map (λ c. map (state_in c g.keys t from to) (keys_in g.keys t from to)) (calls_of g.items);
 }
 
@@ -131,6 +106,11 @@ pub record AreAllGroups (g : GroupPlan) (columns : List Column) (x : Grouped) : 
   pub whole : IsTable table
   pub named : table.columns ≡ columns
   pub groups : x ≡ groups_in g table 0 (length table.lines)
+
+-- For each call what is kept of each group, and of more groups than so many.
+pub record AreAligned (k : ℕ) (calls : List FoldCall) (states : List (List Kept)) : Type 0 where
+  pub many : length calls ≡ length states
+  pub each : All (λ s. k < length s) states
 
 -- What is read of the rows of a range before they are grouped: how many values a key has, the key of each row, and for each call the values
 -- of the arguments that it reads.

@@ -9,7 +9,7 @@ ghost use Rattle.summarize_pieces.specs.Pieces.{AreGroupsOf, CanBeFolded, Column
 
 use crate::folds::fold_groups;
 use crate::piece::{CallRows, PieceRows};
-use agg_folds::Fold;
+use agg_folds::{Fold, FoldCall};
 use kql_items::Items;
 use kql_keys::{Numbered, number_keys};
 use kql_values::{Rows, Vector};
@@ -23,6 +23,7 @@ pub struct Groups<'a> {
     pub(crate) count: usize,
     pub(crate) width: usize,
     pub(crate) keys: Rows,
+    pub(crate) calls: Vec<FoldCall>,
     pub(crate) folds: Vec<Items<Fold<'a>>>,
 }
 
@@ -35,7 +36,7 @@ impl<'a> Model for Groups<'a> {
 
     ghost coded = { Prim.hlevel (codes, dynamic.the_row.coded) };
 
-    ghost view = { λ x. record { count = x.count; width = x.width; keys = x.keys; states = x.folds.items } };
+    ghost view = { λ x. record { count = x.count; width = x.width; keys = x.keys; calls = x.calls.items; states = x.folds.items } };
 }
 
 /// The groups of the rows of a piece. Without keys all rows are one group, also where there is none.
@@ -46,10 +47,12 @@ pub fn group_piece<'a>(alloc: Global, p: &'a PieceRows) -> Result<Groups<'a>, Al
     let count = p.keys.len();
     let NumberedKeys { keys, numbers } = keys_of(alloc, p)?;
     let folds = folds_of_calls(alloc, p.calls.as_slice(), numbers.as_slice(), keys.len())?;
+    let calls = fold_calls(alloc, p.calls.as_slice())?;
     Ok(Groups {
         count,
         width: p.width,
         keys,
+        calls,
         folds,
     })
 }
@@ -108,6 +111,18 @@ fn lent<'a>(alloc: Global, vectors: &'a [Vector]) -> Result<Vec<&'a Vector>, All
         lent.push(vector)?;
     }
     Ok(lent)
+}
+
+// The calls.
+#[tactic(auto, using(crate::proofs::GroupSteps::call_steps))]
+fn fold_calls(alloc: Global, calls: &[CallRows]) -> Result<Vec<FoldCall>, AllocError>
+    ensures calls { IfOk result (λ cs. cs.items ≡ map (λ c. c.call) calls.now) }
+{
+    let mut made = Vec::with_capacity(alloc, calls.len())?;
+    'calls: for call in calls {
+        made.push(call.call)?;
+    }
+    Ok(made)
 }
 
 // For each call a fold for each group.

@@ -1,5 +1,5 @@
 //! Groups of neighbouring ranges of rows.
-ghost use Rattle.std.specs.Prelude.{◌≡◌, ◌<◌, ◌≤◌, ◌+◌, ◌^◌, All, IfOk, OnOk, drop, get_or, length};
+ghost use Rattle.std.specs.Prelude.{◌≡◌, ◌<◌, ◌≤◌, ◌+◌, ◌^◌, ◌++◌, ◌∷◌, [], All, IfOk, IfSome, List, None, OnOk, Some, drop, get_or, length};
 ghost use Rattle.agg_folds.specs.States.{Kept};
 ghost use Rattle.summarize_pieces.specs.Joined.{AllFew, Differ, joined_groups, joined_states, with_group, with_groups};
 ghost use Rattle.summarize_pieces.specs.Pieces.{AreGroupsOf, AreNeighbours};
@@ -26,12 +26,14 @@ pub fn join_groups<'a>(
         count,
         width,
         keys: mut rows,
+        calls,
         folds,
     } = a;
     let Groups {
         count: further,
         width: _,
         keys: more,
+        calls: _,
         folds: more_folds,
     } = b;
     let first = rows.len();
@@ -43,6 +45,7 @@ pub fn join_groups<'a>(
         count: count + further,
         width,
         keys,
+        calls,
         folds,
     })
 }
@@ -79,12 +82,39 @@ fn join_calls<'a>(
     left.reverse();
     right.reverse();
     'calls: while let Some(a) = left.pop() {
-        if let Some(b) = right.pop() {
-            let joined = join_folds(first, a, numbers, b, count, further)?;
-            made.push(joined)?;
-        }
+        let b = right.pop();
+        join_call(&mut made, first, a, numbers, b, count, further)?;
     }
     Ok(made)
+}
+
+// The folds of one call more, where there are others of it.
+#[tactic(auto, using(crate::proofs::JoinSteps::one_steps))]
+fn join_call<'a>(
+    made: &mut Vec<Items<Fold<'a>>>,
+    first: usize,
+    a: Items<Fold<'a>>,
+    numbers: &[usize],
+    b: Option<Items<Fold<'a>>>,
+    count: usize,
+    further: usize,
+) -> Result<(), AllocError>
+    requires differ { Differ numbers.now }
+    requires long { length a ≡ first }
+    requires folds { All (λ k. k.count ≤ count) a }
+    requires more { IfSome b (All (λ k. k.count ≤ further)) }
+    requires few { count + further < 2 ^ 63 }
+    ensures none { b.entry ≡ None → OnOk result (made.new.items ≡ made.old.items) }
+    ensures some { (more : List Kept) → b.entry ≡ Some more → OnOk result (made.new.items ≡ made.old.items ++ with_groups first a.entry numbers.now more ∷ []) }
+{
+    match b {
+        None => Ok(()),
+        Some(b) => {
+            let joined = join_folds(first, a, numbers, b, count, further)?;
+            made.push(joined)?;
+            Ok(())
+        }
+    }
 }
 
 // The folds of a call: those of the first groups, and behind them those of groups that are new.

@@ -1,7 +1,8 @@
 //! `summarize` by pieces: the groups of a range of rows, what two neighbouring ranges have together, and the table of all.
 //!
 //! A piece is read first: the values of the keys and of the calls' arguments at its rows. Then each group keeps for each call what the fold
-//! of its rows keeps. Groups of neighbouring ranges are joined in the order of the rows, without looking at a row again.
+//! of its rows keeps. Groups of neighbouring ranges are joined in the order of the rows, without looking at a row again. At the end an item is
+//! computed for each group from what its calls give.
 #![tactic(auto)]
 
 mod calls;
@@ -11,6 +12,7 @@ mod folds;
 mod groups;
 mod join;
 mod piece;
+mod values;
 
 pub use calls::comes_in_pieces;
 pub use finish::finish_groups;

@@ -1,16 +1,15 @@
 //! What is read of the rows of a piece before they are grouped.
-ghost use Rattle.std.specs.Prelude.{◌≡◌, ◌≤◌, ◌++◌, IfOk, IsTrue, OnOk, is_some, length, map, take};
-ghost use Rattle.std.specs.List.{list_all};
-ghost use Rattle.kql_meaning.specs.FittingExpressions.{call_or_expr_fits, scope_of};
-ghost use Rattle.kql_meaning.specs.FittingOperators.{answer_if, group_item_fits, summarize_fits};
+ghost use Rattle.std.specs.Prelude.{◌≡◌, ◌≤◌, IfOk, IsTrue, is_some, length, map, take};
+ghost use Rattle.kql_meaning.specs.FittingOperators.{answer_if, summarize_fits};
 ghost use Rattle.kql_meaning.specs.Summarize.{group_columns};
-ghost use Rattle.kql_meaning.specs.declared.position.Position.TheVariants as position;
 ghost use Rattle.summarize_op.specs.Calls.{IsCall};
-ghost use Rattle.summarize_pieces.specs.Pieces.{call_in, called, calls_of, piece_of};
+ghost use Rattle.summarize_pieces.specs.Calls.{AreCalls};
+ghost use Rattle.summarize_pieces.specs.Pieces.{called, piece_of};
 
+use crate::calls::{Found, calls_of};
 use crate::columns::{columns_along, keys_along};
 use agg_folds::{FoldCall, fold_call, needs};
-use kql_bound::{BExpr, BItem, GroupPlan};
+use kql_bound::{BExpr, GroupPlan};
 use kql_functions::Aggregate;
 use kql_values::{Rows, Table, Vector};
 use std::alloc::{AllocError, Global};
@@ -76,7 +75,8 @@ pub fn piece_rows(
     let _columns = t.schema().columns();
     let columns = keys_along(alloc, t, g.keys.as_slice(), from, to)?;
     let keys = Rows::from_columns(alloc, to - from, columns);
-    let calls = call_rows(alloc, t, g.items.as_slice(), from, to)?;
+    let found = calls_of(alloc, g.items.as_slice())?;
+    let calls = call_rows(alloc, t, found.as_slice(), from, to)?;
     Ok(PieceRows {
         width: g.keys.len(),
         keys,
@@ -84,56 +84,26 @@ pub fn piece_rows(
     })
 }
 
-// What the calls of items take of the rows.
-#[tactic(auto, using(crate::proofs::PlanSteps::item_steps))]
+// What these calls take of the rows.
+#[tactic(auto, using(crate::proofs::PlanSteps::call_steps))]
 fn call_rows(
     alloc: Global,
     t: &Table,
-    items: &[BItem],
+    found: &[Found<'_>],
     from: usize,
     to: usize,
 ) -> Result<Vec<CallRows>, AllocError>
-    requires fits { IsTrue (list_all (group_item_fits t.now.columns) items.now) }
+    requires fits { AreCalls t.now.columns found.now }
     requires order { from ≤ to }
     requires range { to ≤ length t.now.lines }
-    ensures calls { IfOk result (λ cs. cs.items ≡ map (called t.now from to) (calls_of items.now)) }
+    ensures calls { IfOk result (λ cs. cs.items ≡ map (called t.now from to) found.now) }
 {
-    let mut calls = Vec::new(alloc);
-    'items: for item in items {
-        push_call(alloc, &mut calls, t, &item.expr, from, to)?;
+    let mut calls = Vec::with_capacity(alloc, found.len())?;
+    'calls: for call in found {
+        let one = one_call(alloc, t, call.aggregate(), call.arguments(), from, to)?;
+        calls.push(one)?;
     }
     Ok(calls)
-}
-
-// What the call that an item is takes of the rows, if it is one.
-#[tactic(auto, using(crate::proofs::PlanSteps::call_steps), unfolding(crate::specs::Pieces::call_in))]
-fn push_call(
-    alloc: Global,
-    calls: &mut Vec<CallRows>,
-    t: &Table,
-    e: &BExpr,
-    from: usize,
-    to: usize,
-) -> Result<(), AllocError>
-    requires fits { IsTrue (call_or_expr_fits e.now (scope_of t.now.columns) position.Group) }
-    requires order { from ≤ to }
-    requires range { to ≤ length t.now.lines }
-    ensures calls { OnOk result (calls.new.items ≡ calls.old.items ++ map (called t.now from to) (call_in e.now)) }
-{
-    match e {
-        BExpr::Aggregate(f, args) => {
-            let call = one_call(alloc, t, *f, args.as_slice(), from, to)?;
-            calls.push(call)?;
-            Ok(())
-        }
-        BExpr::Literal(_) => Ok(()),
-        BExpr::Column(_) => Ok(()),
-        BExpr::Step(_) => Ok(()),
-        BExpr::Call(_, _) => Ok(()),
-        BExpr::Chain(_, _) => Ok(()),
-        BExpr::Path(_, _) => Ok(()),
-        BExpr::Window(_, _) => Ok(()),
-    }
 }
 
 #[tactic(auto, using(crate::proofs::PlanSteps::one_steps), unfolding(crate::specs::Pieces::called))]

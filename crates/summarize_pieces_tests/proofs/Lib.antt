@@ -1,2 +1,2 @@
-mod CountedFacts
 mod PieceFacts
+mod ProgramFacts

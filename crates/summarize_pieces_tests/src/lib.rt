@@ -1,8 +1,11 @@
-//! Groups that come in two pieces, and what each call gives with ample memory.
+//! Groups that come in two pieces, wherever the rows are cut, and what each plan gives with ample memory.
 #![tactic(auto)]
 
+#[cfg(test)]
+mod fitting;
 mod pieces;
-mod plan;
+#[cfg(test)]
+mod plans;
 #[cfg(test)]
 mod table;
 #[cfg(test)]

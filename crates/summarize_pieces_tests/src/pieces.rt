@@ -2,7 +2,8 @@
 ghost use Rattle.std.specs.Prelude.{◌≡◌, ◌≤◌, true, IfOk, IsTrue, is_some, length};
 ghost use Rattle.kql_meaning.specs.FittingOperators.{answer_if, summarize_fits};
 ghost use Rattle.kql_meaning.specs.Summarize.{group_columns, summarize_table};
-ghost use Rattle.summarize_pieces.specs.Pieces.{comes_in_pieces, piece_of};
+ghost use Rattle.summarize_pieces.specs.Calls.{comes_in_pieces};
+ghost use Rattle.summarize_pieces.specs.Pieces.{piece_of};
 
 use kql_bound::GroupPlan;
 use kql_values::Table;

@@ -1,4 +1,4 @@
-//! Tables of one column of longs.
+//! Tables of keys, numbers, labels and texts.
 
 use kql_cells::{CellRef, Column, KText, Kind, Schema};
 use kql_values::{Table, TableBuilder};
@@ -7,34 +7,60 @@ use std::alloc::{AllocError, Global};
 // What is made, or want of memory.
 pub(crate) type Made<T> = Result<T, AllocError>;
 
+/// A key, a number that may be null, a label, and a text.
+pub(crate) type Line = (i64, Option<i64>, i64, &'static str);
+
+/// The longs of a row, of which some may be null.
+pub(crate) type Longs = &'static [Option<i64>];
+
+fn push_column(schema: &mut Schema, name: Made<KText>, kind: Kind) -> Made<()> {
+    let name = name?;
+    if schema.find(name.as_str()).is_none() {
+        schema.push(Column { name, kind })?;
+    }
+    Ok(())
+}
+
 fn schema(alloc: Global) -> Made<Schema> {
     let mut schema = Schema::new(alloc);
-    let column = Column {
-        name: KText::from_str(alloc, "x")?,
-        kind: Kind::Long,
-    };
-    if schema.find(column.name.as_str()).is_none() {
-        schema.push(column)?;
-    }
+    push_column(&mut schema, KText::from_str(alloc, "k"), Kind::Long)?;
+    push_column(&mut schema, KText::from_str(alloc, "x"), Kind::Long)?;
+    push_column(&mut schema, KText::from_str(alloc, "y"), Kind::Long)?;
+    push_column(&mut schema, KText::from_str(alloc, "z"), Kind::Text)?;
     Ok(schema)
 }
 
-fn put(builder: &mut TableBuilder, n: i64) -> Made<()> {
-    let cell = CellRef::Long(n);
+// Adds what a cell shows, where it fits the next column.
+fn put(builder: &mut TableBuilder, cell: CellRef<'_>) -> Made<()> {
     if builder.fits_next(cell) {
         builder.push_cell(cell)?;
     }
+    Ok(())
+}
+
+fn long(n: Option<i64>) -> CellRef<'static> {
+    match n {
+        Some(n) => CellRef::Long(n),
+        None => CellRef::Null,
+    }
+}
+
+fn put_line(builder: &mut TableBuilder, line: &Line) -> Made<()> {
+    put(builder, CellRef::Long(line.0))?;
+    put(builder, long(line.1))?;
+    put(builder, CellRef::Long(line.2))?;
+    put(builder, CellRef::Text(line.3))?;
     if builder.filled() == builder.schema().len() {
         builder.end_row()?;
     }
     Ok(())
 }
 
-/// A table with these rows.
-pub(crate) fn table_of(alloc: Global, longs: &[i64]) -> Made<Table> {
+/// The table of these rows, with the columns `k`, `x`, `y` and `z`.
+pub(crate) fn table_of(alloc: Global, lines: &[Line]) -> Made<Table> {
     let mut builder = TableBuilder::new(alloc, schema(alloc)?)?;
-    for n in longs {
-        put(&mut builder, *n)?;
+    for line in lines {
+        put_line(&mut builder, line)?;
     }
     if builder.filled() == 0 {
         Ok(builder.finish())
@@ -43,10 +69,28 @@ pub(crate) fn table_of(alloc: Global, longs: &[i64]) -> Made<Table> {
     }
 }
 
-/// Whether a table has one row with these two numbers.
-pub(crate) fn is_row(t: &Table, first: i64, second: i64) -> bool {
-    t.len() == 1
-        && t.schema().len() == 2
-        && t.cell(0, 0).is_same(CellRef::Long(first))
-        && t.cell(0, 1).is_same(CellRef::Long(second))
+// Whether a row shows these longs.
+fn shows_row(t: &Table, i: usize, want: Longs) -> bool {
+    if i >= t.len() || t.schema().len() != want.len() {
+        return false;
+    }
+    for j in 0..want.len() {
+        if !t.cell(i, j).is_same(long(want[j])) {
+            return false;
+        }
+    }
+    true
+}
+
+/// Whether a table shows these longs.
+pub(crate) fn shows(t: &Table, want: &[Longs]) -> bool {
+    if t.len() != want.len() {
+        return false;
+    }
+    for i in 0..want.len() {
+        if !shows_row(t, i, want[i]) {
+            return false;
+        }
+    }
+    true
 }

@@ -1,29 +1,113 @@
+use crate::fitting::fits_table;
 use crate::pieces::in_two_pieces;
-use crate::plan::counted;
-use crate::table::{Made, is_row, table_of};
+use crate::plans::{expressions, firsts, totals, whole};
+use crate::table::{Line, Longs, Made, shows, table_of};
+use kql_bound::GroupPlan;
+use kql_values::Table;
 use std::alloc::Global;
 use std::test::Fail;
 use summarize_pieces::comes_in_pieces;
 
-const LONGS: &[i64] = &[3, 1, 4, 1, 5];
+// The sum of the first key passes the range of long behind its second row, and is back in it behind the third. The second key has a null,
+// and its greatest number twice. The third stands in one late row alone.
+const LINES: &[Line] = &[
+    (1, Some(i64::MAX), 10, "a"),
+    (1, Some(1), 11, ""),
+    (2, None, 12, ""),
+    (1, Some(-1), 13, "ddd"),
+    (2, Some(7), 14, "ee"),
+    (3, Some(7), 15, "fffff"),
+    (2, Some(7), 16, "g"),
+];
 
-// Whether all rows are counted where the table is cut before a row. Before the first no group has a row of the first piece.
-#[tactic(auto, using(crate::proofs::CountedFacts::counted_facts))]
-fn counts_all(alloc: Global, middle: usize) -> Made<bool> {
-    let t = table_of(alloc, LONGS)?;
-    let plan = counted(alloc)?;
-    if middle > t.len() || !comes_in_pieces(&plan) {
+const MAX: Option<i64> = Some(i64::MAX);
+
+// Whether a table that is cut before a row gives this.
+fn gives(alloc: Global, t: &Table, g: &GroupPlan, middle: usize, want: &[Longs]) -> Made<bool> {
+    if middle > t.len() || !fits_table(alloc, g, t)? || !comes_in_pieces(g) {
         return Ok(false);
     }
-    let made = in_two_pieces(alloc, &t, &plan, middle)?;
-    Ok(is_row(&made, 7, 5))
+    let made = in_two_pieces(alloc, t, g, middle)?;
+    Ok(shows(&made, want))
+}
+
+// Whether it does wherever it is cut.
+fn all_give(alloc: Global, lines: &[Line], plan: Made<GroupPlan>, want: &[Longs]) -> Made<bool> {
+    let g = plan?;
+    let t = table_of(alloc, lines)?;
+    for middle in 0..lines.len() {
+        if !gives(alloc, &t, &g, middle, want)? {
+            return Ok(false);
+        }
+    }
+    gives(alloc, &t, &g, lines.len(), want)
 }
 
 #[test]
-fn pieces_of_a_table(rt: HostRuntime) -> Result<(), Fail> {
+fn totals_of_two_pieces(rt: HostRuntime) -> Result<(), Fail> {
     let alloc = rt.alloc();
-    assert!(rt; counts_all(alloc, 0)?);
-    assert!(rt; counts_all(alloc, 2)?);
-    assert!(rt; counts_all(alloc, 5)?);
+    let want: &[Longs] = &[
+        &[Some(1), Some(3), MAX, Some(1), MAX, MAX, Some(-1)],
+        &[
+            Some(2),
+            Some(3),
+            Some(14),
+            Some(2),
+            Some(14),
+            Some(7),
+            Some(7),
+        ],
+        &[
+            Some(3),
+            Some(1),
+            Some(7),
+            Some(1),
+            Some(7),
+            Some(7),
+            Some(7),
+        ],
+    ];
+    assert!(rt; all_give(alloc, LINES, totals(alloc), want)?);
+    Ok(())
+}
+
+// Twice the sum of the first key is out of range.
+#[test]
+fn expressions_over_two_pieces(rt: HostRuntime) -> Result<(), Fail> {
+    let alloc = rt.alloc();
+    let want: &[Longs] = &[
+        &[Some(1), None, Some(9223372036854775794), Some(3), Some(1)],
+        &[Some(2), Some(31), Some(-1), Some(2), Some(7)],
+        &[Some(3), Some(15), Some(-9), Some(1), None],
+    ];
+    assert!(rt; all_give(alloc, LINES, expressions(alloc), want)?);
+    Ok(())
+}
+
+#[test]
+fn first_rows_of_two_pieces(rt: HostRuntime) -> Result<(), Fail> {
+    let alloc = rt.alloc();
+    let want: &[Longs] = &[
+        &[Some(1), Some(10), MAX, MAX, Some(1)],
+        &[Some(2), Some(12), None, Some(7), Some(0)],
+        &[Some(3), Some(15), Some(7), Some(7), Some(5)],
+    ];
+    assert!(rt; all_give(alloc, LINES, firsts(alloc), want)?);
+    Ok(())
+}
+
+// Without keys there is one group, also where there is no row: a text is empty there, and a long null.
+#[test]
+fn one_group_of_two_pieces(rt: HostRuntime) -> Result<(), Fail> {
+    let alloc = rt.alloc();
+    assert!(rt;
+        all_give(
+            alloc,
+            LINES,
+            whole(alloc),
+            &[&[Some(7), Some(10), MAX, Some(1)]]
+        )?
+    );
+    assert!(rt; all_give(alloc, &[], whole(alloc), &[&[Some(0), None, None, Some(0)]])?);
     Ok(())
 }

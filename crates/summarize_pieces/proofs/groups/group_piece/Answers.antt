@@ -24,7 +24,7 @@ returns c =
     let numbered = c.as_slice-2.ensures.items ∙ c.in_ok-keys.ensures.numbers in
     record {
       groups = λ g t from to is. record {
-        groups = piece-groups g t from to p c.len-count.result c.p.inside.width keys numbers c.in_ok-folds.folds.items is (c.len-count.ensures.count ∙ ap (λ (q : Piece). length q.keys) c.p.view_is) (ap (λ (q : Piece). q.width) c.p.view_is) c.in_ok-keys.ensures.keys numbered states;
+        groups = piece-groups g t from to p c.len-count.result c.p.inside.width keys numbers c.in_ok-calls.calls.items c.in_ok-folds.folds.items is (c.len-count.ensures.count ∙ ap (λ (q : Piece). length q.keys) c.p.view_is) (ap (λ (q : Piece). q.width) c.p.view_is) c.in_ok-keys.ensures.keys numbered (c.in_ok-calls.ensures.calls ∙ ap (map (λ (c : Called). c.call)) (c.as_slice-3.ensures.value ∙ ap (λ (q : Piece). q.calls) c.p.view_is)) states;
         stored = piece-stored g t from to p numbers c.as_slice.result.now is numbered calls c.in_ok-folds.ensures.stored;
       };
     }

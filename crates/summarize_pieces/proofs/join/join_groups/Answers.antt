@@ -53,7 +53,7 @@ returns-clause-joined c =
     let en = behind-are a.keys b.keys c.append.new.self first c.as_slice.result.now ns ef ew (c.as_slice.ensures.items ∙ c.in_ok-keys.ensures.numbers) c.numbers_from-behind.ensures.rest in
     let es = c.in_ok-folds.ensures.joined ∙ ap₂ (λ (xs ys : List (List Kept)). joined_states first xs ns ys) (ap state_list c.a.view_is) (ap state_list c.b.view_is) in
     let ec = ap₂ (λ m n. m + n) (ap (λ (g : Grouped). g.count) c.a.view_is) (ap (λ (g : Grouped). g.count) c.b.view_is) in
-    both-groups a b first _ c.a.inside.width c.append.new.self c.in_ok-keys.field-0.keys ns c.in_ok-folds.folds.items ef ew c.in_ok-keys.ensures.keys en es ec (ap (λ (g : Grouped). g.width) c.a.view_is)
+    both-groups a b first _ c.a.inside.width c.append.new.self c.in_ok-keys.field-0.keys ns c.a.inside.calls.items c.in_ok-folds.folds.items ef ew c.in_ok-keys.ensures.keys en es ec (ap (λ (g : Grouped). g.width) c.a.view_is) (ap (λ (g : Grouped). g.calls) c.a.view_is)
 
 pub returns-clause-range : goal.returns-clause-range
 returns-clause-range c =
@@ -66,4 +66,4 @@ returns-clause-range c =
     let en = behind-are a.keys b.keys c.append.new.self first c.as_slice.result.now ns ef ew (c.as_slice.ensures.items ∙ c.in_ok-keys.ensures.numbers) c.numbers_from-behind.ensures.rest in
     let es = c.in_ok-folds.ensures.joined ∙ ap₂ (λ (xs ys : List (List Kept)). joined_states first xs ns ys) (ap state_list c.a.view_is) (ap state_list c.b.view_is) in
     let ec = ap₂ (λ m n. m + n) (ap (λ (g : Grouped). g.count) c.a.view_is) (ap (λ (g : Grouped). g.count) c.b.view_is) in
-    λ n. groups-joined a b _ n (both-groups a b first _ c.a.inside.width c.append.new.self c.in_ok-keys.field-0.keys ns c.in_ok-folds.folds.items ef ew c.in_ok-keys.ensures.keys en es ec (ap (λ (g : Grouped). g.width) c.a.view_is))
+    λ n. groups-joined a b _ n (both-groups a b first _ c.a.inside.width c.append.new.self c.in_ok-keys.field-0.keys ns c.a.inside.calls.items c.in_ok-folds.folds.items ef ew c.in_ok-keys.ensures.keys en es ec (ap (λ (g : Grouped). g.width) c.a.view_is) (ap (λ (g : Grouped). g.calls) c.a.view_is))

@@ -1,6 +1,6 @@
 use Rattle.std.proofs.Common.{rules}
-use Rattle.summarize_pieces.proofs.PlanSteps.{calls-step}
+use Rattle.summarize_pieces.proofs.PlanSteps.{calls-more}
 use Rattle.summarize_pieces.proofs.piece.call_rows.Goals as goal
 
-pub items-preserved : goal.items-preserved
-items-preserved c = calls-step c.args.items.now c.args.t.now c.args.from c.args.to c.items.item-index c.item-item.result c.items.calls.items c.push_call.new.calls.items (search rules) c.item-item.is c.items.invariant c.in_ok-push_call.ensures.calls
+pub calls-preserved : goal.calls-preserved
+calls-preserved c = calls-more c.args.t.now c.args.from c.args.to c.args.found.now c.calls.call-index c.call-item.result c.aggregate.result c.arguments.result.now c.calls.calls.items c.push.new.self.items c.in_ok-one.one (search rules) c.call-item.is c.aggregate.ensures.aggregate c.arguments.ensures.arguments c.calls.invariant c.in_ok-one.ensures.call c.in_ok-push.ensures.items

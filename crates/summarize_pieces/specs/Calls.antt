@@ -1,0 +1,120 @@
+-- The calls of aggregates in expressions, from left to right, and what they give for rows.
+use Rattle.std.specs.Prelude.{◌≡◌, ℕ, List, [], ◌∷◌, ◌++◌, Bool, true, drop, map, Option, None, Some, if◌then◌else◌}
+use Rattle.std.specs.List.{AllByRecursion, flat_map, list_all}
+use Rattle.kql_cells.specs.Keys.{absent}
+use Rattle.kql_cells.specs.Table.{Grid}
+use Rattle.kql_cells.specs.declared.schema.Column.{Column}
+use Rattle.kql_cells.specs.declared.value.Kind.{Kind}
+use Rattle.kql_cells.specs.declared.value.Value.{Value}
+use Rattle.kql_cells.specs.declared.value.Value.TheVariants as value
+use Rattle.kql_functions.specs.declared.aggregate.Aggregate.{Aggregate}
+use Rattle.kql_functions.specs.declared.aggregate.Aggregate.TheVariants as aggregate
+use Rattle.kql_bound.specs.declared.expr.BExpr.{BExpr, out-BExpr, para-BExpr}
+use Rattle.kql_bound.specs.declared.expr.BExpr.TheOpen.{BExpr-F}
+use Rattle.kql_bound.specs.declared.expr.BExpr.TheVariants as V
+use Rattle.kql_bound.specs.declared.expr.ChainSign.{ChainSign}
+use Rattle.kql_bound.specs.declared.parts.BItem.{BItem}
+use Rattle.kql_bound.specs.declared.parts.GroupPlan.{GroupPlan}
+use Rattle.kql_meaning.specs.declared.position.Position.TheVariants as position
+use Rattle.kql_meaning.specs.Expressions.{val}
+use Rattle.kql_meaning.specs.FittingExpressions.{call_or_expr_fits, scope_of}
+use Rattle.kql_meaning.specs.Results.{has_one_result}
+use Rattle.kql_scalar_fns.specs.Arguments.{argument}
+use Rattle.agg_folds.specs.Folds.{folded}
+use Rattle.agg_folds.specs.declared.call.FoldCall.{FoldCall}
+use Rattle.summarize_op.specs.Calls.{IsCall, is_first}
+
+-- The plans whose groups come in pieces: an item that is a call of `arg_max` or `arg_min` has one result column.
+
+unfoldable pub is_kept_call : Aggregate → List BExpr → Bool
+is_kept_call aggregate.TakeAny args = true
+is_kept_call f args = has_one_result f args
+
+abbrev pub is_kept_step : BExpr-F BExpr → Bool
+is_kept_step (BExpr-F.Aggregate f args) = is_kept_call f args
+is_kept_step _ = true
+
+unfoldable pub is_kept : BExpr → Bool
+is_kept e = is_kept_step (out-BExpr e)
+
+unfoldable pub comes_in_pieces : GroupPlan → Bool
+comes_in_pieces g = list_all (λ (b : BItem). is_kept b.expr) g.items
+
+-- The calls in an expression. In their arguments stand none.
+
+-- An expression, and the calls in it.
+abbrev pub WithCalls : Type 0
+WithCalls = BExpr × List (Aggregate × List BExpr)
+
+abbrev pub calls_step : BExpr-F WithCalls → List (Aggregate × List BExpr)
+calls_step (BExpr-F.Literal l) = []
+calls_step (BExpr-F.Column n) = []
+calls_step (BExpr-F.Step c) = []
+calls_step (BExpr-F.Call f args) = flat_map (λ (a : WithCalls). a.1) args
+calls_step (BExpr-F.Chain first links) = first.1 ++ flat_map (λ (l : ChainSign × WithCalls). l.1.1) links
+calls_step (BExpr-F.Path whole steps) = whole.1 ++ flat_map (λ (a : WithCalls). a.1) steps
+calls_step (BExpr-F.Window f args) = []
+calls_step (BExpr-F.Aggregate f args) = (f, map (λ (a : WithCalls). a.0) args) ∷ []
+
+unfoldable pub calls_in : BExpr → List (Aggregate × List BExpr)
+calls_in = para-BExpr (List (Aggregate × List BExpr)) calls_step
+
+-- Those in several expressions, and in the parts of a chain behind its first.
+unfoldable pub calls_in_all : List BExpr → List (Aggregate × List BExpr)
+calls_in_all es = flat_map calls_in es
+
+unfoldable pub calls_along : List (ChainSign × BExpr) → List (Aggregate × List BExpr)
+calls_along links = flat_map (λ (l : ChainSign × BExpr). calls_in l.1) links
+
+-- The calls of items. An item that is a call of `take_any` has one for each of its columns.
+
+unfoldable pub call_columns : Aggregate → List BExpr → Option (List BExpr)
+call_columns aggregate.TakeAny args = Some args
+call_columns _ args = None
+
+abbrev pub first_columns_step : BExpr-F BExpr → Option (List BExpr)
+first_columns_step (BExpr-F.Aggregate f args) = call_columns f args
+first_columns_step _ = None
+
+-- The columns of an expression that is a call of `take_any`.
+unfoldable pub first_columns : BExpr → Option (List BExpr)
+first_columns e = first_columns_step (out-BExpr e)
+
+unfoldable pub firsts : List BExpr → List (Aggregate × List BExpr)
+firsts columns = map (λ (e : BExpr). (aggregate.TakeAny, e ∷ [])) columns
+
+unfoldable pub calls_by : Option (List BExpr) → BExpr → List (Aggregate × List BExpr)
+calls_by None e = calls_in e
+calls_by (Some columns) e = firsts columns
+
+unfoldable pub item_calls : BExpr → List (Aggregate × List BExpr)
+item_calls e = calls_by (first_columns e) e
+
+unfoldable pub calls_of : List BItem → List (Aggregate × List BExpr)
+calls_of items = flat_map (λ (b : BItem). item_calls b.expr) items
+
+-- Calls that fit.
+pub record AreCalls (columns : List Column) (calls : List (Aggregate × List BExpr)) : Type 0 where
+  pub each : AllByRecursion (λ (c : Aggregate × List BExpr). IsCall columns c.0 c.1) calls
+
+-- An item that fits over groups, and is kept of pieces.
+pub record IsItem (columns : List Column) (e : BExpr) : Type 0 where
+  pub fits : call_or_expr_fits e (scope_of columns) position.Group ≡ true
+  pub kept : is_kept e ≡ true
+
+-- What a call gives.
+
+-- What stands in a column of a type where there is no value.
+unfoldable pub absent_of : Option Kind → Value
+absent_of None = value.Null
+absent_of (Some k) = absent k
+
+-- What a call gives for what its arguments are at rows. Without a row `take_any` gives what stands in its column where there is no value.
+unfoldable pub given : FoldCall → List (List Value) → Value
+given call [] = if is_first call.aggregate then absent_of call.kind else folded call []
+given call (row ∷ rows) = folded call (row ∷ rows)
+
+-- Whether values begin with what calls give over a group of rows.
+unfoldable pub AreGiven : List (Aggregate × List BExpr) → Grid → List Value → Type 0
+AreGiven [] u vs = Unit {0}
+AreGiven (c ∷ cs) u vs = (argument vs 0 ≡ val (V.Aggregate c.0 c.1) u 0 []) × AreGiven cs u (drop 1 vs)
