@@ -8,6 +8,7 @@ mod number_key;
 mod numbering;
 mod places;
 mod probe;
+mod text_key;
 
 pub use key::KeyRef;
 pub use numbering::{KeyIndex, Numbered, index_keys, number_keys};

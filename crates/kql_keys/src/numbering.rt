@@ -5,6 +5,7 @@ ghost use Rattle.kql_cells.specs.Keys.{same_keys};
 
 use crate::key::KeyRef;
 use crate::number_key::{lone_numbers, number_by_numbers};
+use crate::text_key::{are_short, lone_texts, number_by_texts};
 use indexmap::IndexSet;
 use kql_cells::Places;
 use kql_items::Items;
@@ -66,6 +67,12 @@ pub fn number_keys(alloc: Global, columns: &[&Vector], count: usize) -> Result<N
     if let Some(lone) = lone_numbers(columns) {
         let found = number_by_numbers(alloc, lone, count)?;
         return Ok(found);
+    }
+    if let Some(texts) = lone_texts(columns) {
+        if are_short(texts, count) {
+            let named = number_by_texts(alloc, texts, count)?;
+            return Ok(named);
+        }
     }
     let KeyIndex {
         seen: _,

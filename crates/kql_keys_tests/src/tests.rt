@@ -119,6 +119,58 @@ const COLUMNS: &[(Kind, &[Shown], &[usize], &[usize])] = &[
         &[0, 1, 2, 0, 1],
         &[0, 1, 2],
     ),
+    // Texts that begin alike: with seven bytes, and with fourteen.
+    (
+        Kind::Text,
+        &[
+            Shown::Text("abcdefg"),
+            Shown::Text("abcdefgh"),
+            Shown::Text("abcdefghijklmn"),
+            Shown::Text("abcdefghijklmno"),
+            Shown::Text("abcdefgh"),
+        ],
+        &[0, 1, 2, 3, 1],
+        &[0, 1, 2, 3],
+    ),
+    // Texts of 21 bytes, and bytes that are 0.
+    (
+        Kind::Text,
+        &[
+            Shown::Text("abcdefghijklmnopqrstu"),
+            Shown::Text("abcdefghijklmnopqrstv"),
+            Shown::Text("\0"),
+            Shown::Text(""),
+            Shown::Text("abcdefghijklmnopqrstu"),
+        ],
+        &[0, 1, 2, 3, 0],
+        &[0, 1, 2, 3],
+    ),
+    // One text of 22 bytes.
+    (
+        Kind::Text,
+        &[
+            Shown::Text("abcdefghijklmnopqrstu"),
+            Shown::Text("abcdefghijklmnopqrstuv"),
+            Shown::Text("a\0"),
+            Shown::Text("a"),
+            Shown::Text("abcdefghijklmnopqrstu"),
+        ],
+        &[0, 1, 2, 3, 0],
+        &[0, 1, 2, 3],
+    ),
+    // The empty text is not null.
+    (
+        Kind::Text,
+        &[
+            Shown::Text(""),
+            Shown::Null,
+            Shown::Text("\0"),
+            Shown::Null,
+            Shown::Text(""),
+        ],
+        &[0, 1, 2, 1, 0],
+        &[0, 1, 2],
+    ),
     // One number in values of three types.
     (
         Kind::Dynamic,
