@@ -137,6 +137,7 @@ impl<'a> Fold<'a> {
     /// The place, among the rows that were taken, of the one that `arg_max`, `arg_min` or `take_any` takes; 0 where no row was taken. It is
     /// of no use for other aggregates.
     pub fn chosen(&self) -> usize
+        ensures place { result ≡ place_in self.now.state }
         ensures row { (call : FoldCall) (rows : List (List Cell)) → self.now ≡ fold_of call rows → result ≡ chosen_row call rows }
     {
         self.place()

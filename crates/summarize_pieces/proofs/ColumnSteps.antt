@@ -1,5 +1,5 @@
 -- The values of expressions at the rows of a range.
-use Rattle.std.proofs.Common.{◌≡◌, ◌<◌, ◌≤◌, ◌+◌, ◌++◌, ℕ, zero, suc, Bool, true, List, [], ◌∷◌, get_or, length, map, take, refl, ap, sym, subst, arith}
+use Rattle.std.proofs.Common.{◌≡◌, ◌<◌, ◌≤◌, ◌+◌, ◌++◌, ℕ, zero, suc, Bool, true, List, [], ◌∷◌, drop, get_or, length, map, take, refl, ap, sym, subst, arith}
 use Rattle.std.specs.Prelude.{◌&&◌}
 use Rattle.std.specs.List.{list_all}
 use Rattle.std.proofs.lemmas.Bool.{and_parts}
@@ -88,3 +88,11 @@ all-taken zero (e ∷ es) le = absurd (omega arith)
 all-taken (suc n) (e ∷ es) le = ap (λ (xs : List BExpr). e ∷ xs) (all-taken n es (omega (arith, le)))
 
 pub ruleset first_steps = (all-taken)
+
+-- All but the first.
+
+pub no-others : (es : List BExpr) → length es < 1 → es ≡ drop 1 es
+no-others [] l = refl
+no-others (e ∷ es) l = absurd (omega (arith, l))
+
+pub ruleset other_steps = (no-others)

@@ -1,6 +1,6 @@
 -- The rows of the groups of all rows.
 use Rattle.std.proofs.Common.{◌≡◌, ◌<◌, ◌≤◌, ◌+◌, ◌-◌, ◌++◌, ℕ, zero, suc, false, List, [], ◌∷◌, filter, get_or, length, map, take, refl, ap, ap₂, sym, ◌∙◌, subst, arith, rules}
-use Rattle.std.specs.Prelude.{All, not, slice_index_or}
+use Rattle.std.specs.Prelude.{All, Some, not, slice_get, slice_index_or}
 use Rattle.std.specs.List.{AllByRecursion, range_with_len}
 use Rattle.std.proofs.lemmas.List.{get_or-map, length-map, map-append, take_more}
 use Rattle.std.proofs.lemmas.List.Elements.{All-from_recursion, recursion_from_All}
@@ -38,9 +38,9 @@ use Rattle.kql_scalar.specs.Rows.{rows}
 use Rattle.agg_folds.specs.States.{Kept, fold_of}
 use Rattle.agg_folds.specs.declared.call.FoldCall.{FoldCall}
 use Rattle.summarize_op.specs.Calls.{IsCall}
-use Rattle.summarize_pieces.specs.Calls.{AreGiven, calls_of, given}
-use Rattle.summarize_pieces.specs.Pieces.{AreAligned, AreAllGroups, Grouped, args_at, call_over, group_line, groups_in, keys_in, rows_with, state_in, value_for}
-use Rattle.summarize_pieces.proofs.GivenLaws.{are-formed, are-given}
+use Rattle.summarize_pieces.specs.Calls.{AreFurther, AreGiven, calls_of, given}
+use Rattle.summarize_pieces.specs.Pieces.{AreAligned, AreAllGroups, GroupKept, Grouped, args_at, call_over, group_line, groups_in, kept_row, kept_rows, keys_in, rows_with, state_at, state_in, value_for}
+use Rattle.summarize_pieces.proofs.GivenLaws.{are-formed, are-further, are-given}
 use Rattle.summarize_pieces.proofs.GroupSteps.{all-same}
 use Rattle.summarize_pieces.proofs.NeighbourLaws.{with-inside}
 use Rattle.summarize_pieces.proofs.PlanSteps.{Fits, answer-is, calls-fit, items-of, plan-fits}
@@ -105,11 +105,11 @@ pub states-by-keys : (g : GroupPlan) (t : Grid) (x : Grouped) → AreGroups g t 
 states-by-keys g t x is =
     states-of-groups g t x is ∙ ap (λ (ks : List (List Value)). map (λ (c : Aggregate × List BExpr). map (state_in c g.keys t 0 (length t.lines)) ks) (calls_of g.items)) (sym (keys-of-groups g t x is))
 
-states-long : (cs : List (Aggregate × List BExpr)) (keys : List BItem) (t : Grid) (from to k : ℕ) (ks : List (List Value)) → k < length ks → AllByRecursion (λ (s : List Kept). k < length s) (map (λ c. map (state_in c keys t from to) ks) cs)
+states-long : (cs : List (Aggregate × List BExpr)) (keys : List BItem) (t : Grid) (from to k : ℕ) (ks : List (List Value)) → k < length ks → AllByRecursion (λ (s : List GroupKept). k < length s) (map (λ c. map (state_in c keys t from to) ks) cs)
 states-long [] keys t from to k ks lt = tt
 states-long (c ∷ cs) keys t from to k ks lt = (let size = length-map ks (state_in c keys t from to) in omega (arith, size, lt), states-long cs keys t from to k ks lt)
 
-pub aligned : (g : GroupPlan) (cs : List Column) (x : Grouped) (k : ℕ) (calls : List FoldCall) (states : List (List Kept)) → AreAllGroups g cs x → k < length x.keys → calls ≡ x.calls → states ≡ x.states → AreAligned k calls states
+pub aligned : (g : GroupPlan) (cs : List Column) (x : Grouped) (k : ℕ) (calls : List FoldCall) (states : List (List GroupKept)) → AreAllGroups g cs x → k < length x.keys → calls ≡ x.calls → states ≡ x.states → AreAligned k calls states
 aligned g cs x k calls states h lt ec es =
     let t = h.table in
     let ks = keys_in g.keys t 0 (length t.lines) in
@@ -119,15 +119,15 @@ aligned g cs x k calls states h lt ec es =
     let f = λ (c : Aggregate × List BExpr). map (state_in c g.keys t 0 (length t.lines)) ks in
     let over = λ (c : Aggregate × List BExpr). call_over c t.columns in
     record {
-      many = ap (λ (xs : List FoldCall). length xs) (ec ∙ ck) ∙ (length-map (calls_of g.items) over ∙ sym (ap (λ (xs : List (List Kept)). length xs) (es ∙ sk) ∙ length-map (calls_of g.items) f));
-      each = subst (All (λ (s : List Kept). k < length s)) (sym (es ∙ sk)) (All-from_recursion (λ (s : List Kept). k < length s) (map f (calls_of g.items)) (states-long (calls_of g.items) g.keys t 0 (length t.lines) k ks below));
+      many = ap (λ (xs : List FoldCall). length xs) (ec ∙ ck) ∙ (length-map (calls_of g.items) over ∙ sym (ap (λ (xs : List (List GroupKept)). length xs) (es ∙ sk) ∙ length-map (calls_of g.items) f));
+      each = subst (All (λ (s : List GroupKept). k < length s)) (sym (es ∙ sk)) (All-from_recursion (λ (s : List GroupKept). k < length s) (map f (calls_of g.items)) (states-long (calls_of g.items) g.keys t 0 (length t.lines) k ks below));
     }
 
-pub aligned-call : (k : ℕ) (calls : List FoldCall) (states : List (List Kept)) (j : ℕ) → AreAligned k calls states → j < length states → j < length calls
+pub aligned-call : (k : ℕ) (calls : List FoldCall) (states : List (List GroupKept)) (j : ℕ) → AreAligned k calls states → j < length states → j < length calls
 aligned-call k calls states j h lt = let many = h.many in omega (arith, many, lt)
 
-pub aligned-state : (k : ℕ) (calls : List FoldCall) (states : List (List Kept)) (j : ℕ) (s : List Kept) → AreAligned k calls states → j < length states → s ≡ get_or states j s → k < length s
-aligned-state k calls states j s h lt is = subst (λ (r : List Kept). k < length r) (sym is) (h.each j s lt)
+pub aligned-state : (k : ℕ) (calls : List FoldCall) (states : List (List GroupKept)) (j : ℕ) (s : List GroupKept) → AreAligned k calls states → j < length states → s ≡ get_or states j s → k < length s
+aligned-state k calls states j s h lt is = subst (λ (r : List GroupKept). k < length r) (sym is) (h.each j s lt)
 
 pub ruleset aligned_steps = (aligned-call, aligned-state)
 
@@ -136,29 +136,29 @@ pub ruleset aligned_steps = (aligned-call, aligned-state)
 abbrev pub values_for : List (Aggregate × List BExpr) → List BItem → Grid → ℕ → ℕ → List Value → List Value
 values_for cs keys t from to k = map (λ c. value_for c keys t from to k) cs
 
-state-lists : (c : Aggregate × List BExpr) (keys : List BItem) (t : Grid) (from to : ℕ) (ks : List (List Value)) → map (state_in c keys t from to) ks ≡ map (fold_of (call_over c t.columns)) (map (λ k. args_at c t (rows_with keys t from to k)) ks)
-unfolding state_in
+state-lists : (c : Aggregate × List BExpr) (keys : List BItem) (t : Grid) (from to : ℕ) (ks : List (List Value)) → map (λ (s : GroupKept). s.kept) (map (state_in c keys t from to) ks) ≡ map (fold_of (call_over c t.columns)) (map (λ k. args_at c t (rows_with keys t from to k)) ks)
+unfolding state_in state_at
 state-lists c keys t from to [] = refl
 state-lists c keys t from to (k ∷ ks) = ap (λ (xs : List Kept). fold_of (call_over c t.columns) (args_at c t (rows_with keys t from to k)) ∷ xs) (state-lists c keys t from to ks)
 
 pub values-start : (cs : List (Aggregate × List BExpr)) (keys : List BItem) (t : Grid) (from to : ℕ) (k made : List Value) → made ≡ [] → made ≡ values_for (take 0 cs) keys t from to k
 values-start cs keys t from to k made e = e
 
-pub values-step : (cs : List (Aggregate × List BExpr)) (keys : List BItem) (t : Grid) (from to k : ℕ) (ks : List (List Value)) (calls : List FoldCall) (folds : List (List Kept)) (j : ℕ) (call : FoldCall) (list : List Kept) (v : Value) (old new : List Value) → j < length folds → k < length list → call ≡ get_or calls j call → list ≡ get_or folds j list → calls ≡ map (λ c. call_over c t.columns) cs → folds ≡ map (λ c. map (state_in c keys t from to) ks) cs → old ≡ values_for (take j cs) keys t from to (slice_index_or ks k [])
-    → ((lists : List (List (List Value))) → list ≡ map (fold_of call) lists → v ≡ given call (slice_index_or lists k [])) → new ≡ old ++ v ∷ [] → new ≡ values_for (take (j + 1) cs) keys t from to (slice_index_or ks k [])
+pub values-step : (cs : List (Aggregate × List BExpr)) (keys : List BItem) (t : Grid) (from to k : ℕ) (ks : List (List Value)) (calls : List FoldCall) (folds : List (List GroupKept)) (j : ℕ) (call : FoldCall) (list : List GroupKept) (v : Value) (old new : List Value) → j < length folds → k < length list → call ≡ get_or calls j call → list ≡ get_or folds j list → calls ≡ map (λ c. call_over c t.columns) cs → folds ≡ map (λ c. map (state_in c keys t from to) ks) cs → old ≡ values_for (take j cs) keys t from to (slice_index_or ks k [])
+    → ((lists : List (List (List Value))) → map (λ (s : GroupKept). s.kept) list ≡ map (fold_of call) lists → v ≡ given call (slice_index_or lists k [])) → new ≡ old ++ v ∷ [] → new ≡ values_for (take (j + 1) cs) keys t from to (slice_index_or ks k [])
 unfolding value_for
 values-step cs keys t from to k ks calls folds j call list v old new lt inside ci li ec es before value after =
-    let size : length folds ≡ length cs = ap (λ (xs : List (List Kept)). length xs) es ∙ length-map cs _ in
+    let size : length folds ≡ length cs = ap (λ (xs : List (List GroupKept)). length xs) es ∙ length-map cs _ in
     let below : j < length cs = omega (arith, size, lt) in
     let d : Aggregate × List BExpr = (aggregate.Count, []) in
     let c = get_or cs j d in
-    let own : list ≡ map (state_in c keys t from to) ks = li ∙ (ap (λ (xs : List (List Kept)). get_or xs j list) es ∙ get_or-map (λ c. map (state_in c keys t from to) ks) cs j d list below) in
+    let own : list ≡ map (state_in c keys t from to) ks = li ∙ (ap (λ (xs : List (List GroupKept)). get_or xs j list) es ∙ get_or-map (λ c. map (state_in c keys t from to) ks) cs j d list below) in
     let named : call ≡ call_over c t.columns = ci ∙ (ap (λ (xs : List FoldCall). get_or xs j call) ec ∙ get_or-map (λ c. call_over c t.columns) cs j d call below) in
     let lists = map (λ k. args_at c t (rows_with keys t from to k)) ks in
-    let many : length list ≡ length ks = ap (λ (xs : List Kept). length xs) own ∙ length-map ks _ in
+    let many : length list ≡ length ks = ap (λ (xs : List GroupKept). length xs) own ∙ length-map ks _ in
     let there : k < length ks = omega (arith, many, inside) in
     let made : v ≡ given (call_over c t.columns) (args_at c t (rows_with keys t from to (slice_index_or ks k []))) =
-    value lists (own ∙ (state-lists c keys t from to ks ∙ ap (λ (h : FoldCall). map (fold_of h) lists) (sym named)))
+    value lists (ap (map (λ (s : GroupKept). s.kept)) own ∙ (state-lists c keys t from to ks ∙ ap (λ (h : FoldCall). map (fold_of h) lists) (sym named)))
     ∙ ap₂ (λ (h : FoldCall) (rs : List (List Value)). given h rs) named (get_or-map (λ k. args_at c t (rows_with keys t from to k)) ks k [] [] there) in
     let f = λ (c : Aggregate × List BExpr). given (call_over c t.columns) (args_at c t (rows_with keys t from to (slice_index_or ks k []))) in
     after
@@ -171,8 +171,8 @@ same-default (c ∷ calls) zero d e lt = refl
 same-default (c ∷ calls) (suc j) d e lt = same-default calls j d e (omega (arith, lt))
 
 -- The same, where a call is read with a default.
-pub values-next : (cs : List (Aggregate × List BExpr)) (keys : List BItem) (t : Grid) (from to k : ℕ) (ks : List (List Value)) (calls : List FoldCall) (folds : List (List Kept)) (j : ℕ) (d : FoldCall) (list : List Kept) (v : Value) (old new : List Value) → AreAligned k calls folds → j < length folds → list ≡ get_or folds j list → calls ≡ map (λ c. call_over c t.columns) cs → folds ≡ map (λ c. map (state_in c keys t from to) ks) cs → old ≡ values_for (take j cs) keys t from to (slice_index_or ks k [])
-    → ((lists : List (List (List Value))) → list ≡ map (fold_of (get_or calls j d)) lists → v ≡ given (get_or calls j d) (slice_index_or lists k [])) → new ≡ old ++ v ∷ [] → new ≡ values_for (take (j + 1) cs) keys t from to (slice_index_or ks k [])
+pub values-next : (cs : List (Aggregate × List BExpr)) (keys : List BItem) (t : Grid) (from to k : ℕ) (ks : List (List Value)) (calls : List FoldCall) (folds : List (List GroupKept)) (j : ℕ) (d : FoldCall) (list : List GroupKept) (v : Value) (old new : List Value) → AreAligned k calls folds → j < length folds → list ≡ get_or folds j list → calls ≡ map (λ c. call_over c t.columns) cs → folds ≡ map (λ c. map (state_in c keys t from to) ks) cs → old ≡ values_for (take j cs) keys t from to (slice_index_or ks k [])
+    → ((lists : List (List (List Value))) → map (λ (s : GroupKept). s.kept) list ≡ map (fold_of (get_or calls j d)) lists → v ≡ given (get_or calls j d) (slice_index_or lists k [])) → new ≡ old ++ v ∷ [] → new ≡ values_for (take (j + 1) cs) keys t from to (slice_index_or ks k [])
 values-next cs keys t from to k ks calls folds j d list v old new h lt li ec es before value after =
     values-step cs keys t from to k ks calls folds j (get_or calls j d) list v old new lt (aligned-state k calls folds j list h lt li)
     (same-default calls j d (get_or calls j d) (aligned-call k calls folds j h lt)) li ec es before value after
@@ -183,16 +183,20 @@ take-whole (suc n) [] le = refl
 take-whole zero (x ∷ xs) le = absurd (omega arith)
 take-whole (suc n) (x ∷ xs) le = ap (λ ys. x ∷ ys) (take-whole n xs (omega (arith, le)))
 
-pub values-end : (cs : List (Aggregate × List BExpr)) (keys : List BItem) (t : Grid) (from to : ℕ) (k : List Value) (ks : List (List Value)) (folds : List (List Kept)) (j : ℕ) (made : List Value) → length folds ≤ j → folds ≡ map (λ c. map (state_in c keys t from to) ks) cs → made ≡ values_for (take j cs) keys t from to k → made ≡ values_for cs keys t from to k
+pub values-end : (cs : List (Aggregate × List BExpr)) (keys : List BItem) (t : Grid) (from to : ℕ) (k : List Value) (ks : List (List Value)) (folds : List (List GroupKept)) (j : ℕ) (made : List Value) → length folds ≤ j → folds ≡ map (λ c. map (state_in c keys t from to) ks) cs → made ≡ values_for (take j cs) keys t from to k → made ≡ values_for cs keys t from to k
 values-end cs keys t from to k ks folds j made le all is =
-    let size : length folds ≡ length cs = ap (λ (xs : List (List Kept)). length xs) all ∙ length-map cs _ in
+    let size : length folds ≡ length cs = ap (λ (xs : List (List GroupKept)). length xs) all ∙ length-map cs _ in
     is ∙ ap (λ (ds : List (Aggregate × List BExpr)). values_for ds keys t from to k) (take-whole j cs (omega (arith, size, le)))
 
-pub one-fold : (call : FoldCall) (lists : List (List (List Value))) (folds : List Kept) (k : ℕ) (fold : Kept) → k < length folds → fold ≡ get_or folds k fold → folds ≡ map (fold_of call) lists → fold ≡ fold_of call (slice_index_or lists k [])
-one-fold call lists folds k fold lt is all =
-    let size : length folds ≡ length lists = ap (λ (ks : List Kept). length ks) all ∙ length-map lists (fold_of call) in
+pub one-fold : (call : FoldCall) (lists : List (List (List Value))) (groups : List GroupKept) (k : ℕ) (s : GroupKept) (fold : Kept) → k < length groups → s ≡ get_or groups k s → fold ≡ s.kept → map (λ (s : GroupKept). s.kept) groups ≡ map (fold_of call) lists → fold ≡ fold_of call (slice_index_or lists k [])
+one-fold call lists groups k s fold lt is kept all =
+    let f = λ (s : GroupKept). s.kept in
+    let size : length groups ≡ length lists = sym (length-map groups f) ∙ (ap (λ (ks : List Kept). length ks) all ∙ length-map lists (fold_of call)) in
     let below : k < length lists = omega (arith, size, lt) in
-    is ∙ (ap (λ (ks : List Kept). get_or ks k fold) all ∙ get_or-map (fold_of call) lists k [] fold below)
+    kept
+    ∙ (ap f is
+    ∙ (sym (get_or-map f groups k s fold lt)
+    ∙ (ap (λ (ks : List Kept). get_or ks k fold) all ∙ get_or-map (fold_of call) lists k [] fold below)))
 
 -- The row of a group.
 
@@ -220,6 +224,33 @@ values-given g t k vs fits is =
 pub values-formed : (g : GroupPlan) (t : Grid) (k vs : List Value) → IsTable t → Fits g t.columns → vs ≡ values_for (calls_of g.items) g.keys t 0 (length t.lines) k → AreWellFormed vs
 values-formed g t k vs h fits is =
     are-formed (calls_of g.items) t (rows_with g.keys t 0 (length t.lines) k) vs (group-table g.keys t k h) (calls-that-fit g t fits) (is ∙ same-values (calls_of g.items) g.keys t 0 (length t.lines) k)
+
+-- The rows that are kept of the further columns.
+
+get-at : {X : Type 0} (f : List Value → X) (ks : List (List Value)) (k : ℕ) → k < length ks → slice_get (map f ks) k ≡ Some (f (slice_index_or ks k []))
+get-at f [] k lt = absurd (omega (arith, lt))
+get-at f (j ∷ ks) zero lt = refl
+get-at f (j ∷ ks) (suc k) lt = get-at f ks k (omega (arith, lt))
+
+further-rows : (cs : List (Aggregate × List BExpr)) (keys : List BItem) (t : Grid) (from to : ℕ) (ks : List (List Value)) (k : ℕ) → k < length ks → kept_rows (map (λ c. map (state_in c keys t from to) ks) cs) k ≡ map (λ (c : Aggregate × List BExpr). (state_at c t (rows_with keys t from to (slice_index_or ks k []))).further) cs
+unfolding kept_rows kept_row state_in
+further-rows [] keys t from to ks k lt = refl
+further-rows (c ∷ cs) keys t from to ks k lt =
+    ap₂ (λ (r : List Value) (rs : List (List Value)). r ∷ rs)
+    (ap kept_row (get-at (λ j. state_at c t (rows_with keys t from to j)) ks k lt))
+    (further-rows cs keys t from to ks k lt)
+
+pub further-given : (g : GroupPlan) (t : Grid) (x : Grouped) (k : ℕ) (states : List (List GroupKept)) → AreGroups g t x → Fits g t.columns → k < length x.keys → states ≡ x.states → AreFurther t.columns (calls_of g.items) (gathered t (rows_with g.keys t 0 (length t.lines) (slice_index_or x.keys k []))) (kept_rows states k)
+further-given g t x k states is fits lt es =
+    are-further (calls_of g.items) t (rows_with g.keys t 0 (length t.lines) (slice_index_or x.keys k [])) (kept_rows states k) (calls-that-fit g t fits)
+    (ap (λ (ss : List (List GroupKept)). kept_rows ss k) (es ∙ states-by-keys g t x is) ∙ further-rows (calls_of g.items) g.keys t 0 (length t.lines) x.keys k lt)
+
+pub values-many : (g : GroupPlan) (t : Grid) (x : Grouped) (k : List Value) (states : List (List GroupKept)) (vs : List Value) → AreGroups g t x → states ≡ x.states → vs ≡ values_for (calls_of g.items) g.keys t 0 (length t.lines) k → length states ≡ length vs
+values-many g t x k states vs is es ev =
+    let cs = calls_of g.items in
+    ap (λ (ss : List (List GroupKept)). length ss) (es ∙ states-of-groups g t x is)
+    ∙ (length-map cs (λ c. map (state_in c g.keys t 0 (length t.lines)) (keys_in g.keys t 0 (length t.lines)))
+    ∙ sym (ap (λ (ws : List Value). length ws) ev ∙ length-map cs (λ c. value_for c g.keys t 0 (length t.lines) k)))
 
 pub line-is : (g : GroupPlan) (t : Grid) (x : Grouped) (n : ℕ) (key line : List Value) → key ≡ row_at x.keys n → line ≡ key ++ items_values g.items (gathered t (rows_with g.keys t 0 (length t.lines) (slice_index_or x.keys n []))) 0 → line ≡ group_line g t (slice_index_or x.keys n [])
 unfolding group_line

@@ -1,6 +1,6 @@
 -- The groups of a range.
 use Rattle.std.proofs.Common.{◌≡◌, ◌<◌, ◌≤◌, ◌+◌, ◌-◌, ◌++◌, ◌==◌, ℕ, zero, suc, Bool, true, false, not, List, [], ◌∷◌, filter, get_or, length, map, take, refl, ap, ap₂, sym, ◌∙◌, subst, inl, inr, arith}
-use Rattle.std.specs.Prelude.{All, FitsSigned, None, Option, Some, ℤ, slice_index_or}
+use Rattle.std.specs.Prelude.{All, FitsSigned, None, Option, Some, ℤ, option_map, slice_get, slice_index_or}
 use Rattle.std.specs.Int.{w64}
 use Rattle.std.specs.List.{AllByRecursion, list_all, range_with_len}
 use Rattle.std.proofs.lemmas.Bool.{and_parts, cases_Bool}
@@ -34,13 +34,14 @@ use Rattle.kql_fit_laws.proofs.ExpressionLaws.{expressions_keep}
 use Rattle.kql_row_laws.proofs.GatheredLaws.{at-each}
 use Rattle.kql_scalar.specs.Rows.{rows}
 use Rattle.agg_folds.specs.Calls.{call_of, needs}
+use Rattle.agg_folds.specs.Folds.{chosen_row}
 use Rattle.agg_folds.specs.States.{Kept, fold_of}
 use Rattle.agg_folds.specs.declared.call.FoldCall.{FoldCall}
 use Rattle.summarize_op.specs.Calls.{IsCall}
 use Rattle.summarize_op.specs.Grouped.{AreFormed}
 use Rattle.summarize_op.specs.Passes.{folds_of, group_args}
-use Rattle.summarize_pieces.specs.Calls.{calls_of}
-use Rattle.summarize_pieces.specs.Pieces.{Called, CanBeFolded, IsRead, Piece, AreStored, ColumnsStored, args_at, args_of, call_over, called, columns_along, group_keys, groups_in, keys_in, piece_of, rows_with, state_in, values_along}
+use Rattle.summarize_pieces.specs.Calls.{calls_of, further_args}
+use Rattle.summarize_pieces.specs.Pieces.{Called, CanBeFolded, GroupKept, IsRead, Piece, AreStored, ColumnsStored, args_at, args_of, call_over, called, cells_of, columns_along, further_at, group_keys, group_state, group_states, groups_in, keys_in, piece_of, rows_with, state_at, state_in, values_along}
 use Rattle.summarize_pieces.proofs.KeyLists.{turned}
 use Rattle.summarize_pieces.proofs.PlanSteps.{along-long, along-row, call-arguments, calls-fit, items-of, map-shift, take-plain}
 use Rattle.summarize_pieces.proofs.ColumnSteps.{fits_plain}
@@ -128,52 +129,100 @@ all-same t (i ∷ is) =
 
 -- The arguments at the rows of a group.
 
-own-args : (f : Aggregate) (args : List BExpr) (keys : List BItem) (t : Grid) (from to g : ℕ) → g < length (distinct same_keys (map (key_by keys t) (rows from to)))
-    → group_args (columns_along (take (needs f) args) t from to) (numbers_of same_keys (map (key_by keys t) (rows from to))) g ≡ args_at (f, args) t (rows_with keys t from to (get_or (distinct same_keys (map (key_by keys t) (rows from to))) g []))
-unfolding args_at args_of rows_with
-own-args f args keys t from to g lt = numbered (take (needs f) args) t (key_by keys t) from to g lt
+own-args : (es : List BExpr) (keys : List BItem) (t : Grid) (from to g : ℕ) → g < length (distinct same_keys (map (key_by keys t) (rows from to)))
+    → group_args (columns_along es t from to) (numbers_of same_keys (map (key_by keys t) (rows from to))) g ≡ map (λ i. values_in es t i []) (rows_with keys t from to (get_or (distinct same_keys (map (key_by keys t) (rows from to))) g []))
+unfolding rows_with
+own-args es keys t from to g lt = numbered es t (key_by keys t) from to g lt
 
-no-args : (f : Aggregate) (args : List BExpr) (t : Grid) (from to g : ℕ) → rows from to ≡ [] → group_args (columns_along (take (needs f) args) t from to) (numbers_of same_keys (map (key_by [] t) (rows from to))) g ≡ args_at (f, args) t (rows_with [] t from to [])
-unfolding args_at args_of rows_with numbers_of
-no-args f args t from to g none =
-    ap (λ (is : List ℕ). group_args (columns_along (take (needs f) args) t from to) (numbers_of same_keys (map (key_by [] t) is)) g) none
-    ∙ (no-places (columns_along (take (needs f) args) t from to) g
-    ∙ ap (λ (is : List ℕ). map (λ i. values_in (take (needs f) args) t i []) (filter (λ i. same_keys (key_by [] t i) []) is)) (sym none))
+no-args : (es : List BExpr) (t : Grid) (from to g : ℕ) → rows from to ≡ [] → group_args (columns_along es t from to) (numbers_of same_keys (map (key_by [] t) (rows from to))) g ≡ map (λ i. values_in es t i []) (rows_with [] t from to [])
+unfolding rows_with numbers_of
+no-args es t from to g none =
+    ap (λ (is : List ℕ). group_args (columns_along es t from to) (numbers_of same_keys (map (key_by [] t) is)) g) none
+    ∙ (no-places (columns_along es t from to) g
+    ∙ ap (λ (is : List ℕ). map (λ i. values_in es t i []) (filter (λ i. same_keys (key_by [] t i) []) is)) (sym none))
 
-one-args : (f : Aggregate) (args : List BExpr) (t : Grid) (from to : ℕ) (is : List ℕ) → rows from to ≡ is → group_args (columns_along (take (needs f) args) t from to) (numbers_of same_keys (map (key_by [] t) (rows from to))) 0 ≡ args_at (f, args) t (rows_with [] t from to [])
-one-args f args t from to [] e = no-args f args t from to 0 e
-one-args f args t from to (i ∷ is) e =
+one-args : (es : List BExpr) (t : Grid) (from to : ℕ) (is : List ℕ) → rows from to ≡ is → group_args (columns_along es t from to) (numbers_of same_keys (map (key_by [] t) (rows from to))) 0 ≡ map (λ i. values_in es t i []) (rows_with [] t from to [])
+one-args es t from to [] e = no-args es t from to 0 e
+one-args es t from to (i ∷ is) e =
     let once : distinct same_keys (map (key_by [] t) (rows from to)) ≡ [] ∷ [] = ap (λ (js : List ℕ). distinct same_keys (map (key_by [] t) js)) e ∙ no-key-once (key_by [] t) is i (no-keys t) in
     let lt : 0 < length (distinct same_keys (map (key_by [] t) (rows from to))) = subst (λ (ks : List (List Value)). 0 < length ks) (sym once) (omega arith) in
-    own-args f args [] t from to 0 lt ∙ ap (λ (ks : List (List Value)). args_at (f, args) t (rows_with [] t from to (get_or ks 0 []))) once
+    own-args es [] t from to 0 lt ∙ ap (λ (ks : List (List Value)). map (λ i. values_in es t i []) (rows_with [] t from to (get_or ks 0 []))) once
+
+pub values-of-group : (es : List BExpr) (keys : List BItem) (t : Grid) (from to g : ℕ) → g < length (keys_in keys t from to)
+    → group_args (columns_along es t from to) (numbers_of same_keys (map (key_by keys t) (rows from to))) g ≡ map (λ i. values_in es t i []) (rows_with keys t from to (slice_index_or (keys_in keys t from to) g []))
+unfolding keys_in
+values-of-group es (key ∷ keys) t from to g lt = own-args es (key ∷ keys) t from to g lt
+values-of-group es [] t from to zero lt = one-args es t from to (rows from to) refl
+values-of-group es [] t from to (suc g) lt = absurd (omega (arith, lt))
 
 pub args-of-group : (f : Aggregate) (args : List BExpr) (keys : List BItem) (t : Grid) (from to g : ℕ) → g < length (keys_in keys t from to)
     → group_args (columns_along (take (needs f) args) t from to) (numbers_of same_keys (map (key_by keys t) (rows from to))) g ≡ args_at (f, args) t (rows_with keys t from to (slice_index_or (keys_in keys t from to) g []))
-unfolding keys_in
-args-of-group f args (key ∷ keys) t from to g lt = own-args f args (key ∷ keys) t from to g lt
-args-of-group f args [] t from to zero lt = one-args f args t from to (rows from to) refl
-args-of-group f args [] t from to (suc g) lt = absurd (omega (arith, lt))
+unfolding args_at args_of
+args-of-group f args keys t from to g lt = values-of-group (take (needs f) args) keys t from to g lt
+
+-- The further columns at a row of a group.
+
+get-map : {X Y : Type 0} (f : X → Y) (xs : List X) (n : ℕ) → slice_get (map f xs) n ≡ option_map f (slice_get xs n)
+get-map f [] n = refl
+get-map f (x ∷ xs) zero = refl
+get-map f (x ∷ xs) (suc n) = get-map f xs n
+
+abbrev row_or_none : Option (List Value) → List Value
+row_or_none None = []
+row_or_none (Some vs) = vs
+
+by-place : (columns : List (List Value)) (o : Option ℕ) → cells_of columns o ≡ row_or_none (option_map (row_of columns) o)
+unfolding cells_of
+by-place columns None = refl
+by-place columns (Some i) = refl
+
+by-row : (es : List BExpr) (t : Grid) (o : Option ℕ) → further_at es t o ≡ row_or_none (option_map (λ i. values_in es t i []) o)
+unfolding further_at
+by-row es t None = refl
+by-row es t (Some i) = refl
+
+further-is : (es : List BExpr) (keys : List BItem) (t : Grid) (from to g n : ℕ) → g < length (keys_in keys t from to)
+    → cells_of (columns_along es t from to) (slice_get (places_of (numbers_of same_keys (map (key_by keys t) (rows from to))) g) n) ≡ further_at es t (slice_get (rows_with keys t from to (slice_index_or (keys_in keys t from to) g [])) n)
+unfolding group_args
+further-is es keys t from to g n lt =
+    let places = places_of (numbers_of same_keys (map (key_by keys t) (rows from to))) g in
+    let is = rows_with keys t from to (slice_index_or (keys_in keys t from to) g []) in
+    let f = row_of (columns_along es t from to) in
+    let h = λ (i : ℕ). values_in es t i [] in
+    let same : map f places ≡ map h is = values-of-group es keys t from to g lt in
+    by-place (columns_along es t from to) (slice_get places n)
+    ∙ (ap row_or_none (sym (get-map f places n) ∙ (ap (λ (rs : List (List Value)). slice_get rs n) same ∙ get-map h is n))
+    ∙ sym (by-row es t (slice_get is n)))
 
 -- What is kept of the groups.
 
-one-state : (f : Aggregate) (args : List BExpr) (keys : List BItem) (t : Grid) (from to : ℕ) → folds_of (called t from to (f, args)).call (called t from to (f, args)).columns (numbers_of same_keys (map (key_by keys t) (rows from to))) (length (keys_in keys t from to)) ≡ map (state_in (f, args) keys t from to) (keys_in keys t from to)
-unfolding folds_of called state_in call_over
-one-state f args keys t from to =
+group-is : (f : Aggregate) (args : List BExpr) (keys : List BItem) (t : Grid) (from to g : ℕ) → g < length (keys_in keys t from to) → group_state (called t from to (f, args)) (numbers_of same_keys (map (key_by keys t) (rows from to))) g ≡ state_in (f, args) keys t from to (slice_index_or (keys_in keys t from to) g [])
+unfolding group_state called state_in state_at call_over
+group-is f args keys t from to g lt =
     let call = call_of f args t.columns in
-    at-each [] (λ g. fold_of call (group_args (columns_along (take (needs f) args) t from to) (numbers_of same_keys (map (key_by keys t) (rows from to))) g)) (λ k. fold_of call (args_at (f, args) t (rows_with keys t from to k))) (keys_in keys t from to)
-    (λ g lt. ap (fold_of call) (args-of-group f args keys t from to g lt))
+    let k = slice_index_or (keys_in keys t from to) g [] in
+    let own = args-of-group f args keys t from to g lt in
+    ap₂ (λ (x : Kept) (vs : List Value). record { kept = x; further = vs }) (ap (fold_of call) own)
+    (ap (λ (rs : List (List Value)). cells_of (columns_along (further_args (f, args)) t from to) (slice_get (places_of (numbers_of same_keys (map (key_by keys t) (rows from to))) g) (chosen_row call rs))) own
+    ∙ further-is (further_args (f, args)) keys t from to g (chosen_row call (args_at (f, args) t (rows_with keys t from to k))) lt)
 
-states-are : (cs : List (Aggregate × List BExpr)) (keys : List BItem) (t : Grid) (from to : ℕ) → map (λ (c : Called). folds_of c.call c.columns (numbers_of same_keys (map (key_by keys t) (rows from to))) (length (keys_in keys t from to))) (map (called t from to) cs) ≡ map (λ c. map (state_in c keys t from to) (keys_in keys t from to)) cs
+one-state : (f : Aggregate) (args : List BExpr) (keys : List BItem) (t : Grid) (from to : ℕ) → group_states (called t from to (f, args)) (numbers_of same_keys (map (key_by keys t) (rows from to))) (length (keys_in keys t from to)) ≡ map (state_in (f, args) keys t from to) (keys_in keys t from to)
+unfolding group_states
+one-state f args keys t from to =
+    at-each [] (group_state (called t from to (f, args)) (numbers_of same_keys (map (key_by keys t) (rows from to)))) (state_in (f, args) keys t from to) (keys_in keys t from to)
+    (λ g lt. group-is f args keys t from to g lt)
+
+states-are : (cs : List (Aggregate × List BExpr)) (keys : List BItem) (t : Grid) (from to : ℕ) → map (λ (c : Called). group_states c (numbers_of same_keys (map (key_by keys t) (rows from to))) (length (keys_in keys t from to))) (map (called t from to) cs) ≡ map (λ c. map (state_in c keys t from to) (keys_in keys t from to)) cs
 states-are [] keys t from to = refl
-states-are ((f, args) ∷ cs) keys t from to = ap₂ (λ (x : List Kept) (xs : List (List Kept)). x ∷ xs) (one-state f args keys t from to) (states-are cs keys t from to)
+states-are ((f, args) ∷ cs) keys t from to = ap₂ (λ (x : List GroupKept) (xs : List (List GroupKept)). x ∷ xs) (one-state f args keys t from to) (states-are cs keys t from to)
 
 over-calls : (cs : List (Aggregate × List BExpr)) (t : Grid) (from to : ℕ) → map (λ (c : Called). c.call) (map (called t from to) cs) ≡ map (λ (c : Aggregate × List BExpr). call_over c t.columns) cs
 unfolding called call_over
 over-calls [] t from to = refl
 over-calls ((f, args) ∷ cs) t from to = ap (λ (xs : List FoldCall). call_of f args t.columns ∷ xs) (over-calls cs t from to)
 
-pub piece-groups : (g : GroupPlan) (t : Grid) (from to : ℕ) (p : Piece) (count width : ℕ) (keys : List (List Value)) (numbers : List ℕ) (calls : List FoldCall) (states : List (List Kept)) → p ≡ piece_of g t from to → count ≡ length p.keys → width ≡ p.width → keys ≡ group_keys p.width p.keys → numbers ≡ numbers_of same_keys p.keys
-    → calls ≡ map (λ (c : Called). c.call) p.calls → states ≡ map (λ (c : Called). folds_of c.call c.columns numbers (length keys)) p.calls → record { count = count; width = width; keys = keys; calls = calls; states = states } ≡ groups_in g t from to
+pub piece-groups : (g : GroupPlan) (t : Grid) (from to : ℕ) (p : Piece) (count width : ℕ) (keys : List (List Value)) (numbers : List ℕ) (calls : List FoldCall) (states : List (List GroupKept)) → p ≡ piece_of g t from to → count ≡ length p.keys → width ≡ p.width → keys ≡ group_keys p.width p.keys → numbers ≡ numbers_of same_keys p.keys
+    → calls ≡ map (λ (c : Called). c.call) p.calls → states ≡ map (λ (c : Called). group_states c numbers (length keys)) p.calls → record { count = count; width = width; keys = keys; calls = calls; states = states } ≡ groups_in g t from to
 unfolding groups_in piece_of
 piece-groups g t from to p count width keys numbers calls states is ec ew ek en el es =
     let ks = map (key_by g.keys t) (rows from to) in
@@ -186,8 +235,8 @@ piece-groups g t from to p count width keys numbers calls states is ec ew ek en 
     let over : calls ≡ map (λ (c : Aggregate × List BExpr). call_over c t.columns) (calls_of g.items) = el ∙ (ap (map (λ (c : Called). c.call)) pc ∙ over-calls (calls_of g.items) t from to) in
     let kept : states ≡ map (λ c. map (state_in c g.keys t from to) (keys_in g.keys t from to)) (calls_of g.items) =
     es
-    ∙ (ap (map (λ (c : Called). folds_of c.call c.columns numbers (length keys))) pc
-    ∙ (ap₂ (λ (ns : List ℕ) (js : List (List Value)). map (λ (c : Called). folds_of c.call c.columns ns (length js)) (map (called t from to) (calls_of g.items))) (en ∙ ap (numbers_of same_keys) pk) own
+    ∙ (ap (map (λ (c : Called). group_states c numbers (length keys))) pc
+    ∙ (ap₂ (λ (ns : List ℕ) (js : List (List Value)). map (λ (c : Called). group_states c ns (length js)) (map (called t from to) (calls_of g.items))) (en ∙ ap (numbers_of same_keys) pk) own
     ∙ states-are (calls_of g.items) g.keys t from to)) in
     rw (size, wide, own, over, kept) refl
 
@@ -233,6 +282,7 @@ one-can f args t from to h call order range =
     record {
       long = along-long es t from to;
       form = record { each = All-from_recursion AreWellFormed (columns_along es t from to) (columns-formed es t from to h (take-plain t.columns (needs f) args (call-arguments t.columns f args call).0) order range) };
+      further = along-long (further_args (f, args)) t from to;
     }
 
 all-can : (cs : List (Aggregate × List BExpr)) (t : Grid) (from to : ℕ) → IsTable t → AllByRecursion (λ (c : Aggregate × List BExpr). IsCall t.columns c.0 c.1) cs → from ≤ to → to ≤ length t.lines → AllByRecursion (CanBeFolded (to - from)) (map (called t from to) cs)
@@ -259,25 +309,31 @@ can-at n cs i c h lt is = subst (CanBeFolded n) (sym is) (h i c lt)
 pub can-long : (n : ℕ) (c : Called) (vs : List (List Value)) → CanBeFolded n c → vs ≡ c.columns → HaveLength n vs
 can-long n c vs h is = subst (HaveLength n) (sym is) h.long
 
+pub can-further : (n : ℕ) (c : Called) → CanBeFolded n c → HaveLength n c.further
+can-further n c h = h.further
+
+pub fold-columns : (c : Called) (numbers : List ℕ) (count : ℕ) (vs : List (List Value)) (folds : List Kept) → vs ≡ c.columns → folds ≡ folds_of c.call vs numbers count → folds ≡ folds_of c.call c.columns numbers count
+fold-columns c numbers count vs folds own is = is ∙ ap (λ (us : List (List Value)). folds_of c.call us numbers count) own
+
 pub can-form : (n : ℕ) (c : Called) (vs : List (List Value)) → CanBeFolded n c → vs ≡ c.columns → AreFormed vs
 can-form n c vs h is = subst AreFormed (sym is) h.form
 
-pub folds-more : (cs : List Called) (numbers : List ℕ) (count i : ℕ) (c : Called) (old new : List (List Kept)) (s : List Kept) → i < length cs → c ≡ get_or cs i c → old ≡ map (λ (c : Called). folds_of c.call c.columns numbers count) (take i cs) → s ≡ folds_of c.call c.columns numbers count → new ≡ old ++ s ∷ [] → new ≡ map (λ (c : Called). folds_of c.call c.columns numbers count) (take (i + 1) cs)
+pub folds-more : (cs : List Called) (numbers : List ℕ) (count i : ℕ) (c : Called) (old new : List (List GroupKept)) (s : List GroupKept) → i < length cs → c ≡ get_or cs i c → old ≡ map (λ (c : Called). group_states c numbers count) (take i cs) → s ≡ group_states c numbers count → new ≡ old ++ s ∷ [] → new ≡ map (λ (c : Called). group_states c numbers count) (take (i + 1) cs)
 folds-more cs numbers count i c old new s lt is before value after =
-    rw (take_more cs i c lt, ← is, map-append (λ (c : Called). folds_of c.call c.columns numbers count) (take i cs) (c ∷ []), ← before, ← value) after
+    rw (take_more cs i c lt, ← is, map-append (λ (c : Called). group_states c numbers count) (take i cs) (c ∷ []), ← before, ← value) after
 
-pub calls-next : (cs : List Called) (numbers : List ℕ) (count i : ℕ) (c : Called) (old new : List (List Kept)) (s : List Kept) (vs : List (List Value)) → i < length cs → c ≡ get_or cs i c → vs ≡ c.columns
-    → (old ≡ map (λ (c : Called). folds_of c.call c.columns numbers count) (take i cs)) × All (λ (c : Called). ColumnsStored (length numbers) c.columns) (take i cs)
-    → s ≡ folds_of c.call vs numbers count → ColumnsStored (length numbers) vs → new ≡ old ++ s ∷ []
-    → (new ≡ map (λ (c : Called). folds_of c.call c.columns numbers count) (take (i + 1) cs)) × All (λ (c : Called). ColumnsStored (length numbers) c.columns) (take (i + 1) cs)
+pub calls-next : (cs : List Called) (numbers : List ℕ) (count i : ℕ) (c : Called) (old new : List (List GroupKept)) (s : List GroupKept) (vs : List (List Value)) → i < length cs → c ≡ get_or cs i c → vs ≡ c.columns
+    → (old ≡ map (λ (c : Called). group_states c numbers count) (take i cs)) × All (λ (c : Called). ColumnsStored (length numbers) c.columns) (take i cs)
+    → s ≡ group_states c numbers count → ColumnsStored (length numbers) vs → new ≡ old ++ s ∷ []
+    → (new ≡ map (λ (c : Called). group_states c numbers count) (take (i + 1) cs)) × All (λ (c : Called). ColumnsStored (length numbers) c.columns) (take (i + 1) cs)
 calls-next cs numbers count i c old new s vs lt is own before value one after =
     let P = λ (c : Called). ColumnsStored (length numbers) c.columns in
     let more : take (i + 1) cs ≡ take i cs ++ c ∷ [] = take_more cs i c lt ∙ ap (λ (x : Called). take i cs ++ x ∷ []) (sym is) in (
-      folds-more cs numbers count i c old new s lt is before.0 (value ∙ ap (λ (us : List (List Value)). folds_of c.call us numbers count) own) after,
+      folds-more cs numbers count i c old new s lt is before.0 value after,
       subst (All P) (sym more) (All-append P (take i cs) (c ∷ []) before.1 (All-from_recursion P (c ∷ []) (subst (ColumnsStored (length numbers)) own one, tt))),
     )
 
-pub calls-none : (numbers : List ℕ) (count : ℕ) (cs : List Called) (made : List (List Kept)) → made ≡ [] → (made ≡ map (λ (c : Called). folds_of c.call c.columns numbers count) (take 0 cs)) × All (λ (c : Called). ColumnsStored (length numbers) c.columns) (take 0 cs)
+pub calls-none : (numbers : List ℕ) (count : ℕ) (cs : List Called) (made : List (List GroupKept)) → made ≡ [] → (made ≡ map (λ (c : Called). group_states c numbers count) (take 0 cs)) × All (λ (c : Called). ColumnsStored (length numbers) c.columns) (take 0 cs)
 calls-none numbers count cs made e = (e, λ i d lt. absurd (omega (arith, lt)))
 
 pub ruleset fold_steps = (can-at, can-long, can-form, calls-none)

@@ -18,50 +18,49 @@ use Rattle.kql_bound.specs.declared.expr.BExpr.{BExpr}
 use Rattle.kql_bound.specs.declared.parts.BItem.{BItem}
 use Rattle.kql_meaning.specs.Groups.{key_by}
 use Rattle.kql_scalar.specs.Rows.{rows}
-use Rattle.agg_folds.specs.States.{Kept, with_fold}
 use Rattle.agg_folds.specs.declared.call.FoldCall.{FoldCall}
 use Rattle.agg_folds.proofs.RowLaws.{count-of-fold}
 use Rattle.summarize_pieces.specs.Calls.{calls_of}
-use Rattle.summarize_pieces.specs.Joined.{AllFew, Differ, further_numbers, joined_groups, joined_states, with_group, with_groups}
-use Rattle.summarize_pieces.specs.Pieces.{AreNeighbours, Grouped, args_at, args_of, call_over, groups_in, keys_in, rows_with, state_in}
+use Rattle.summarize_pieces.specs.Joined.{AllFew, Differ, further_numbers, joined_groups, joined_states, with_group, with_groups, with_kept}
+use Rattle.summarize_pieces.specs.Pieces.{AreNeighbours, GroupKept, Grouped, args_at, args_of, call_over, groups_in, keys_in, rows_with, state_at, state_in}
 use Rattle.summarize_pieces.proofs.KeyLists.{Distinct, further-are, or-none}
 use Rattle.summarize_pieces.proofs.NeighbourLaws.{keys-apart}
 
 -- One group more.
 
-group-keeps : (first : ℕ) (ss : List Kept) (n : ℕ) (k : Kept) → length ss ≤ length (with_group first ss n k)
+group-keeps : (first : ℕ) (ss : List GroupKept) (n : ℕ) (k : GroupKept) → length ss ≤ length (with_group first ss n k)
 unfolding with_group
 group-keeps first ss n k = elim (cases_Bool (nat_lt n first)) [
-  | inl t ↦ let size = length-set ss n (with_fold (get_or ss n k) k) in rw t (omega (arith, size))
+  | inl t ↦ let size = length-set ss n (with_kept (get_or ss n k) k) in rw t (omega (arith, size))
   | inr f ↦ let size = length-append ss (k ∷ []) in rw f (omega (arith, size))
 ]
 
-front : (ss : List Kept) (k : Kept) (i : ℕ) (d : Kept) → i < length ss → get_or (ss ++ k ∷ []) i d ≡ get_or ss i d
+front : (ss : List GroupKept) (k : GroupKept) (i : ℕ) (d : GroupKept) → i < length ss → get_or (ss ++ k ∷ []) i d ≡ get_or ss i d
 front [] k i d lt = absurd (omega (arith, lt))
 front (s ∷ ss) k zero d lt = refl
 front (s ∷ ss) k (suc i) d lt = front ss k i d (omega (arith, lt))
 
-group-other : (first : ℕ) (ss : List Kept) (n : ℕ) (k : Kept) (i : ℕ) (d : Kept) → i < length ss → i ≢ n → get_or (with_group first ss n k) i d ≡ get_or ss i d
+group-other : (first : ℕ) (ss : List GroupKept) (n : ℕ) (k : GroupKept) (i : ℕ) (d : GroupKept) → i < length ss → i ≢ n → get_or (with_group first ss n k) i d ≡ get_or ss i d
 unfolding with_group
 group-other first ss n k i d lt other = elim (cases_Bool (nat_lt n first)) [
-  | inl t ↦ rw t (get_or-set_other ss n i (with_fold (get_or ss n k) k) d other)
+  | inl t ↦ rw t (get_or-set_other ss n i (with_kept (get_or ss n k) k) d other)
   | inr f ↦ rw f (front ss k i d lt)
 ]
 
-no-groups : (first : ℕ) (ss : List Kept) (ns : List ℕ) → with_groups first ss ns [] ≡ ss
+no-groups : (first : ℕ) (ss : List GroupKept) (ns : List ℕ) → with_groups first ss ns [] ≡ ss
 unfolding with_groups
 no-groups first ss [] = refl
 no-groups first ss (n ∷ ns) = refl
 
 -- The loop over the groups of one call.
 
-abbrev pub Few : ℕ → Kept → Type 0
-Few n k = k.count ≤ n
+abbrev pub Few : ℕ → GroupKept → Type 0
+Few n k = k.kept.count ≤ n
 
-pub record Joining (first : ℕ) (folds : List Kept) (ns : List ℕ) (more : List Kept) (count further : ℕ) (j : ℕ) (made left : List Kept) : Type 0 where
+pub record Joining (first : ℕ) (folds : List GroupKept) (ns : List ℕ) (more : List GroupKept) (count further : ℕ) (j : ℕ) (made left : List GroupKept) : Type 0 where
   pub rest : with_groups first made (drop j ns) (reverse left) ≡ with_groups first folds ns more
   pub long : first ≤ length made
-  pub few : (i : ℕ) (d : Kept) → i < first → ((m : ℕ) → m < j → i ≢ get_or ns m 0) → (get_or made i d).count ≤ count
+  pub few : (i : ℕ) (d : GroupKept) → i < first → ((m : ℕ) → m < j → i ≢ get_or ns m 0) → (get_or made i d).kept.count ≤ count
   pub others : AllByRecursion (Few further) left
 
 front-all : {X : Type 0} (P : X → Type 0) (xs : List X) (y : X) → AllByRecursion P (xs ++ y ∷ []) → AllByRecursion P xs × P y
@@ -84,133 +83,133 @@ same-default [] j d e lt = absurd (omega (arith, lt))
 same-default (n ∷ ns) zero d e lt = refl
 same-default (n ∷ ns) (suc j) d e lt = same-default ns j d e (omega (arith, lt))
 
-pub joining-start : (first : ℕ) (folds : List Kept) (ns : List ℕ) (more : List Kept) (count further : ℕ) (made left : List Kept) → length folds ≡ first → All (Few count) folds → All (Few further) more → made ≡ folds → left ≡ reverse more → Joining first folds ns more count further 0 made left
+pub joining-start : (first : ℕ) (folds : List GroupKept) (ns : List ℕ) (more : List GroupKept) (count further : ℕ) (made left : List GroupKept) → length folds ≡ first → All (Few count) folds → All (Few further) more → made ≡ folds → left ≡ reverse more → Joining first folds ns more count further 0 made left
 joining-start first folds ns more count further made left size few others em el = record {
-  rest = ap₂ (λ (xs ys : List Kept). with_groups first xs ns ys) em (ap (λ (ks : List Kept). reverse ks) el ∙ reverse-reverse more);
-  long = let same : length made ≡ first = ap (λ (ks : List Kept). length ks) em ∙ size in omega (arith, same);
-  few = λ i d lt apart. subst (λ (ks : List Kept). (get_or ks i d).count ≤ count) (sym em) (few i d (omega (arith, size, lt)));
+  rest = ap₂ (λ (xs ys : List GroupKept). with_groups first xs ns ys) em (ap (λ (ks : List GroupKept). reverse ks) el ∙ reverse-reverse more);
+  long = let same : length made ≡ first = ap (λ (ks : List GroupKept). length ks) em ∙ size in omega (arith, same);
+  few = λ i d lt apart. subst (λ (ks : List GroupKept). (get_or ks i d).kept.count ≤ count) (sym em) (few i d (omega (arith, size, lt)));
   others = subst (AllByRecursion (Few further)) (sym el) (turned-all (Few further) more (recursion_from_All (Few further) more others));
 }
 
-pub joining-room : (first : ℕ) (folds : List Kept) (ns : List ℕ) (more : List Kept) (count further : ℕ) (j g : ℕ) (made old left : List Kept) (fold : Kept) → Joining first folds ns more count further j made old → Differ ns → j < length ns → g ≡ get_or ns j g → old ≡ left ++ fold ∷ [] → count + further < 2 ^ 63 → (k : Kept) → g < first → (get_or made g k).count + fold.count ≤ 2 ^ 63
+pub joining-room : (first : ℕ) (folds : List GroupKept) (ns : List ℕ) (more : List GroupKept) (count further : ℕ) (j g : ℕ) (made old left : List GroupKept) (fold : GroupKept) → Joining first folds ns more count further j made old → Differ ns → j < length ns → g ≡ get_or ns j g → old ≡ left ++ fold ∷ [] → count + further < 2 ^ 63 → (k : GroupKept) → g < first → (get_or made g k).kept.count + fold.kept.count ≤ 2 ^ 63
 joining-room first folds ns more count further j g made old left fold h differ lt is el room k below =
-    let one : fold.count ≤ further = (front-all (Few further) left fold (subst (AllByRecursion (Few further)) el h.others)).1 in
-    let own : (get_or made g k).count ≤ count = h.few g k below (λ m before e. differ.apart m j 0 before lt (sym e ∙ (is ∙ same-default ns j g 0 lt))) in
+    let one : fold.kept.count ≤ further = (front-all (Few further) left fold (subst (AllByRecursion (Few further)) el h.others)).1 in
+    let own : (get_or made g k).kept.count ≤ count = h.few g k below (λ m before e. differ.apart m j 0 before lt (sym e ∙ (is ∙ same-default ns j g 0 lt))) in
     omega (arith, one, own, room)
 
-pub joining-next : (first : ℕ) (folds : List Kept) (ns : List ℕ) (more : List Kept) (count further : ℕ) (j g : ℕ) (made old new left : List Kept) (fold : Kept) → Joining first folds ns more count further j made old → j < length ns → g ≡ get_or ns j g → old ≡ left ++ fold ∷ [] → new ≡ with_group first made g fold → Joining first folds ns more count further (j + 1) new left
+pub joining-next : (first : ℕ) (folds : List GroupKept) (ns : List ℕ) (more : List GroupKept) (count further : ℕ) (j g : ℕ) (made old new left : List GroupKept) (fold : GroupKept) → Joining first folds ns more count further j made old → j < length ns → g ≡ get_or ns j g → old ≡ left ++ fold ∷ [] → new ≡ with_group first made g fold → Joining first folds ns more count further (j + 1) new left
 unfolding with_groups
 joining-next first folds ns more count further j g made old new left fold h lt is el en =
     let both = front-all (Few further) left fold (subst (AllByRecursion (Few further)) el h.others) in
-    let turned : reverse old ≡ fold ∷ reverse left = ap (λ (ks : List Kept). reverse ks) el ∙ reverse-last left fold in
+    let turned : reverse old ≡ fold ∷ reverse left = ap (λ (ks : List GroupKept). reverse ks) el ∙ reverse-last left fold in
     let next : drop j ns ≡ g ∷ drop (j + 1) ns = drop_more ns j g lt ∙ ap (λ n. n ∷ drop (j + 1) ns) (sym is) in
     record {
-      rest = ap (λ (ks : List Kept). with_groups first ks (drop (j + 1) ns) (reverse left)) en ∙ (sym (ap₂ (λ (is : List ℕ) (ks : List Kept). with_groups first made is ks) next turned) ∙ h.rest);
-      long = let keeps = group-keeps first made g fold in let same : length new ≡ length (with_group first made g fold) = ap (λ (ks : List Kept). length ks) en in let long = h.long in omega (arith, keeps, same, long);
+      rest = ap (λ (ks : List GroupKept). with_groups first ks (drop (j + 1) ns) (reverse left)) en ∙ (sym (ap₂ (λ (is : List ℕ) (ks : List GroupKept). with_groups first made is ks) next turned) ∙ h.rest);
+      long = let keeps = group-keeps first made g fold in let same : length new ≡ length (with_group first made g fold) = ap (λ (ks : List GroupKept). length ks) en in let long = h.long in omega (arith, keeps, same, long);
       few = λ i d below apart.
           let other : i ≢ g = λ e. apart j (omega arith) (e ∙ (is ∙ same-default ns j g 0 lt)) in
           let inside : i < length made = let long = h.long in omega (arith, below, long) in
-          subst (λ (k : Kept). k.count ≤ count) (sym (ap (λ (ks : List Kept). get_or ks i d) en ∙ group-other first made g fold i d inside other)) (h.few i d below (λ m before. apart m (omega (arith, before))));
+          subst (λ (k : GroupKept). k.kept.count ≤ count) (sym (ap (λ (ks : List GroupKept). get_or ks i d) en ∙ group-other first made g fold i d inside other)) (h.few i d below (λ m before. apart m (omega (arith, before))));
       others = both.0;
     }
 
-pub joining-none : (first : ℕ) (folds : List Kept) (ns : List ℕ) (more : List Kept) (count further : ℕ) (j : ℕ) (made old left : List Kept) → Joining first folds ns more count further j made old → old ≡ [] → left ≡ [] → Joining first folds ns more count further (j + 1) made left
+pub joining-none : (first : ℕ) (folds : List GroupKept) (ns : List ℕ) (more : List GroupKept) (count further : ℕ) (j : ℕ) (made old left : List GroupKept) → Joining first folds ns more count further j made old → old ≡ [] → left ≡ [] → Joining first folds ns more count further (j + 1) made left
 joining-none first folds ns more count further j made old left h eo el = record {
-  rest = ap (λ (ks : List Kept). with_groups first made (drop (j + 1) ns) (reverse ks)) el ∙ (no-groups first made (drop (j + 1) ns) ∙ (sym (ap (λ (ks : List Kept). with_groups first made (drop j ns) (reverse ks)) eo ∙ no-groups first made (drop j ns)) ∙ h.rest));
+  rest = ap (λ (ks : List GroupKept). with_groups first made (drop (j + 1) ns) (reverse ks)) el ∙ (no-groups first made (drop (j + 1) ns) ∙ (sym (ap (λ (ks : List GroupKept). with_groups first made (drop j ns) (reverse ks)) eo ∙ no-groups first made (drop j ns)) ∙ h.rest));
   long = h.long;
   few = λ i d below apart. h.few i d below (λ m before. apart m (omega (arith, before)));
   others = subst (AllByRecursion (Few further)) (sym el) tt;
 }
 
-pub joining-end : (first : ℕ) (folds : List Kept) (ns : List ℕ) (more : List Kept) (count further : ℕ) (j : ℕ) (made left : List Kept) → Joining first folds ns more count further j made left → length ns ≤ j → made ≡ with_groups first folds ns more
+pub joining-end : (first : ℕ) (folds : List GroupKept) (ns : List ℕ) (more : List GroupKept) (count further : ℕ) (j : ℕ) (made left : List GroupKept) → Joining first folds ns more count further j made left → length ns ≤ j → made ≡ with_groups first folds ns more
 unfolding with_groups
 joining-end first folds ns more count further j made left h le =
     ap (λ (is : List ℕ). with_groups first made is (reverse left)) (sym (drop_all j ns le)) ∙ h.rest
 
 -- The loop over the calls.
 
-abbrev pub FewEach : ℕ → ℕ → List Kept → Type 0
+abbrev pub FewEach : ℕ → ℕ → List GroupKept → Type 0
 FewEach groups count s = (length s ≡ groups) × All (Few count) s
 
-none-joined : (first : ℕ) (xs : List (List Kept)) (ns : List ℕ) → joined_states first xs ns [] ≡ []
+none-joined : (first : ℕ) (xs : List (List GroupKept)) (ns : List ℕ) → joined_states first xs ns [] ≡ []
 unfolding joined_states
 none-joined first [] ns = refl
 none-joined first (x ∷ xs) ns = refl
 
-pub record JoiningCalls (first : ℕ) (folds : List (List Kept)) (ns : List ℕ) (more : List (List Kept)) (count further : ℕ) (made left right : List (List Kept)) : Type 0 where
+pub record JoiningCalls (first : ℕ) (folds : List (List GroupKept)) (ns : List ℕ) (more : List (List GroupKept)) (count further : ℕ) (made left right : List (List GroupKept)) : Type 0 where
   pub rest : made ++ joined_states first (reverse left) ns (reverse right) ≡ joined_states first folds ns more
   pub few : AllByRecursion (FewEach first count) left
   pub others : AllByRecursion (FewEach (length ns) further) right
 
-pub calls-start : (first : ℕ) (folds : List (List Kept)) (ns : List ℕ) (more : List (List Kept)) (count further : ℕ) (made left right : List (List Kept)) → AllFew first count folds → AllFew (length ns) further more → made ≡ [] → left ≡ reverse folds → right ≡ reverse more → JoiningCalls first folds ns more count further made left right
+pub calls-start : (first : ℕ) (folds : List (List GroupKept)) (ns : List ℕ) (more : List (List GroupKept)) (count further : ℕ) (made left right : List (List GroupKept)) → AllFew first count folds → AllFew (length ns) further more → made ≡ [] → left ≡ reverse folds → right ≡ reverse more → JoiningCalls first folds ns more count further made left right
 calls-start first folds ns more count further made left right few others em el er = record {
-  rest = ap (λ (xs : List (List Kept)). xs ++ joined_states first (reverse left) ns (reverse right)) em ∙ ap₂ (λ (xs ys : List (List Kept)). joined_states first xs ns ys) (ap (λ (ks : List (List Kept)). reverse ks) el ∙ reverse-reverse folds) (ap (λ (ks : List (List Kept)). reverse ks) er ∙ reverse-reverse more);
+  rest = ap (λ (xs : List (List GroupKept)). xs ++ joined_states first (reverse left) ns (reverse right)) em ∙ ap₂ (λ (xs ys : List (List GroupKept)). joined_states first xs ns ys) (ap (λ (ks : List (List GroupKept)). reverse ks) el ∙ reverse-reverse folds) (ap (λ (ks : List (List GroupKept)). reverse ks) er ∙ reverse-reverse more);
   few = subst (AllByRecursion (FewEach first count)) (sym el) (turned-all (FewEach first count) folds (recursion_from_All (FewEach first count) folds few.each));
   others = subst (AllByRecursion (FewEach (length ns) further)) (sym er) (turned-all (FewEach (length ns) further) more (recursion_from_All (FewEach (length ns) further) more others.each));
 }
 
-pub calls-next : (first : ℕ) (folds : List (List Kept)) (ns : List ℕ) (more : List (List Kept)) (count further : ℕ) (made left right new before behind : List (List Kept)) (a b s : List Kept) → JoiningCalls first folds ns more count further made left right → left ≡ before ++ a ∷ [] → right ≡ behind ++ b ∷ [] → s ≡ with_groups first a ns b → new ≡ made ++ s ∷ [] → JoiningCalls first folds ns more count further new before behind
+pub calls-next : (first : ℕ) (folds : List (List GroupKept)) (ns : List ℕ) (more : List (List GroupKept)) (count further : ℕ) (made left right new before behind : List (List GroupKept)) (a b s : List GroupKept) → JoiningCalls first folds ns more count further made left right → left ≡ before ++ a ∷ [] → right ≡ behind ++ b ∷ [] → s ≡ with_groups first a ns b → new ≡ made ++ s ∷ [] → JoiningCalls first folds ns more count further new before behind
 unfolding joined_states
 calls-next first folds ns more count further made left right new before behind a b s h el er es en =
     let l = front-all (FewEach first count) before a (subst (AllByRecursion (FewEach first count)) el h.few) in
     let r = front-all (FewEach (length ns) further) behind b (subst (AllByRecursion (FewEach (length ns) further)) er h.others) in
-    let tl : reverse left ≡ a ∷ reverse before = ap (λ (ks : List (List Kept)). reverse ks) el ∙ reverse-last before a in
-    let tr : reverse right ≡ b ∷ reverse behind = ap (λ (ks : List (List Kept)). reverse ks) er ∙ reverse-last behind b in
+    let tl : reverse left ≡ a ∷ reverse before = ap (λ (ks : List (List GroupKept)). reverse ks) el ∙ reverse-last before a in
+    let tr : reverse right ≡ b ∷ reverse behind = ap (λ (ks : List (List GroupKept)). reverse ks) er ∙ reverse-last behind b in
     let tail = joined_states first (reverse before) ns (reverse behind) in
     record {
-      rest = ap (λ (ks : List (List Kept)). ks ++ tail) (en ∙ ap (λ (x : List Kept). made ++ x ∷ []) es) ∙ (append_assoc made (with_groups first a ns b ∷ []) tail ∙ (sym (ap₂ (λ (xs ys : List (List Kept)). made ++ joined_states first xs ns ys) tl tr) ∙ h.rest));
+      rest = ap (λ (ks : List (List GroupKept)). ks ++ tail) (en ∙ ap (λ (x : List GroupKept). made ++ x ∷ []) es) ∙ (append_assoc made (with_groups first a ns b ∷ []) tail ∙ (sym (ap₂ (λ (xs ys : List (List GroupKept)). made ++ joined_states first xs ns ys) tl tr) ∙ h.rest));
       few = l.0;
       others = r.0;
     }
 
-pub calls-few : (first : ℕ) (folds : List (List Kept)) (ns : List ℕ) (more : List (List Kept)) (count further : ℕ) (made left right before : List (List Kept)) (a : List Kept) → JoiningCalls first folds ns more count further made left right → left ≡ before ++ a ∷ [] → FewEach first count a
+pub calls-few : (first : ℕ) (folds : List (List GroupKept)) (ns : List ℕ) (more : List (List GroupKept)) (count further : ℕ) (made left right before : List (List GroupKept)) (a : List GroupKept) → JoiningCalls first folds ns more count further made left right → left ≡ before ++ a ∷ [] → FewEach first count a
 calls-few first folds ns more count further made left right before a h el = (front-all (FewEach first count) before a (subst (AllByRecursion (FewEach first count)) el h.few)).1
 
-pub calls-others : (first : ℕ) (folds : List (List Kept)) (ns : List ℕ) (more : List (List Kept)) (count further : ℕ) (made left right behind : List (List Kept)) (b : List Kept) → JoiningCalls first folds ns more count further made left right → right ≡ behind ++ b ∷ [] → FewEach (length ns) further b
+pub calls-others : (first : ℕ) (folds : List (List GroupKept)) (ns : List ℕ) (more : List (List GroupKept)) (count further : ℕ) (made left right behind : List (List GroupKept)) (b : List GroupKept) → JoiningCalls first folds ns more count further made left right → right ≡ behind ++ b ∷ [] → FewEach (length ns) further b
 calls-others first folds ns more count further made left right behind b h er = (front-all (FewEach (length ns) further) behind b (subst (AllByRecursion (FewEach (length ns) further)) er h.others)).1
 
-pub calls-none : (first : ℕ) (folds : List (List Kept)) (ns : List ℕ) (more : List (List Kept)) (count further : ℕ) (made left right before behind : List (List Kept)) (a : List Kept) → JoiningCalls first folds ns more count further made left right → left ≡ before ++ a ∷ [] → right ≡ [] → behind ≡ [] → JoiningCalls first folds ns more count further made before behind
+pub calls-none : (first : ℕ) (folds : List (List GroupKept)) (ns : List ℕ) (more : List (List GroupKept)) (count further : ℕ) (made left right before behind : List (List GroupKept)) (a : List GroupKept) → JoiningCalls first folds ns more count further made left right → left ≡ before ++ a ∷ [] → right ≡ [] → behind ≡ [] → JoiningCalls first folds ns more count further made before behind
 calls-none first folds ns more count further made left right before behind a h el er eb =
     let l = front-all (FewEach first count) before a (subst (AllByRecursion (FewEach first count)) el h.few) in
     record {
-      rest = ap (λ (ys : List (List Kept)). made ++ joined_states first (reverse before) ns (reverse ys)) eb ∙ (ap (λ (xs : List (List Kept)). made ++ xs) (none-joined first (reverse before) ns ∙ sym (none-joined first (reverse left) ns)) ∙ (sym (ap (λ (ys : List (List Kept)). made ++ joined_states first (reverse left) ns (reverse ys)) er) ∙ h.rest));
+      rest = ap (λ (ys : List (List GroupKept)). made ++ joined_states first (reverse before) ns (reverse ys)) eb ∙ (ap (λ (xs : List (List GroupKept)). made ++ xs) (none-joined first (reverse before) ns ∙ sym (none-joined first (reverse left) ns)) ∙ (sym (ap (λ (ys : List (List GroupKept)). made ++ joined_states first (reverse left) ns (reverse ys)) er) ∙ h.rest));
       few = l.0;
       others = subst (AllByRecursion (FewEach (length ns) further)) (sym eb) tt;
     }
 
 -- One turn, where the other list may be at its end.
 
-abbrev pub Taken : List (List Kept) → List (List Kept) → Option (List Kept) → Type 0
-Taken right behind o = MatchOption o ((right ≡ []) × (behind ≡ [])) (λ (b : List Kept). right ≡ behind ++ b ∷ [])
+abbrev pub Taken : List (List GroupKept) → List (List GroupKept) → Option (List GroupKept) → Type 0
+Taken right behind o = MatchOption o ((right ≡ []) × (behind ≡ [])) (λ (b : List GroupKept). right ≡ behind ++ b ∷ [])
 
-pub calls-more : (first : ℕ) (folds : List (List Kept)) (ns : List ℕ) (more : List (List Kept)) (count further : ℕ) (made left right behind : List (List Kept)) (o : Option (List Kept)) → JoiningCalls first folds ns more count further made left right → Taken right behind o → IfSome o (All (Few further))
+pub calls-more : (first : ℕ) (folds : List (List GroupKept)) (ns : List ℕ) (more : List (List GroupKept)) (count further : ℕ) (made left right behind : List (List GroupKept)) (o : Option (List GroupKept)) → JoiningCalls first folds ns more count further made left right → Taken right behind o → IfSome o (All (Few further))
 calls-more first folds ns more count further made left right behind None h t = tt
 calls-more first folds ns more count further made left right behind (Some b) h t = (calls-others first folds ns more count further made left right behind b h t).1
 
-pub calls-turn : (first : ℕ) (folds : List (List Kept)) (ns : List ℕ) (more : List (List Kept)) (count further : ℕ) (made left right new before behind : List (List Kept)) (a : List Kept) (o : Option (List Kept)) → JoiningCalls first folds ns more count further made left right → left ≡ before ++ a ∷ [] → Taken right behind o → (o ≡ None → new ≡ made) → ((b : List Kept) → o ≡ Some b → new ≡ made ++ with_groups first a ns b ∷ []) → JoiningCalls first folds ns more count further new before behind
+pub calls-turn : (first : ℕ) (folds : List (List GroupKept)) (ns : List ℕ) (more : List (List GroupKept)) (count further : ℕ) (made left right new before behind : List (List GroupKept)) (a : List GroupKept) (o : Option (List GroupKept)) → JoiningCalls first folds ns more count further made left right → left ≡ before ++ a ∷ [] → Taken right behind o → (o ≡ None → new ≡ made) → ((b : List GroupKept) → o ≡ Some b → new ≡ made ++ with_groups first a ns b ∷ []) → JoiningCalls first folds ns more count further new before behind
 calls-turn first folds ns more count further made left right new before behind a None h el t none some =
-    subst (λ (xs : List (List Kept)). JoiningCalls first folds ns more count further xs before behind) (sym (none refl)) (calls-none first folds ns more count further made left right before behind a h el t.0 t.1)
+    subst (λ (xs : List (List GroupKept)). JoiningCalls first folds ns more count further xs before behind) (sym (none refl)) (calls-none first folds ns more count further made left right before behind a h el t.0 t.1)
 calls-turn first folds ns more count further made left right new before behind a (Some b) h el t none some =
     calls-next first folds ns more count further made left right new before behind a b (with_groups first a ns b) h el t refl (some b refl)
 
-pub some-more : (o : Option (List Kept)) (b : List Kept) (further : ℕ) → IfSome o (All (Few further)) → o ≡ Some b → All (Few further) b
+pub some-more : (o : Option (List GroupKept)) (b : List GroupKept) (further : ℕ) → IfSome o (All (Few further)) → o ≡ Some b → All (Few further) b
 some-more None b further h e = absurd cc
 some-more (Some c) b further h e = let same : c ≡ b = cc in subst (All (Few further)) same h
 
-pub same-some : (o : Option (List Kept)) (b c : List Kept) → o ≡ Some b → o ≡ Some c → b ≡ c
+pub same-some : (o : Option (List GroupKept)) (b c : List GroupKept) → o ≡ Some b → o ≡ Some c → b ≡ c
 same-some None b c e f = cc
 same-some (Some d) b c e f = cc
 
-pub not-some : (o : Option (List Kept)) (b : List Kept) → o ≡ Some b → o ≡ None → ⊥
+pub not-some : (o : Option (List GroupKept)) (b : List GroupKept) → o ≡ Some b → o ≡ None → ⊥
 not-some None b e f = cc
 not-some (Some d) b e f = cc
 
 pub ruleset one_steps = (some-more, same-some, not-some)
 
-pub calls-end : (first : ℕ) (folds : List (List Kept)) (ns : List ℕ) (more : List (List Kept)) (count further : ℕ) (made left right : List (List Kept)) → JoiningCalls first folds ns more count further made left right → left ≡ [] → made ≡ joined_states first folds ns more
+pub calls-end : (first : ℕ) (folds : List (List GroupKept)) (ns : List ℕ) (more : List (List GroupKept)) (count further : ℕ) (made left right : List (List GroupKept)) → JoiningCalls first folds ns more count further made left right → left ≡ [] → made ≡ joined_states first folds ns more
 unfolding joined_states
 calls-end first folds ns more count further made left right h el =
-    sym (ap (λ (xs : List (List Kept)). made ++ joined_states first (reverse xs) ns (reverse right)) el ∙ append-nil made) ∙ h.rest
+    sym (ap (λ (xs : List (List GroupKept)). made ++ joined_states first (reverse xs) ns (reverse right)) el ∙ append-nil made) ∙ h.rest
 
 -- The keys of neighbours.
 
@@ -348,8 +347,8 @@ few-with keys t from to k =
     let size = length-range_with_len from (to - from) in
     omega (arith, few, size)
 
-state-few : (c : Aggregate × List BExpr) (keys : List BItem) (t : Grid) (from to : ℕ) (k : List Value) → (state_in c keys t from to k).count ≤ to - from
-unfolding state_in args_at
+state-few : (c : Aggregate × List BExpr) (keys : List BItem) (t : Grid) (from to : ℕ) (k : List Value) → (state_in c keys t from to k).kept.count ≤ to - from
+unfolding state_in state_at args_at
 state-few c keys t from to k =
     let is = rows_with keys t from to k in
     let most = count-of-fold (call_over c t.columns) (map (args_of c t) is) in
@@ -366,7 +365,7 @@ calls-are-few [] keys t from to ks = tt
 calls-are-few (c ∷ cs) keys t from to ks =
     ((length-map ks (state_in c keys t from to), All-from_recursion (Few (to - from)) (map (state_in c keys t from to) ks) (states-few c keys t from to ks)), calls-are-few cs keys t from to ks)
 
-groups-few : (x : Grouped) (groups count : ℕ) (states : List (List Kept)) (cs : List (Aggregate × List BExpr)) (keys : List BItem) (t : Grid) (from to : ℕ) → groups ≡ length (keys_in keys t from to) → count ≡ to - from → states ≡ map (λ c. map (state_in c keys t from to) (keys_in keys t from to)) cs → AllFew groups count states
+groups-few : (x : Grouped) (groups count : ℕ) (states : List (List GroupKept)) (cs : List (Aggregate × List BExpr)) (keys : List BItem) (t : Grid) (from to : ℕ) → groups ≡ length (keys_in keys t from to) → count ≡ to - from → states ≡ map (λ c. map (state_in c keys t from to) (keys_in keys t from to)) cs → AllFew groups count states
 groups-few x groups count states cs keys t from to eg ec es = record {
   each = subst (All (FewEach groups count)) (sym es)
       (All-from_recursion (FewEach groups count) (map (λ c. map (state_in c keys t from to) (keys_in keys t from to)) cs)
@@ -389,7 +388,7 @@ right-few a b ns n is =
     (size ∙ ap (λ (g : Grouped). length g.keys) n.right.groups) (ap (λ (g : Grouped). g.count) n.right.groups) (ap (λ (g : Grouped). g.states) n.right.groups)
 
 -- Both together.
-pub both-groups : (a b : Grouped) (first count width : ℕ) (whole keys : List (List Value)) (ns : List ℕ) (calls : List FoldCall) (states : List (List Kept)) → first ≡ length a.keys → whole ≡ a.keys ++ b.keys → keys ≡ distinct same_keys whole → ns ≡ further_numbers a.keys b.keys → states ≡ joined_states first a.states ns b.states → count ≡ a.count + b.count → width ≡ a.width → calls ≡ a.calls → record { count = count; width = width; keys = keys; calls = calls; states = states } ≡ joined_groups a b
+pub both-groups : (a b : Grouped) (first count width : ℕ) (whole keys : List (List Value)) (ns : List ℕ) (calls : List FoldCall) (states : List (List GroupKept)) → first ≡ length a.keys → whole ≡ a.keys ++ b.keys → keys ≡ distinct same_keys whole → ns ≡ further_numbers a.keys b.keys → states ≡ joined_states first a.states ns b.states → count ≡ a.count + b.count → width ≡ a.width → calls ≡ a.calls → record { count = count; width = width; keys = keys; calls = calls; states = states } ≡ joined_groups a b
 unfolding joined_groups
 both-groups a b first count width whole keys ns calls states ef ew ek en es ec ewi el =
     let ks : keys ≡ distinct same_keys (a.keys ++ b.keys) = ek ∙ ap (distinct same_keys) ew in

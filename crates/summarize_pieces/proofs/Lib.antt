@@ -1,5 +1,6 @@
 mod CallLaws
 mod CallSteps
+mod ChosenLaws
 mod ColumnSteps
 mod FinishSteps
 mod FirstSteps
@@ -8,6 +9,7 @@ mod GroupSteps
 mod ItemSteps
 mod JoinLaws
 mod JoinSteps
+mod KeptSteps
 mod KeyLists
 mod KeySteps
 mod NeighbourLaws

@@ -35,13 +35,11 @@ use Rattle.kql_scalar.specs.Rows.{rows}
 use Rattle.agg_folds.specs.Calls.{call_of, needs}
 use Rattle.agg_folds.specs.Laws.{IsLike}
 use Rattle.agg_folds.specs.Pieces.{IsRowOf, kind_or_long}
-use Rattle.agg_folds.specs.States.{Kept, fold_of, with_fold}
-use Rattle.agg_folds.specs.declared.call.FoldCall.{FoldCall}
-use Rattle.agg_folds.proofs.PieceLaws.{fold-joins}
 use Rattle.summarize_op.specs.Calls.{IsCall}
 use Rattle.summarize_pieces.specs.Calls.{calls_of}
-use Rattle.summarize_pieces.specs.Joined.{further_numbers, joined_groups, joined_states, with_groups}
-use Rattle.summarize_pieces.specs.Pieces.{AreGroupsOf, AreNeighbours, AreStored, Grouped, args_at, args_of, call_over, groups_in, keys_in, rows_with, state_in}
+use Rattle.summarize_pieces.specs.Joined.{further_numbers, joined_groups, joined_states, with_groups, with_kept}
+use Rattle.summarize_pieces.specs.Pieces.{AreGroupsOf, AreNeighbours, AreStored, GroupKept, Grouped, args_at, args_of, call_over, groups_in, keys_in, rows_with, state_at, state_in}
+use Rattle.summarize_pieces.proofs.ChosenLaws.{states-join}
 use Rattle.summarize_pieces.proofs.ColumnSteps.{fits_plain}
 use Rattle.summarize_pieces.proofs.JoinLaws.{states-joined}
 use Rattle.summarize_pieces.proofs.KeyLists.{Distinct, distinct-distinct, distinct-twice, or-none, turned}
@@ -107,12 +105,6 @@ unfolding rows_with
 with-both keys t from middle to k low high =
     let p = λ (i : ℕ). same_keys (key_by keys t i) k in
     ap (filter p) (sym (rows-both from middle to low high)) ∙ filter-append p (rows from middle) (rows middle to)
-
--- What is kept of both.
-
-args-both : (c : Aggregate × List BExpr) (t : Grid) (is js : List ℕ) → args_at c t (is ++ js) ≡ args_at c t is ++ args_at c t js
-unfolding args_at
-args-both c t is js = map-append (args_of c t) is js
 
 -- Each place of a filtered range is in it.
 kept-inside : (p : ℕ → Bool) (a n m : ℕ) (b : ℕ) → b ≤ a → a + n ≤ m → AllByRecursion (λ i. (b ≤ i) × (i < m)) (filter p (range_with_len a n))
@@ -181,30 +173,24 @@ module _ (f : Aggregate) (args : List BExpr) (keys : List BItem) (t : Grid) (fro
   abbrev c : Aggregate × List BExpr
   c = (f, args)
 
-  abbrev whole : FoldCall
-  whole = call_over c t.columns
-
-  args-split : (k : List Value) → args_at c t (rows_with keys t from to k) ≡ args_at c t (rows_with keys t from middle k) ++ args_at c t (rows_with keys t middle to k)
-  args-split k = ap (args_at c t) (with-both keys t from middle to k low high) ∙ args-both c t (rows_with keys t from middle k) (rows_with keys t middle to k)
-
-  both : (k : List Value) → with_fold (state_in c keys t from middle k) (state_in c keys t middle to k) ≡ state_in c keys t from to k
+  both : (k : List Value) → with_kept (state_in c keys t from middle k) (state_in c keys t middle to k) ≡ state_in c keys t from to k
   unfolding state_in
   both k =
       let first = all-rows f args keys t from middle k h call low (omega (arith, high, range)) left in
       let second = all-rows f args keys t middle to k h call high range right in
-      sym (ap (fold_of whole) (args-split k) ∙ fold-joins whole (args_at c t (rows_with keys t from middle k)) (args_at c t (rows_with keys t middle to k)) first second)
+      sym (ap (state_at c t) (with-both keys t from middle to k low high) ∙ states-join f args t (rows_with keys t from middle k) (rows_with keys t middle to k) first second)
 
   no-more : (k : List Value) → list_any (same_keys k) (keys_in keys t middle to) ≡ false → state_in c keys t from middle k ≡ state_in c keys t from to k
   unfolding state_in
   no-more k e =
       let none = rows-none keys t middle to k e in
-      ap (λ (is : List ℕ). fold_of whole (args_at c t is)) (sym (with-both keys t from middle to k low high ∙ (ap (λ (is : List ℕ). rows_with keys t from middle k ++ is) none ∙ append-nil (rows_with keys t from middle k))))
+      ap (state_at c t) (sym (with-both keys t from middle to k low high ∙ (ap (λ (is : List ℕ). rows_with keys t from middle k ++ is) none ∙ append-nil (rows_with keys t from middle k))))
 
   none-yet : (k : List Value) → list_any (same_keys k) (keys_in keys t from middle) ≡ false → state_in c keys t middle to k ≡ state_in c keys t from to k
   unfolding state_in
   none-yet k e =
       let none = rows-none keys t from middle k e in
-      ap (λ (is : List ℕ). fold_of whole (args_at c t is)) (sym (with-both keys t from middle to k low high ∙ ap (λ (is : List ℕ). is ++ rows_with keys t middle to k) none))
+      ap (state_at c t) (sym (with-both keys t from middle to k low high ∙ ap (λ (is : List ℕ). is ++ rows_with keys t middle to k) none))
 
   one-joined : with_groups (length (keys_in keys t from middle)) (map (state_in c keys t from middle) (keys_in keys t from middle)) (further_numbers (keys_in keys t from middle) (keys_in keys t middle to)) (map (state_in c keys t middle to) (keys_in keys t middle to)) ≡ map (state_in c keys t from to) (keys_in keys t from to)
   one-joined =
@@ -216,7 +202,7 @@ all-joined : (cs : List (Aggregate × List BExpr)) (keys : List BItem) (t : Grid
 unfolding joined_states
 all-joined [] keys t from middle to h calls low high range left right = refl
 all-joined ((f, args) ∷ cs) keys t from middle to h calls low high range left right =
-    ap₂ (λ (x : List Kept) (xs : List (List Kept)). x ∷ xs)
+    ap₂ (λ (x : List GroupKept) (xs : List (List GroupKept)). x ∷ xs)
     (one-joined f args keys t from middle to h calls.0 low high range left.0 right.0)
     (all-joined cs keys t from middle to h calls.1 low high range left.1 right.1)
 

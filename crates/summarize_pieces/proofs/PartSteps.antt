@@ -1,5 +1,5 @@
 -- The parts of an expression over groups, which fit where it does.
-use Rattle.std.proofs.Common.{◌≡◌, ◌<◌, ℕ, zero, suc, Bool, true, false, List, [], ◌∷◌, get_or, length, refl, sym, ap, ◌∙◌, subst, arith}
+use Rattle.std.proofs.Common.{◌≡◌, ◌<◌, ℕ, zero, suc, Bool, true, false, List, [], ◌∷◌, get_or, length, sym, ◌∙◌, subst, arith}
 use Rattle.std.specs.Prelude.{◌&&◌, is_some}
 use Rattle.std.specs.List.{list_all}
 use Rattle.std.proofs.lemmas.Bool.{and_parts}
@@ -15,10 +15,9 @@ use Rattle.kql_bound.specs.declared.expr.StepColumn.{StepColumn}
 use Rattle.kql_bound.specs.declared.literal.Lit.{Lit}
 use Rattle.kql_meaning.specs.declared.position.Position.TheVariants as position
 use Rattle.kql_meaning.specs.Expressions.{call_kind, kind_along, kind_down, kind_of, kinds_in}
-use Rattle.kql_meaning.specs.FittingExpressions.{aggregate_fits, checked_args, expr_fits, is_callable, links_fit, part_fits, scope_of, step_fits, takes_columns, takes_window, window_fits}
+use Rattle.kql_meaning.specs.FittingExpressions.{aggregate_fits, checked_args, expr_fits, is_callable, links_fit, part_fits, scope_of, takes_columns, takes_window}
 use Rattle.kql_meaning.specs.Literals.{is_of_kind, is_well_formed, literal_fits}
 use Rattle.kql_meaning.specs.Results.{has_one_result}
-use Rattle.kql_meaning.specs.Tables.{has_column}
 use Rattle.kql_meaning.proofs.ExpressionFitLaws.{fits-Aggregate, fits-Call, fits-Chain, fits-Column, fits-Literal, fits-Path, fits-Step, fits-Window}
 use Rattle.kql_meaning.proofs.LiteralLaws.{is_well_formed-decides}
 use Rattle.summarize_op.specs.Calls.{HasOne, IsCall}

@@ -1,8 +1,8 @@
 -- The parts of a plan that fits, and what is read of rows for it.
-use Rattle.std.proofs.Common.{◌≡◌, ◌<◌, ◌≤◌, ◌+◌, ◌-◌, ◌++◌, ℕ, zero, suc, Bool, true, false, List, [], ◌∷◌, get_or, length, map, take, refl, ap, ap₂, sym, ◌∙◌, subst, arith}
+use Rattle.std.proofs.Common.{◌≡◌, ◌<◌, ◌≤◌, ◌+◌, ◌-◌, ◌++◌, ℕ, zero, suc, Bool, true, false, List, [], ◌∷◌, drop, get_or, length, map, take, refl, ap, ap₂, sym, ◌∙◌, subst, inl, inr, arith}
 use Rattle.std.specs.Prelude.{◌&&◌, None, Option, Some, flat_map, is_some}
 use Rattle.std.specs.List.{AllByRecursion, list_all, range_with_len}
-use Rattle.std.proofs.lemmas.Bool.{and_from, and_parts}
+use Rattle.std.proofs.lemmas.Bool.{and_from, and_parts, cases_Bool}
 use Rattle.std.proofs.lemmas.List.{map-append, take_more}
 use Rattle.std.proofs.lemmas.List.FromFn.{get_or-map-range_with_len, length-map-range_with_len}
 use Rattle.kql_cells.specs.Named.{HasDistinctNames, column_name}
@@ -24,12 +24,12 @@ use Rattle.kql_meaning.specs.FittingExpressions.{aggregate_takes, call_or_expr_f
 use Rattle.kql_meaning.specs.FittingOperators.{answer_if, columns_if, group_item_fits, has_its_names, key_item_fits, summarize_fits}
 use Rattle.kql_meaning.specs.Groups.{key_by}
 use Rattle.kql_meaning.specs.Summarize.{group_columns}
-use Rattle.kql_meaning.proofs.ExpressionFitLaws.{aggregate-checked, call-Aggregate}
+use Rattle.kql_meaning.proofs.ExpressionFitLaws.{aggregate-checked}
 use Rattle.kql_fit_laws.proofs.RowFacts.{answer-some}
 use Rattle.kql_scalar.specs.Rows.{rows}
-use Rattle.summarize_op.specs.Calls.{IsCall}
+use Rattle.summarize_op.specs.Calls.{IsCall, is_best}
 use Rattle.summarize_op.specs.Passes.{AreArguments}
-use Rattle.summarize_pieces.specs.Calls.{AreCalls, call_columns, calls_by, calls_in, calls_of, comes_in_pieces, first_columns, first_columns_step, firsts, is_kept, item_calls}
+use Rattle.summarize_pieces.specs.Calls.{AreCalls, call_columns, calls_by, calls_in, calls_of, first_columns, first_columns_step, firsts, further_args, item_calls}
 use Rattle.summarize_pieces.specs.Pieces.{Called, IsRead, Piece, called, columns_along, piece_of, values_along}
 use Rattle.summarize_pieces.proofs.CallLaws.{all-beside, calls-Aggregate, calls_that_fit}
 use Rattle.summarize_pieces.proofs.ColumnSteps.{fits_plain, key_exprs}
@@ -172,7 +172,21 @@ take-plain cs (suc n) (e ∷ es) h =
 pub first-arguments : (cs : List Column) (f : Aggregate) (args first : List BExpr) (n : ℕ) → IsCall cs f args → first ≡ take n args → AreArguments cs first
 first-arguments cs f args first n h e = record { each = subst (λ (es : List BExpr). list_all (fits_plain cs) es ≡ true) (sym e) (take-plain cs n args (call-arguments cs f args h).0) }
 
-pub ruleset one_steps = (first-arguments)
+drop-plain : (cs : List Column) (es : List BExpr) → list_all (fits_plain cs) es ≡ true → list_all (fits_plain cs) (drop 1 es) ≡ true
+drop-plain cs [] h = refl
+drop-plain cs (e ∷ es) h = (and_parts (fits_plain cs e) (list_all (fits_plain cs) es) h).1
+
+further-plain : (cs : List Column) (f : Aggregate) (args : List BExpr) → list_all (fits_plain cs) args ≡ true → list_all (fits_plain cs) (further_args (f, args)) ≡ true
+unfolding further_args
+further-plain cs f args h = elim (cases_Bool (is_best f)) [
+  | inl y ↦ rw y (drop-plain cs args h)
+  | inr n ↦ rw n refl
+]
+
+pub further-arguments : (cs : List Column) (f : Aggregate) (args further : List BExpr) → IsCall cs f args → further ≡ further_args (f, args) → AreArguments cs further
+further-arguments cs f args further h e = record { each = subst (λ (es : List BExpr). list_all (fits_plain cs) es ≡ true) (sym e) (further-plain cs f args (call-arguments cs f args h).0) }
+
+pub ruleset one_steps = (first-arguments, further-arguments)
 
 -- The calls of items that fit.
 
@@ -259,9 +273,5 @@ found-fit g cs found items fits same is =
     subst (AreCalls cs) (sym (is ∙ ap calls_of same)) (record { each = calls-fit cs g.items (items-of g cs (plan-fits g cs fits)) })
 
 pub ruleset plan_steps = (keys-fit, keys-long)
-
-pub kept-items : (g : GroupPlan) (items : List BItem) → comes_in_pieces g ≡ true → items ≡ g.items → list_all (λ (b : BItem). is_kept b.expr) items ≡ true
-unfolding comes_in_pieces
-kept-items g items h is = ap (list_all (λ (b : BItem). is_kept b.expr)) is ∙ h
 
 pub ruleset name_steps = (names-differ)

@@ -1,6 +1,6 @@
 -- The calls of aggregates in expressions, from left to right, and what they give for rows.
-use Rattle.std.specs.Prelude.{◌≡◌, ℕ, List, [], ◌∷◌, ◌++◌, Bool, true, drop, map, Option, None, Some, if◌then◌else◌}
-use Rattle.std.specs.List.{AllByRecursion, flat_map, list_all}
+use Rattle.std.specs.Prelude.{◌≡◌, List, [], ◌∷◌, ◌++◌, true, drop, map, slice_index_or, Option, None, Some, if◌then◌else◌}
+use Rattle.std.specs.List.{AllByRecursion, flat_map}
 use Rattle.kql_cells.specs.Keys.{absent}
 use Rattle.kql_cells.specs.Table.{Grid}
 use Rattle.kql_cells.specs.declared.schema.Column.{Column}
@@ -14,31 +14,13 @@ use Rattle.kql_bound.specs.declared.expr.BExpr.TheOpen.{BExpr-F}
 use Rattle.kql_bound.specs.declared.expr.BExpr.TheVariants as V
 use Rattle.kql_bound.specs.declared.expr.ChainSign.{ChainSign}
 use Rattle.kql_bound.specs.declared.parts.BItem.{BItem}
-use Rattle.kql_bound.specs.declared.parts.GroupPlan.{GroupPlan}
 use Rattle.kql_meaning.specs.declared.position.Position.TheVariants as position
-use Rattle.kql_meaning.specs.Expressions.{val}
+use Rattle.kql_meaning.specs.Expressions.{kind_of, val, values_in}
 use Rattle.kql_meaning.specs.FittingExpressions.{call_or_expr_fits, scope_of}
-use Rattle.kql_meaning.specs.Results.{has_one_result}
 use Rattle.kql_scalar_fns.specs.Arguments.{argument}
 use Rattle.agg_folds.specs.Folds.{folded}
 use Rattle.agg_folds.specs.declared.call.FoldCall.{FoldCall}
-use Rattle.summarize_op.specs.Calls.{IsCall, is_first}
-
--- The plans whose groups come in pieces: an item that is a call of `arg_max` or `arg_min` has one result column.
-
-unfoldable pub is_kept_call : Aggregate → List BExpr → Bool
-is_kept_call aggregate.TakeAny args = true
-is_kept_call f args = has_one_result f args
-
-abbrev pub is_kept_step : BExpr-F BExpr → Bool
-is_kept_step (BExpr-F.Aggregate f args) = is_kept_call f args
-is_kept_step _ = true
-
-unfoldable pub is_kept : BExpr → Bool
-is_kept e = is_kept_step (out-BExpr e)
-
-unfoldable pub comes_in_pieces : GroupPlan → Bool
-comes_in_pieces g = list_all (λ (b : BItem). is_kept b.expr) g.items
+use Rattle.summarize_op.specs.Calls.{IsCall, best_row, is_best, is_first}
 
 -- The calls in an expression. In their arguments stand none.
 
@@ -93,14 +75,25 @@ item_calls e = calls_by (first_columns e) e
 unfoldable pub calls_of : List BItem → List (Aggregate × List BExpr)
 calls_of items = flat_map (λ (b : BItem). item_calls b.expr) items
 
+-- The further columns of `arg_max` and `arg_min`: the arguments that are taken at the row that is chosen.
+unfoldable pub further_args : Aggregate × List BExpr → List BExpr
+further_args (f, args) = if is_best f then drop 1 args else []
+
+abbrev pub further_step : BExpr-F BExpr → List BExpr
+further_step (BExpr-F.Aggregate f args) = further_args (f, args)
+further_step _ = []
+
+-- Those of an expression that is a call.
+unfoldable pub further_columns : BExpr → List BExpr
+further_columns e = further_step (out-BExpr e)
+
 -- Calls that fit.
 pub record AreCalls (columns : List Column) (calls : List (Aggregate × List BExpr)) : Type 0 where
   pub each : AllByRecursion (λ (c : Aggregate × List BExpr). IsCall columns c.0 c.1) calls
 
--- An item that fits over groups, and is kept of pieces.
+-- An item that fits over groups.
 pub record IsItem (columns : List Column) (e : BExpr) : Type 0 where
   pub fits : call_or_expr_fits e (scope_of columns) position.Group ≡ true
-  pub kept : is_kept e ≡ true
 
 -- What a call gives.
 
@@ -118,3 +111,18 @@ given call (row ∷ rows) = folded call (row ∷ rows)
 unfoldable pub AreGiven : List (Aggregate × List BExpr) → Grid → List Value → Type 0
 AreGiven [] u vs = Unit {0}
 AreGiven (c ∷ cs) u vs = (argument vs 0 ≡ val (V.Aggregate c.0 c.1) u 0 []) × AreGiven cs u (drop 1 vs)
+
+-- What the further columns of a call are over a group of rows.
+unfoldable pub further_over : Aggregate × List BExpr → Grid → List Value
+further_over (f, args) u = values_in (further_args (f, args)) u (best_row f args u) []
+
+-- What they are, from what is kept of the row that is chosen. Where nothing is kept there is no row, and each column has what stands there
+-- where there is no value.
+unfoldable pub further_row : List Column → List BExpr → List Value → List Value
+further_row columns es [] = map (λ (e : BExpr). absent_of (kind_of e columns)) es
+further_row columns es (v ∷ vs) = v ∷ vs
+
+-- Whether rows begin with those that are kept of calls over a group of rows.
+unfoldable pub AreFurther : List Column → List (Aggregate × List BExpr) → Grid → List (List Value) → Type 0
+AreFurther columns [] u rows = Unit {0}
+AreFurther columns (c ∷ cs) u rows = (further_row columns (further_args c) (slice_index_or rows 0 []) ≡ further_over c u) × AreFurther columns cs u (drop 1 rows)

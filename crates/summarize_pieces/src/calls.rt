@@ -1,55 +1,14 @@
-//! The calls of aggregates in expressions, and which plans come in pieces.
+//! The calls of aggregates in expressions.
 ghost use Rattle.std.specs.Prelude.{◌≡◌, ◌++◌, IfNone, IfOk, IfSome, None, OnOk, Some, drop, length};
-ghost use Rattle.summarize_pieces.specs.Calls.{call_columns, calls_along, calls_in, calls_in_all, calls_of, comes_in_pieces, first_columns, firsts, is_kept, is_kept_call, item_calls};
+ghost use Rattle.summarize_op.specs.Calls.{is_best};
+ghost use Rattle.summarize_pieces.specs.Calls.{call_columns, calls_along, calls_in, calls_in_all, calls_of, first_columns, firsts, further_args, further_columns, item_calls};
 
-use kql_bound::{BExpr, BItem, GroupPlan, Link};
+use kql_bound::{BExpr, BItem, Link};
 use kql_functions::Aggregate;
 use kql_values::Value;
 use std::alloc::{AllocError, Global};
 use std::marker::Model;
 use std::slice::from_ref;
-
-/// Whether the groups of a plan come in pieces: an item that is a call of `arg_max` or `arg_min` has one result column.
-#[tactic(auto, unfolding(crate::specs::Calls::comes_in_pieces))]
-pub fn comes_in_pieces(g: &GroupPlan) -> bool
-    ensures { result ≡ comes_in_pieces g.now }
-{
-    let mut items = g.items.as_slice();
-    'items: while let Some((first, others)) = items.split_first() {
-        if !is_kept(&first.expr) {
-            return false;
-        }
-        items = others;
-    }
-    true
-}
-
-#[tactic(auto, unfolding(crate::specs::Calls::is_kept))]
-fn is_kept(e: &BExpr) -> bool
-    ensures { result ≡ is_kept e.now }
-{
-    match e {
-        BExpr::Aggregate(f, args) => is_kept_call(*f, args.as_slice()),
-        BExpr::Literal(_) => true,
-        BExpr::Column(_) => true,
-        BExpr::Step(_) => true,
-        BExpr::Call(_, _) => true,
-        BExpr::Chain(_, _) => true,
-        BExpr::Path(_, _) => true,
-        BExpr::Window(_, _) => true,
-    }
-}
-
-#[tactic(auto, unfolding(crate::specs::Calls::is_kept_call, kql_meaning::specs::Results::has_one_result))]
-fn is_kept_call(f: Aggregate, args: &[BExpr]) -> bool
-    ensures { result ≡ is_kept_call f args.now }
-{
-    match f {
-        Aggregate::ArgMax => args.len() == 1,
-        Aggregate::ArgMin => args.len() == 1,
-        _ => true,
-    }
-}
 
 /// The columns of an expression that is a call of `take_any`.
 #[tactic(auto, unfolding(crate::specs::Calls::first_columns))]
@@ -77,6 +36,53 @@ fn call_columns(f: Aggregate, args: &[BExpr]) -> Option<&[BExpr]>
     match f {
         Aggregate::TakeAny => Some(args),
         _ => None,
+    }
+}
+
+/// The further columns of an expression that is a call of `arg_max` or `arg_min`.
+#[tactic(auto, unfolding(crate::specs::Calls::further_columns))]
+pub(crate) fn further_columns(e: &BExpr) -> &[BExpr]
+    ensures { result.now ≡ further_columns e.now }
+{
+    match e {
+        BExpr::Aggregate(f, args) => further_args(*f, args.as_slice()),
+        BExpr::Literal(_) => &[],
+        BExpr::Column(_) => &[],
+        BExpr::Step(_) => &[],
+        BExpr::Call(_, _) => &[],
+        BExpr::Chain(_, _) => &[],
+        BExpr::Path(_, _) => &[],
+        BExpr::Window(_, _) => &[],
+    }
+}
+
+/// The arguments of `arg_max` and `arg_min` that are taken at the row that is chosen.
+#[tactic(auto, unfolding(crate::specs::Calls::further_args))]
+pub(crate) fn further_args(f: Aggregate, args: &[BExpr]) -> &[BExpr]
+    ensures { result.now ≡ further_args (f, args.now) }
+{
+    if is_best(f) { others(args) } else { &[] }
+}
+
+// All but the first.
+#[tactic(auto, using(crate::proofs::ColumnSteps::other_steps))]
+fn others(args: &[BExpr]) -> &[BExpr]
+    ensures { result.now ≡ drop 1 args.now }
+{
+    match args {
+        [] => args,
+        [_, others @ ..] => others,
+    }
+}
+
+#[tactic(auto, unfolding(summarize_op::specs::Calls::is_best))]
+fn is_best(f: Aggregate) -> bool
+    ensures { result ≡ is_best f }
+{
+    match f {
+        Aggregate::ArgMax => true,
+        Aggregate::ArgMin => true,
+        _ => false,
     }
 }
 

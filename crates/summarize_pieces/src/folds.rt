@@ -94,9 +94,9 @@ fn step_at<'a>(folds: &mut Vec<Fold<'a>>, g: usize, cells: &[CellRef<'a>]) -> Re
     Ok(())
 }
 
-// What vectors have at a place.
+/// What vectors have at a place.
 #[tactic(auto, using(crate::proofs::PassSteps::cell_steps))]
-fn cells_at<'a>(
+pub(crate) fn cells_at<'a>(
     alloc: Global,
     vectors: &'a [Vector],
     g: usize,

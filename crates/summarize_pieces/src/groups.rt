@@ -4,19 +4,19 @@ ghost use Rattle.kql_cells.specs.Table.{Grid};
 ghost use Rattle.kql_cells.specs.Keys.{same_keys};
 ghost use Rattle.kql_keys.specs.Numbers.{distinct, numbers_of};
 ghost use Rattle.kql_bound.specs.declared.parts.GroupPlan.{GroupPlan as Plan};
-ghost use Rattle.summarize_op.specs.Passes.{folds_of};
-ghost use Rattle.summarize_pieces.specs.Pieces.{AreGroupsOf, CanBeFolded, ColumnsStored, group_keys, piece_of};
+ghost use Rattle.summarize_pieces.specs.Pieces.{AreGroupsOf, CanBeFolded, ColumnsStored, group_keys, group_states, piece_of};
 
 use crate::folds::fold_groups;
+use crate::kept::{GroupFold, group_folds};
 use crate::piece::{CallRows, PieceRows};
-use agg_folds::{Fold, FoldCall};
+use agg_folds::FoldCall;
 use kql_items::Items;
 use kql_keys::{Numbered, number_keys};
 use kql_values::{Rows, Vector};
 use std::alloc::{AllocError, Global};
 use std::marker::Model;
 
-/// The groups of rows in order of first occurrence, and for each call of the plan what its fold keeps of each group. Values are lent by the
+/// The groups of rows in order of first occurrence, and for each call of the plan what is kept of each group. Values are lent by the
 /// piece that they were read into.
 #[derive(Drop)]
 pub struct Groups<'a> {
@@ -24,7 +24,7 @@ pub struct Groups<'a> {
     pub(crate) width: usize,
     pub(crate) keys: Rows,
     pub(crate) calls: Vec<FoldCall>,
-    pub(crate) folds: Vec<Items<Fold<'a>>>,
+    pub(crate) folds: Vec<Items<GroupFold<'a>>>,
 }
 
 impl<'a> Model for Groups<'a> {
@@ -125,23 +125,24 @@ fn fold_calls(alloc: Global, calls: &[CallRows]) -> Result<Vec<FoldCall>, AllocE
     Ok(made)
 }
 
-// For each call a fold for each group.
+// For each call what is kept of each group.
 #[tactic(auto, using(crate::proofs::GroupSteps::fold_steps))]
 fn folds_of_calls<'a>(
     alloc: Global,
     calls: &'a [CallRows],
     numbers: &[usize],
     count: usize,
-) -> Result<Vec<Items<Fold<'a>>>, AllocError>
+) -> Result<Vec<Items<GroupFold<'a>>>, AllocError>
     requires within { All (λ n. n < count) numbers.now }
     requires calls { All (CanBeFolded (length numbers.now)) calls.now }
-    ensures folds { IfOk result (λ fs. fs.items ≡ map (λ c. folds_of c.call c.columns numbers.now count) calls.now) }
+    ensures folds { IfOk result (λ fs. fs.items ≡ map (λ c. group_states c numbers.now count) calls.now) }
     ensures stored { OnOk result (All (λ c. ColumnsStored (length numbers.now) c.columns) calls.now) }
 {
     let mut folds = Vec::with_capacity(alloc, calls.len())?;
     'calls: for call in calls {
         let made = fold_groups(alloc, call.call, call.columns.as_slice(), numbers, count)?;
-        folds.push(Items::from_vec(made))?;
+        let kept = group_folds(alloc, call, made, numbers, count)?;
+        folds.push(kept)?;
     }
     Ok(folds)
 }

@@ -1,11 +1,10 @@
 //! Groups of neighbouring ranges of rows.
 ghost use Rattle.std.specs.Prelude.{◌≡◌, ◌<◌, ◌≤◌, ◌+◌, ◌^◌, ◌++◌, ◌∷◌, [], All, IfOk, IfSome, List, None, OnOk, Some, drop, get_or, length};
-ghost use Rattle.agg_folds.specs.States.{Kept};
 ghost use Rattle.summarize_pieces.specs.Joined.{AllFew, Differ, joined_groups, joined_states, with_group, with_groups};
-ghost use Rattle.summarize_pieces.specs.Pieces.{AreGroupsOf, AreNeighbours};
+ghost use Rattle.summarize_pieces.specs.Pieces.{AreGroupsOf, AreNeighbours, GroupKept};
 
 use crate::groups::{Groups, NumberedKeys, keyed};
-use agg_folds::Fold;
+use crate::kept::GroupFold;
 use kql_items::Items;
 use std::alloc::{AllocError, Global};
 
@@ -64,12 +63,12 @@ fn numbers_from(numbers: &[usize], first: usize) -> &[usize]
 fn join_calls<'a>(
     alloc: Global,
     first: usize,
-    folds: Vec<Items<Fold<'a>>>,
+    folds: Vec<Items<GroupFold<'a>>>,
     numbers: &[usize],
-    more: Vec<Items<Fold<'a>>>,
+    more: Vec<Items<GroupFold<'a>>>,
     count: usize,
     further: usize,
-) -> Result<Vec<Items<Fold<'a>>>, AllocError>
+) -> Result<Vec<Items<GroupFold<'a>>>, AllocError>
     requires differ { Differ numbers.now }
     requires folds { AllFew first count folds.items }
     requires more { AllFew (length numbers.now) further more.items }
@@ -91,21 +90,21 @@ fn join_calls<'a>(
 // The folds of one call more, where there are others of it.
 #[tactic(auto, using(crate::proofs::JoinSteps::one_steps))]
 fn join_call<'a>(
-    made: &mut Vec<Items<Fold<'a>>>,
+    made: &mut Vec<Items<GroupFold<'a>>>,
     first: usize,
-    a: Items<Fold<'a>>,
+    a: Items<GroupFold<'a>>,
     numbers: &[usize],
-    b: Option<Items<Fold<'a>>>,
+    b: Option<Items<GroupFold<'a>>>,
     count: usize,
     further: usize,
 ) -> Result<(), AllocError>
     requires differ { Differ numbers.now }
     requires long { length a ≡ first }
-    requires folds { All (λ k. k.count ≤ count) a }
-    requires more { IfSome b (All (λ k. k.count ≤ further)) }
+    requires folds { All (λ k. k.kept.count ≤ count) a }
+    requires more { IfSome b (All (λ k. k.kept.count ≤ further)) }
     requires few { count + further < 2 ^ 63 }
     ensures none { b.entry ≡ None → OnOk result (made.new.items ≡ made.old.items) }
-    ensures some { (more : List Kept) → b.entry ≡ Some more → OnOk result (made.new.items ≡ made.old.items ++ with_groups first a.entry numbers.now more ∷ []) }
+    ensures some { (more : List GroupKept) → b.entry ≡ Some more → OnOk result (made.new.items ≡ made.old.items ++ with_groups first a.entry numbers.now more ∷ []) }
 {
     match b {
         None => Ok(()),
@@ -121,16 +120,16 @@ fn join_call<'a>(
 #[tactic(auto, using(crate::proofs::JoinSteps::group_steps))]
 fn join_folds<'a>(
     first: usize,
-    folds: Items<Fold<'a>>,
+    folds: Items<GroupFold<'a>>,
     numbers: &[usize],
-    more: Items<Fold<'a>>,
+    more: Items<GroupFold<'a>>,
     count: usize,
     further: usize,
-) -> Result<Items<Fold<'a>>, AllocError>
+) -> Result<Items<GroupFold<'a>>, AllocError>
     requires differ { Differ numbers.now }
     requires long { length folds ≡ first }
-    requires folds { All (λ k. k.count ≤ count) folds }
-    requires more { All (λ k. k.count ≤ further) more }
+    requires folds { All (λ k. k.kept.count ≤ count) folds }
+    requires more { All (λ k. k.kept.count ≤ further) more }
     requires few { count + further < 2 ^ 63 }
     ensures joined { IfOk result (λ fs. fs ≡ with_groups first folds.entry numbers.now more.entry) }
 {
@@ -148,17 +147,17 @@ fn join_folds<'a>(
 // One fold more.
 #[tactic(auto, unfolding(crate::specs::Joined::with_group))]
 fn join_fold<'a>(
-    folds: &mut Vec<Fold<'a>>,
+    folds: &mut Vec<GroupFold<'a>>,
     first: usize,
     g: usize,
-    fold: Fold<'a>,
+    fold: GroupFold<'a>,
 ) -> Result<(), AllocError>
     requires first { first ≤ length folds.old.items }
-    requires few { (k : Kept) → g < first → (get_or folds.old.items g k).count + fold.count ≤ 2 ^ 63 }
+    requires few { (k : GroupKept) → g < first → (get_or folds.old.items g k).kept.count + fold.kept.count ≤ 2 ^ 63 }
     ensures joined { OnOk result (folds.new.items ≡ with_group first folds.old.items g fold.entry) }
 {
     if g < first {
-        folds[g].join(&fold)?;
+        folds[g].join(fold)?;
     } else {
         folds.push(fold)?;
     }

@@ -11,10 +11,10 @@ mod finish;
 mod folds;
 mod groups;
 mod join;
+mod kept;
 mod piece;
 mod values;
 
-pub use calls::comes_in_pieces;
 pub use finish::finish_groups;
 pub use groups::{Groups, group_piece};
 pub use join::join_groups;

@@ -6,7 +6,7 @@ ghost use Rattle.summarize_op.specs.Calls.{IsCall};
 ghost use Rattle.summarize_pieces.specs.Calls.{AreCalls};
 ghost use Rattle.summarize_pieces.specs.Pieces.{called, piece_of};
 
-use crate::calls::{Found, calls_of};
+use crate::calls::{Found, calls_of, further_args};
 use crate::columns::{columns_along, keys_along};
 use agg_folds::{FoldCall, fold_call, needs};
 use kql_bound::{BExpr, GroupPlan};
@@ -15,11 +15,12 @@ use kql_values::{Rows, Table, Vector};
 use std::alloc::{AllocError, Global};
 use std::marker::Model;
 
-/// What the arguments of a call are at the rows of a piece.
+/// What the arguments of a call and its further columns are at the rows of a piece.
 #[derive(Drop)]
 pub(crate) struct CallRows {
     pub(crate) call: FoldCall,
     pub(crate) columns: Vec<Vector>,
+    pub(crate) further: Vec<Vector>,
 }
 
 impl Model for CallRows {
@@ -31,7 +32,7 @@ impl Model for CallRows {
 
     ghost coded = { Prim.hlevel (codes, dynamic.the_row.coded) };
 
-    ghost view = { λ c. record { call = c.call; columns = c.columns.items } };
+    ghost view = { λ c. record { call = c.call; columns = c.columns.items; further = c.further.items } };
 }
 
 /// What the keys and the arguments of the calls are at the rows of a piece. Groups lend these values, so they live until the table of the
@@ -122,7 +123,12 @@ fn one_call(
 {
     let call = fold_call(alloc, f, args, t.schema().columns())?;
     let columns = columns_along(alloc, t, first_args(args, needs(f)), from, to)?;
-    Ok(CallRows { call, columns })
+    let further = columns_along(alloc, t, further_args(f, args), from, to)?;
+    Ok(CallRows {
+        call,
+        columns,
+        further,
+    })
 }
 
 // The first of these, up to a number.

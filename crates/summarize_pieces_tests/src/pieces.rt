@@ -1,8 +1,7 @@
 //! A table in two pieces.
-ghost use Rattle.std.specs.Prelude.{◌≡◌, ◌≤◌, true, IfOk, IsTrue, is_some, length};
+ghost use Rattle.std.specs.Prelude.{◌≡◌, ◌≤◌, IfOk, IsTrue, is_some, length};
 ghost use Rattle.kql_meaning.specs.FittingOperators.{answer_if, summarize_fits};
 ghost use Rattle.kql_meaning.specs.Summarize.{group_columns, summarize_table};
-ghost use Rattle.summarize_pieces.specs.Calls.{comes_in_pieces};
 ghost use Rattle.summarize_pieces.specs.Pieces.{piece_of};
 
 use kql_bound::GroupPlan;
@@ -18,7 +17,6 @@ pub(crate) fn in_two_pieces(
     middle: usize,
 ) -> Result<Table, AllocError>
     requires fits { IsTrue (is_some (answer_if (summarize_fits g.now t.now.columns) (group_columns g.now t.now.columns))) }
-    requires pieces { comes_in_pieces g.now ≡ true }
     requires within { middle ≤ length t.now.lines }
     ensures whole { IfOk result (λ r. r ≡ summarize_table g.now t.now) }
 {
@@ -39,7 +37,6 @@ fn finished(
     second: &PieceRows,
 ) -> Result<Table, AllocError>
     requires fits { IsTrue (is_some (answer_if (summarize_fits g.now t.now.columns) (group_columns g.now t.now.columns))) }
-    requires pieces { comes_in_pieces g.now ≡ true }
     requires within { middle ≤ length t.now.lines }
     requires first { first.now ≡ piece_of g.now t.now 0 middle }
     requires second { second.now ≡ piece_of g.now t.now middle (length t.now.lines) }

@@ -189,3 +189,32 @@ pub(crate) fn whole(alloc: Global) -> Made<GroupPlan> {
         none(alloc),
     )
 }
+
+// The value of an aggregate of `x`, and `y` and `k` at its row.
+fn best_row(alloc: Global, f: Aggregate, value: &str, y: &str, k: &str) -> Made<BItem> {
+    let columns = with(one(alloc, column(alloc, "x")), column(alloc, "y"));
+    let names = with(
+        one(alloc, KText::from_str(alloc, value)),
+        KText::from_str(alloc, y),
+    );
+    let names = with(names, KText::from_str(alloc, k));
+    item(names, aggregate(f, with(columns, column(alloc, "k"))))
+}
+
+/// `summarize (g, h, i) = arg_max(x, y, k), (l, m, n) = arg_min(x, y, k) by k`
+pub(crate) fn bests(alloc: Global) -> Made<GroupPlan> {
+    let items = one(alloc, best_row(alloc, Aggregate::ArgMax, "g", "h", "i"));
+    let least = best_row(alloc, Aggregate::ArgMin, "l", "m", "n");
+    by_key(alloc, with(items, least))
+}
+
+/// `summarize n = count(), (g, h, i) = arg_max(x, y, k), m = max(k)`
+pub(crate) fn best(alloc: Global) -> Made<GroupPlan> {
+    let count = aggregate(Aggregate::Count, none(alloc));
+    let items = one(alloc, named(alloc, "n", count));
+    let items = with(items, best_row(alloc, Aggregate::ArgMax, "g", "h", "i"));
+    plan(
+        with(items, named(alloc, "m", of(alloc, Aggregate::Max, "k"))),
+        none(alloc),
+    )
+}

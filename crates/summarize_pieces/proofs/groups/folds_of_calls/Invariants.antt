@@ -1,9 +1,8 @@
 use Rattle.std.proofs.Common.{◌≡◌, length, map, take}
 use Rattle.std.specs.Prelude.{All}
-use Rattle.summarize_op.specs.Passes.{folds_of}
-use Rattle.summarize_pieces.specs.Pieces.{Called, ColumnsStored}
+use Rattle.summarize_pieces.specs.Pieces.{Called, ColumnsStored, group_states}
 use Rattle.summarize_pieces.proofs.groups.folds_of_calls.Given as goal
 
--- the folds of the calls so far
+-- what is kept of the calls so far
 abbrev pub invariant-calls : goal.invariant-calls
-invariant-calls l = (l.folds.items ≡ map (λ (c : Called). folds_of c.call c.columns l.numbers l.count) (take l.call-index l.calls)) × All (λ (c : Called). ColumnsStored (length l.numbers) c.columns) (take l.call-index l.calls)
+invariant-calls l = (l.folds.items ≡ map (λ (c : Called). group_states c l.numbers l.count) (take l.call-index l.calls)) × All (λ (c : Called). ColumnsStored (length l.numbers) c.columns) (take l.call-index l.calls)

@@ -1,7 +1,6 @@
 use Rattle.std.proofs.Common.{◌∙◌, ap, length, map, subst, sym}
 use Rattle.std.specs.Prelude.{All}
-use Rattle.summarize_op.specs.Passes.{folds_of}
-use Rattle.summarize_pieces.specs.Pieces.{Called, CanBeFolded, IsRead, Piece}
+use Rattle.summarize_pieces.specs.Pieces.{Called, CanBeFolded, IsRead, Piece, group_states}
 use Rattle.summarize_pieces.proofs.GroupSteps.{calls-can, piece-groups, piece-stored}
 use Rattle.summarize_pieces.proofs.groups.group_piece.Goals as goal
 
@@ -18,8 +17,8 @@ returns c =
     let numbers = c.as_slice-2.result.now in
     let keys = c.in_ok-keys.field-0.keys in
     let states = c.in_ok-folds.ensures.folds
-    ∙ (ap (λ n. map (λ (c : Called). folds_of c.call c.columns numbers n) c.as_slice.result.now) c.len.ensures.count
-    ∙ ap (map (λ (c : Called). folds_of c.call c.columns numbers (length keys))) (c.as_slice.ensures.value ∙ ap (λ (q : Piece). q.calls) c.p.view_is)) in
+    ∙ (ap (λ n. map (λ (c : Called). group_states c numbers n) c.as_slice.result.now) c.len.ensures.count
+    ∙ ap (map (λ (c : Called). group_states c numbers (length keys))) (c.as_slice.ensures.value ∙ ap (λ (q : Piece). q.calls) c.p.view_is)) in
     let calls = c.as_slice.ensures.value ∙ ap (λ (q : Piece). q.calls) c.p.view_is in
     let numbered = c.as_slice-2.ensures.items ∙ c.in_ok-keys.ensures.numbers in
     record {

@@ -1,8 +1,7 @@
 use Rattle.std.proofs.Common.{◌+◌, ◌++◌, ◌∙◌, List, ap, ap₂, length, subst, sym}
 use Rattle.kql_cells.specs.declared.value.Value.{Value}
-use Rattle.agg_folds.specs.States.{Kept}
 use Rattle.summarize_pieces.specs.Joined.{AllFew, joined_states}
-use Rattle.summarize_pieces.specs.Pieces.{Grouped}
+use Rattle.summarize_pieces.specs.Pieces.{GroupKept, Grouped}
 use Rattle.summarize_pieces.proofs.JoinSteps.{behind-are, both-groups, left-few, many-numbers, neighbours-differ, neighbours-wide, right-few}
 use Rattle.summarize_pieces.proofs.NeighbourLaws.{groups-joined}
 use Rattle.summarize_pieces.proofs.join.join_groups.Goals as goal
@@ -10,7 +9,7 @@ use Rattle.summarize_pieces.proofs.join.join_groups.Goals as goal
 abbrev key_list : Grouped → List (List Value)
 key_list g = g.keys
 
-abbrev state_list : Grouped → List (List Kept)
+abbrev state_list : Grouped → List (List GroupKept)
 state_list g = g.states
 
 pub append-requires : goal.append-requires
@@ -51,7 +50,7 @@ returns-clause-joined c =
     let ef = c.len-first.ensures.count ∙ ap (λ (g : Grouped). length g.keys) c.a.view_is in
     let ew = c.in_ok-append.ensures.added ∙ ap₂ (λ (xs ys : List (List Value)). xs ++ ys) (ap key_list c.a.view_is) (ap key_list c.b.view_is) in
     let en = behind-are a.keys b.keys c.append.new.self first c.as_slice.result.now ns ef ew (c.as_slice.ensures.items ∙ c.in_ok-keys.ensures.numbers) c.numbers_from-behind.ensures.rest in
-    let es = c.in_ok-folds.ensures.joined ∙ ap₂ (λ (xs ys : List (List Kept)). joined_states first xs ns ys) (ap state_list c.a.view_is) (ap state_list c.b.view_is) in
+    let es = c.in_ok-folds.ensures.joined ∙ ap₂ (λ (xs ys : List (List GroupKept)). joined_states first xs ns ys) (ap state_list c.a.view_is) (ap state_list c.b.view_is) in
     let ec = ap₂ (λ m n. m + n) (ap (λ (g : Grouped). g.count) c.a.view_is) (ap (λ (g : Grouped). g.count) c.b.view_is) in
     both-groups a b first _ c.a.inside.width c.append.new.self c.in_ok-keys.field-0.keys ns c.a.inside.calls.items c.in_ok-folds.folds.items ef ew c.in_ok-keys.ensures.keys en es ec (ap (λ (g : Grouped). g.width) c.a.view_is) (ap (λ (g : Grouped). g.calls) c.a.view_is)
 
@@ -64,6 +63,6 @@ returns-clause-range c =
     let ef = c.len-first.ensures.count ∙ ap (λ (g : Grouped). length g.keys) c.a.view_is in
     let ew = c.in_ok-append.ensures.added ∙ ap₂ (λ (xs ys : List (List Value)). xs ++ ys) (ap key_list c.a.view_is) (ap key_list c.b.view_is) in
     let en = behind-are a.keys b.keys c.append.new.self first c.as_slice.result.now ns ef ew (c.as_slice.ensures.items ∙ c.in_ok-keys.ensures.numbers) c.numbers_from-behind.ensures.rest in
-    let es = c.in_ok-folds.ensures.joined ∙ ap₂ (λ (xs ys : List (List Kept)). joined_states first xs ns ys) (ap state_list c.a.view_is) (ap state_list c.b.view_is) in
+    let es = c.in_ok-folds.ensures.joined ∙ ap₂ (λ (xs ys : List (List GroupKept)). joined_states first xs ns ys) (ap state_list c.a.view_is) (ap state_list c.b.view_is) in
     let ec = ap₂ (λ m n. m + n) (ap (λ (g : Grouped). g.count) c.a.view_is) (ap (λ (g : Grouped). g.count) c.b.view_is) in
     λ n. groups-joined a b _ n (both-groups a b first _ c.a.inside.width c.append.new.self c.in_ok-keys.field-0.keys ns c.a.inside.calls.items c.in_ok-folds.folds.items ef ew c.in_ok-keys.ensures.keys en es ec (ap (λ (g : Grouped). g.width) c.a.view_is) (ap (λ (g : Grouped). g.calls) c.a.view_is))
