@@ -73,5 +73,3 @@ front-formed f a e c o h is g =
     let r = joined-is f a e c (sym h ∙ is) in
     let q = called-is f (a ∷ r.0 ∷ []) c r.2 in
     (is_well_formed-decides c.value).1 (subst IsWellFormed (sym q.1) (applied-form f (a.value ∷ r.0.value ∷ []) (pair-formed a.value r.0.value g (sound-formed e r.0 r.1))))
-
-pub ruleset front_steps = (front-formed)

@@ -128,16 +128,9 @@ fn literal_of_call(alloc: Global, f: Func, args: &[BExpr]) -> Result<Option<Lit>
 pub(crate) fn folded_call(alloc: Global, f: Func, args: Exprs) -> Result<BExpr, AllocError>
     ensures call { IfOk result (λ e. e ≡ folded_call f args) }
 {
-    match literal_of_call(alloc, f, args.as_slice()) {
-        Ok(Some(lit)) => {
-            drop(args);
-            Ok(BExpr::Literal(lit))
-        }
-        Ok(None) => Ok(BExpr::Call(f, args)),
-        Err(fault) => {
-            drop(args);
-            Err(fault)
-        }
+    match literal_of_call(alloc, f, args.as_slice())? {
+        None => Ok(BExpr::Call(f, args)),
+        Some(lit) => Ok(BExpr::Literal(lit)),
     }
 }
 

@@ -1,137 +1,99 @@
 //! Chains and paths that begin with literals.
-ghost use Rattle.std.specs.Prelude.{◌≡◌, IfOk, option_map, true};
-ghost use Rattle.kql_bound.specs.declared.expr.BExpr.TheVariants as expr;
-ghost use Rattle.kql_meaning.specs.Literals.{is_well_formed};
-ghost use Rattle.plan_rules.specs.Folding.{chain_from, folded_chain, folded_path, path_from, sound_literal};
+ghost use Rattle.std.specs.Prelude.{◌≡◌, ◌≤◌, IfOk, drop, is_some, length};
+ghost use Rattle.plan_rules.specs.Folding.{folded_chain, folded_path, sound_literal};
+ghost use Rattle.plan_constants.specs.Fronts.{ended_chain, ended_path, joined};
 
 use crate::calls::{literal_joined, sound_literal};
-use kql_bound::{BExpr, Exprs, Link, Links, Lit, clone_expr, clone_lit};
+use kql_bound::{BExpr, Exprs, Link, Links};
 use kql_functions::{DynamicFunc, Func};
 use kql_items::{Boxed, Items};
 use std::alloc::{AllocError, Global};
 
-fn copies_of_links(alloc: Global, links: &[Link]) -> Result<Links, AllocError>
-    ensures same { IfOk result (λ c. c ≡ links.now) }
+// The literal that a front and the part behind it become.
+#[tactic(auto, unfolding(crate::specs::Fronts::joined))]
+fn joined(
+    alloc: Global,
+    f: Func,
+    front: &BExpr,
+    part: &BExpr,
+) -> Result<Option<Boxed<BExpr>>, AllocError>
+    ensures joined { IfOk result (λ o. o ≡ joined f front.now part.now) }
 {
-    let mut copies = Items::with_capacity(alloc, links.len())?;
+    let Some(first) = sound_literal(front) else {
+        return Ok(None);
+    };
+    let Some(lit) = literal_joined(alloc, f, first, part)? else {
+        return Ok(None);
+    };
+    Ok(Some(Boxed::new(alloc, BExpr::Literal(lit))?))
+}
+
+// The front of a chain joined with the links behind it, and how many these are.
+fn joined_links(
+    alloc: Global,
+    first: Boxed<BExpr>,
+    links: &[Link],
+) -> Result<(Boxed<BExpr>, usize), AllocError>
+    ensures within { IfOk result (λ r. r.1 ≤ length links.now) }
+    ensures chain { IfOk result (λ r. folded_chain first links.now ≡ ended_chain r.0 (drop r.1 links.now)) }
+{
+    let mut front = first;
+    let mut taken = 0;
     for link in links {
-        let copy = clone_expr(alloc, &link.1)?;
-        copies.push((link.0, copy))?;
+        let Some(next) = joined(alloc, link.0.func(), front.get(), &link.1)? else {
+            return Ok((front, taken));
+        };
+        front = next;
+        taken += 1;
     }
-    Ok(copies)
+    Ok((front, taken))
 }
 
-fn copies_of(alloc: Global, es: &[BExpr]) -> Result<Exprs, AllocError>
-    ensures same { IfOk result (λ c. c ≡ es.now) }
+#[tactic(auto, using(crate::proofs::FrontSteps::path_steps))]
+fn joined_steps(
+    alloc: Global,
+    whole: Boxed<BExpr>,
+    steps: &[BExpr],
+) -> Result<(Boxed<BExpr>, usize), AllocError>
+    ensures within { IfOk result (λ r. r.1 ≤ length steps.now) }
+    ensures path { IfOk result (λ r. folded_path whole steps.now ≡ ended_path r.0 (drop r.1 steps.now)) }
 {
-    let mut copies = Items::with_capacity(alloc, es.len())?;
-    for e in es {
-        let copy = clone_expr(alloc, e)?;
-        copies.push(copy)?;
+    let mut front = whole;
+    let mut taken = 0;
+    for step in steps {
+        let Some(next) = joined(alloc, Func::Dynamic(DynamicFunc::At), front.get(), step)? else {
+            return Ok((front, taken));
+        };
+        front = next;
+        taken += 1;
     }
-    Ok(copies)
+    Ok((front, taken))
 }
 
-fn literal(alloc: Global, lit: Lit) -> Result<Boxed<BExpr>, AllocError>
-    ensures literal { IfOk result (λ e. e ≡ expr.Literal lit) }
+fn is_literal(e: &BExpr) -> bool
+    ensures literal { result ≡ is_some (sound_literal e.now) }
 {
-    Boxed::new(alloc, BExpr::Literal(lit))
-}
-
-// A literal with these links behind it.
-fn chain_of(alloc: Global, front: Lit, links: &[Link]) -> Result<BExpr, AllocError>
-    ensures chain { IfOk result (λ e. e ≡ expr.Chain (expr.Literal front) links.now) }
-{
-    let first = literal(alloc, front)?;
-    let links = copies_of_links(alloc, links)?;
-    Ok(BExpr::Chain(first, links))
-}
-
-fn path_of(alloc: Global, front: Lit, steps: &[BExpr]) -> Result<BExpr, AllocError>
-    ensures path { IfOk result (λ e. e ≡ expr.Path (expr.Literal front) steps.now) }
-{
-    let whole = literal(alloc, front)?;
-    let steps = copies_of(alloc, steps)?;
-    Ok(BExpr::Path(whole, steps))
-}
-
-// The literals at the front of a chain as one.
-#[tactic(auto, unfolding(plan_rules::specs::Folding::chain_from), using(crate::proofs::CallSteps::front_steps))]
-fn chain_from(alloc: Global, first: &Lit, links: &[Link]) -> Result<BExpr, AllocError>
-    requires sound { is_well_formed first.now.value ≡ true }
-    ensures chain { IfOk result (λ e. e ≡ chain_from first.now links.now) }
-{
-    let mut front = clone_lit(alloc, first)?;
-    let mut left = links;
-    'links: while let Some((link, more)) = left.split_first() {
-        match literal_joined(alloc, link.0.func(), &front, &link.1) {
-            Ok(Some(next)) => {
-                front = next;
-                left = more;
-            }
-            Ok(None) => {
-                let made = chain_of(alloc, front, left)?;
-                return Ok(made);
-            }
-            Err(fault) => {
-                drop(front);
-                return Err(fault);
-            }
-        }
+    match sound_literal(e) {
+        None => false,
+        Some(_) => true,
     }
-    Ok(BExpr::Literal(front))
 }
 
-// The literals at the front of a path as one.
-#[tactic(auto, unfolding(plan_rules::specs::Folding::path_from), using(crate::proofs::CallSteps::front_steps))]
-fn path_from(alloc: Global, first: &Lit, steps: &[BExpr]) -> Result<BExpr, AllocError>
-    requires sound { is_well_formed first.now.value ≡ true }
-    ensures path { IfOk result (λ e. e ≡ path_from first.now steps.now) }
+// The items behind the first ones.
+#[tactic(auto, using(crate::proofs::FrontSteps::behind_steps))]
+fn behind<T: Drop>(items: Items<T>, count: usize) -> Items<T>
+    requires within { count ≤ length items }
+    ensures rest { result ≡ drop count items }
 {
-    let mut front = clone_lit(alloc, first)?;
-    let mut left = steps;
-    'steps: while let Some((step, more)) = left.split_first() {
-        match literal_joined(alloc, Func::Dynamic(DynamicFunc::At), &front, step) {
-            Ok(Some(next)) => {
-                front = next;
-                left = more;
-            }
-            Ok(None) => {
-                let made = path_of(alloc, front, left)?;
-                return Ok(made);
-            }
-            Err(fault) => {
-                drop(front);
-                return Err(fault);
-            }
-        }
-    }
-    Ok(BExpr::Literal(front))
-}
-
-// What a chain becomes whose first part is a literal.
-fn begun_chain(alloc: Global, first: &BExpr, links: &[Link]) -> Result<Option<BExpr>, AllocError>
-    ensures chain { IfOk result (λ o. o ≡ option_map (λ a. chain_from a links.now) (sound_literal first.now)) }
-{
-    let Some(lit) = sound_literal(first) else {
-        return Ok(None);
-    };
-    let made = chain_from(alloc, lit, links)?;
-    Ok(Some(made))
-}
-
-fn begun_path(alloc: Global, whole: &BExpr, steps: &[BExpr]) -> Result<Option<BExpr>, AllocError>
-    ensures path { IfOk result (λ o. o ≡ option_map (λ a. path_from a steps.now) (sound_literal whole.now)) }
-{
-    let Some(lit) = sound_literal(whole) else {
-        return Ok(None);
-    };
-    let made = path_from(alloc, lit, steps)?;
-    Ok(Some(made))
+    let mut rest = items;
+    let left = rest.len() - count;
+    rest.reverse();
+    rest.truncate(left);
+    rest.reverse();
+    rest
 }
 
 /// A chain of parts that are folded.
-#[tactic(auto, unfolding(plan_rules::specs::Folding::folded_chain))]
 pub(crate) fn folded_chain(
     alloc: Global,
     first: Boxed<BExpr>,
@@ -139,23 +101,15 @@ pub(crate) fn folded_chain(
 ) -> Result<BExpr, AllocError>
     ensures chain { IfOk result (λ e. e ≡ folded_chain first links) }
 {
-    match begun_chain(alloc, first.get(), links.as_slice()) {
-        Ok(Some(made)) => {
-            drop(first);
-            drop(links);
-            Ok(made)
-        }
-        Ok(None) => Ok(BExpr::Chain(first, links)),
-        Err(fault) => {
-            drop(first);
-            drop(links);
-            Err(fault)
-        }
+    let (front, taken) = joined_links(alloc, first, links.as_slice())?;
+    let rest = behind(links, taken);
+    if rest.is_empty() && is_literal(front.get()) {
+        return Ok(front.into_inner());
     }
+    Ok(BExpr::Chain(front, rest))
 }
 
 /// A path of parts that are folded.
-#[tactic(auto, unfolding(plan_rules::specs::Folding::folded_path))]
 pub(crate) fn folded_path(
     alloc: Global,
     whole: Boxed<BExpr>,
@@ -163,17 +117,10 @@ pub(crate) fn folded_path(
 ) -> Result<BExpr, AllocError>
     ensures path { IfOk result (λ e. e ≡ folded_path whole steps) }
 {
-    match begun_path(alloc, whole.get(), steps.as_slice()) {
-        Ok(Some(made)) => {
-            drop(whole);
-            drop(steps);
-            Ok(made)
-        }
-        Ok(None) => Ok(BExpr::Path(whole, steps)),
-        Err(fault) => {
-            drop(whole);
-            drop(steps);
-            Err(fault)
-        }
+    let (front, taken) = joined_steps(alloc, whole, steps.as_slice())?;
+    let rest = behind(steps, taken);
+    if rest.is_empty() && is_literal(front.get()) {
+        return Ok(front.into_inner());
     }
+    Ok(BExpr::Path(front, rest))
 }

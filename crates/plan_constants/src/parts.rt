@@ -2,60 +2,69 @@
 ghost use Rattle.std.specs.Prelude.{◌≡◌, IfOk, map};
 ghost use Rattle.plan_rules.specs.FoldedPlans.{folded_expand, folded_group, folded_item, folded_items, folded_key, folded_keys, folded_parse, folded_part, folded_scan, folded_series, folded_series_item, folded_step};
 
-use crate::exprs::{boxed, folded_expr};
+use crate::exprs::folded_expr;
 use kql_bound::{
-    BItem, BItems, BKey, Expand, ExpandItem, ExpandItems, GroupPlan, Keys, ParsePlan, ScanPlan,
-    ScanStep, ScanSteps, SeriesItem, SeriesItems, SeriesPlan, clone_lit, clone_parse, clone_scan,
+    BItem, BItems, BKey, Expand, ExpandItem, GroupPlan, Keys, ParsePlan, Pattern, ScanPlan,
+    ScanStep, SeriesItem, SeriesPlan, clone_lit, clone_parse, clone_scan, clone_series,
 };
 use kql_cells::copy_names;
 use kql_items::Items;
 use std::alloc::{AllocError, Global};
 
-// Items.
+// What stands in a list of an operator.
+trait Part: Sized + Drop {
+    ghost becomes: { Self → Self };
 
-fn item(alloc: Global, item: &BItem) -> Result<BItem, AllocError>
-    ensures item { IfOk result (λ x. x ≡ folded_item item.now) }
+    fn folded(&self, alloc: Global) -> Result<Self, AllocError>
+        ensures folded { IfOk result (λ x. x ≡ becomes self.now) };
+}
+
+fn each<P: Part>(alloc: Global, parts: &[P]) -> Result<Items<P>, AllocError>
+    ensures folded { IfOk result (λ xs. xs ≡ map P.becomes parts.now) }
 {
-    Ok(BItem {
-        names: copy_names(alloc, item.names.as_slice())?,
-        expr: folded_expr(alloc, &item.expr)?,
-    })
+    let mut all = Items::with_capacity(alloc, parts.len())?;
+    for part in parts {
+        let made = part.folded(alloc)?;
+        all.push(made)?;
+    }
+    Ok(all)
+}
+
+impl Part for BItem {
+    ghost becomes = { folded_item };
+
+    fn folded(&self, alloc: Global) -> Result<BItem, AllocError> {
+        Ok(BItem {
+            names: copy_names(alloc, self.names.as_slice())?,
+            expr: folded_expr(alloc, &self.expr)?,
+        })
+    }
 }
 
 #[tactic(auto, unfolding(plan_rules::specs::FoldedPlans::folded_items))]
 pub(crate) fn items(alloc: Global, items: &[BItem]) -> Result<BItems, AllocError>
     ensures items { IfOk result (λ xs. xs ≡ folded_items items.now) }
 {
-    let mut all = Items::with_capacity(alloc, items.len())?;
-    for one in items {
-        let made = item(alloc, one)?;
-        all.push(made)?;
-    }
-    Ok(all)
+    each(alloc, items)
 }
 
-// Keys of an order.
+impl Part for BKey {
+    ghost becomes = { folded_key };
 
-fn key(alloc: Global, key: &BKey) -> Result<BKey, AllocError>
-    ensures key { IfOk result (λ x. x ≡ folded_key key.now) }
-{
-    Ok(BKey {
-        expr: folded_expr(alloc, &key.expr)?,
-        asc: key.asc,
-        nulls_first: key.nulls_first,
-    })
+    fn folded(&self, alloc: Global) -> Result<BKey, AllocError> {
+        Ok(BKey {
+            expr: folded_expr(alloc, &self.expr)?,
+            asc: self.asc,
+            nulls_first: self.nulls_first,
+        })
+    }
 }
 
 #[tactic(auto, unfolding(plan_rules::specs::FoldedPlans::folded_keys))]
 pub(crate) fn keys(alloc: Global, keys: &[BKey]) -> Result<Keys, AllocError>
     ensures keys { IfOk result (λ xs. xs ≡ folded_keys keys.now) }
 {
-    let mut all = Items::with_capacity(alloc, keys.len())?;
-    for one in keys {
-        let made = key(alloc, one)?;
-        all.push(made)?;
-    }
-    Ok(all)
+    each(alloc, keys)
 }
 
 // Summarize.
@@ -72,62 +81,47 @@ pub(crate) fn group(alloc: Global, group: &GroupPlan) -> Result<GroupPlan, Alloc
 
 // Make-series.
 
-fn series_item(alloc: Global, item: &SeriesItem) -> Result<SeriesItem, AllocError>
-    ensures item { IfOk result (λ x. x ≡ folded_series_item item.now) }
-{
-    Ok(SeriesItem {
-        name: item.name.copy(alloc)?,
-        expr: folded_expr(alloc, &item.expr)?,
-        default: clone_lit(alloc, &item.default)?,
-    })
-}
+impl Part for SeriesItem {
+    ghost becomes = { folded_series_item };
 
-fn series_items(alloc: Global, items: &[SeriesItem]) -> Result<SeriesItems, AllocError>
-    ensures items { IfOk result (λ xs. xs ≡ map folded_series_item items.now) }
-{
-    let mut all = Items::with_capacity(alloc, items.len())?;
-    for one in items {
-        let made = series_item(alloc, one)?;
-        all.push(made)?;
+    fn folded(&self, alloc: Global) -> Result<SeriesItem, AllocError> {
+        Ok(SeriesItem {
+            name: self.name.copy(alloc)?,
+            default: clone_lit(alloc, &self.default)?,
+            expr: folded_expr(alloc, &self.expr)?,
+        })
     }
-    Ok(all)
 }
 
 #[tactic(auto, unfolding(plan_rules::specs::FoldedPlans::folded_series))]
 pub(crate) fn series(alloc: Global, series: &SeriesPlan) -> Result<SeriesPlan, AllocError>
     ensures series { IfOk result (λ x. x ≡ folded_series series.now) }
 {
+    let keys = items(alloc, series.keys.as_slice())?;
+    let items = each(alloc, series.items.as_slice())?;
+    let copy = clone_series(alloc, series)?;
     Ok(SeriesPlan {
-        items: series_items(alloc, series.items.as_slice())?,
-        axis: series.axis.copy(alloc)?,
-        from: clone_lit(alloc, &series.from)?,
-        to: clone_lit(alloc, &series.to)?,
-        step: clone_lit(alloc, &series.step)?,
-        keys: items(alloc, series.keys.as_slice())?,
+        items,
+        axis: copy.axis,
+        from: copy.from,
+        to: copy.to,
+        step: copy.step,
+        keys,
     })
 }
 
 // Mv-expand.
 
-fn part(alloc: Global, item: &ExpandItem) -> Result<ExpandItem, AllocError>
-    ensures part { IfOk result (λ x. x ≡ folded_part item.now) }
-{
-    Ok(ExpandItem {
-        name: item.name.copy(alloc)?,
-        expr: folded_expr(alloc, &item.expr)?,
-        to: item.to,
-    })
-}
+impl Part for ExpandItem {
+    ghost becomes = { folded_part };
 
-fn parts(alloc: Global, items: &[ExpandItem]) -> Result<ExpandItems, AllocError>
-    ensures parts { IfOk result (λ xs. xs ≡ map folded_part items.now) }
-{
-    let mut all = Items::with_capacity(alloc, items.len())?;
-    for one in items {
-        let made = part(alloc, one)?;
-        all.push(made)?;
+    fn folded(&self, alloc: Global) -> Result<ExpandItem, AllocError> {
+        Ok(ExpandItem {
+            name: self.name.copy(alloc)?,
+            expr: folded_expr(alloc, &self.expr)?,
+            to: self.to,
+        })
     }
-    Ok(all)
 }
 
 #[tactic(auto, unfolding(plan_rules::specs::FoldedPlans::folded_expand))]
@@ -136,84 +130,60 @@ pub(crate) fn expand(alloc: Global, expand: &Expand) -> Result<Expand, AllocErro
 {
     Ok(Expand {
         array: expand.array,
-        items: parts(alloc, expand.items.as_slice())?,
+        items: each(alloc, expand.items.as_slice())?,
     })
 }
 
 // Parse.
 
+fn pattern_of(parse: ParsePlan) -> Pattern
+    ensures pattern { result ≡ parse.pattern }
+{
+    let ParsePlan {
+        relaxed: _,
+        text,
+        pattern,
+    } = parse;
+    drop(text);
+    pattern
+}
+
 #[tactic(auto, unfolding(plan_rules::specs::FoldedPlans::folded_parse))]
 pub(crate) fn parse(alloc: Global, parse: &ParsePlan) -> Result<ParsePlan, AllocError>
     ensures parse { IfOk result (λ x. x ≡ folded_parse parse.now) }
 {
-    let text = boxed(alloc, &parse.text)?;
-    match clone_parse(alloc, parse) {
-        Ok(copy) => {
-            let ParsePlan {
-                relaxed,
-                text: old,
-                pattern,
-            } = copy;
-            drop(old);
-            Ok(ParsePlan {
-                relaxed,
-                text: text.into_inner(),
-                pattern,
-            })
-        }
-        Err(fault) => {
-            drop(text);
-            Err(fault)
-        }
-    }
+    let pattern = pattern_of(clone_parse(alloc, parse)?);
+    Ok(ParsePlan {
+        relaxed: parse.relaxed,
+        text: folded_expr(alloc, &parse.text)?,
+        pattern,
+    })
 }
 
 // Scan.
 
-fn step(alloc: Global, step: &ScanStep) -> Result<ScanStep, AllocError>
-    ensures step { IfOk result (λ x. x ≡ folded_step step.now) }
-{
-    Ok(ScanStep {
-        name: step.name.copy(alloc)?,
-        output: step.output,
-        condition: folded_expr(alloc, &step.condition)?,
-        sets: items(alloc, step.sets.as_slice())?,
-    })
-}
+impl Part for ScanStep {
+    ghost becomes = { folded_step };
 
-fn steps(alloc: Global, steps: &[ScanStep]) -> Result<ScanSteps, AllocError>
-    ensures steps { IfOk result (λ xs. xs ≡ map folded_step steps.now) }
-{
-    let mut all = Items::with_capacity(alloc, steps.len())?;
-    for one in steps {
-        let made = step(alloc, one)?;
-        all.push(made)?;
+    fn folded(&self, alloc: Global) -> Result<ScanStep, AllocError> {
+        Ok(ScanStep {
+            name: self.name.copy(alloc)?,
+            output: self.output,
+            sets: items(alloc, self.sets.as_slice())?,
+            condition: folded_expr(alloc, &self.condition)?,
+        })
     }
-    Ok(all)
 }
 
 #[tactic(auto, unfolding(plan_rules::specs::FoldedPlans::folded_scan))]
 pub(crate) fn scan(alloc: Global, scan: &ScanPlan) -> Result<ScanPlan, AllocError>
     ensures scan { IfOk result (λ x. x ≡ folded_scan scan.now) }
 {
-    let made = steps(alloc, scan.steps.as_slice())?;
-    match clone_scan(alloc, scan) {
-        Ok(copy) => {
-            let ScanPlan {
-                match_id,
-                declared,
-                steps: old,
-            } = copy;
-            drop(old);
-            Ok(ScanPlan {
-                match_id,
-                declared,
-                steps: made,
-            })
-        }
-        Err(fault) => {
-            drop(made);
-            Err(fault)
-        }
-    }
+    let steps = each(alloc, scan.steps.as_slice())?;
+    let copy = clone_scan(alloc, scan)?;
+    Ok(ScanPlan {
+        match_id: copy.match_id,
+        declared: copy.declared,
+        steps,
+    })
 }

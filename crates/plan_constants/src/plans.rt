@@ -5,6 +5,7 @@ ghost use Rattle.plan_rules.specs.FoldedPlans.{folded_op, folded_plan, folded_pr
 use crate::exprs::folded_expr;
 use crate::parts::{expand, group, items, keys, parse, scan, series};
 use kql_bound::{Op, Ops, Plan, Plans, Program, Source, clone_join, clone_source};
+use kql_cells::Schemas;
 use kql_items::Items;
 use std::alloc::{AllocError, Global};
 
@@ -26,8 +27,8 @@ fn plan(alloc: Global, plan: &Plan) -> Result<Plan, AllocError>
     ensures plan { IfOk result (λ x. x ≡ folded_plan plan.now) }
 {
     Ok(Plan {
-        source: source(alloc, &plan.source)?,
         ops: ops(alloc, plan.ops.as_slice())?,
+        source: source(alloc, &plan.source)?,
     })
 }
 
@@ -92,26 +93,23 @@ fn folded_plans(alloc: Global, p: &Program) -> Result<(Plans, Plan), AllocError>
     Ok((lets, main))
 }
 
+// The tables of a program whose plans are let go of.
+fn tables_of(p: Program) -> Schemas
+    ensures tables { result ≡ p.tables }
+{
+    let Program { tables, lets, main } = p;
+    drop(lets);
+    drop(main);
+    tables
+}
+
 /// A program in which each constant is the literal of its value.
 #[tactic(auto, unfolding(plan_rules::specs::FoldedPlans::folded_program))]
 pub fn fold_constants(alloc: Global, p: Program) -> Result<Program, AllocError>
     ensures program { IfOk result (λ q. q ≡ folded_program p) }
 {
-    match folded_plans(alloc, &p) {
-        Ok(made) => {
-            let (lets, main) = made;
-            let Program {
-                tables,
-                lets: old,
-                main: older,
-            } = p;
-            drop(old);
-            drop(older);
-            Ok(Program { tables, lets, main })
-        }
-        Err(fault) => {
-            drop(p);
-            Err(fault)
-        }
-    }
+    let made = folded_plans(alloc, &p);
+    let tables = tables_of(p);
+    let (lets, main) = made?;
+    Ok(Program { tables, lets, main })
 }
