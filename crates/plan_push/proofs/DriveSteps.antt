@@ -20,7 +20,7 @@ use Rattle.plan_rules.proofs.Subplans.{join-becomes, partition-becomes, union-be
 use Rattle.plan_rules.proofs.Weights.{lighter-before, weight-Join, weight-Partition, weight-Union, weight-plan}
 use Rattle.plan_rules.specs.Becomes.{Becomes}
 use Rattle.plan_rules.specs.Improves.{Improves, PlanImproves, PlansImprove}
-use Rattle.plan_push.specs.Table.{rule_at}
+use Rattle.plan_neighbours.specs.Table.{rule_at}
 use Rattle.plan_push.specs.Settled.{if_known, settled_op, settled_ops, settled_plan}
 use Rattle.plan_rules.specs.Weight.{IsLighter, Weight, and_then, in_order, nothing, op_weight, ops_weight, other, plan_weight}
 use Rattle.plan_push.proofs.RuleTable.{improves-append, improves-behind}

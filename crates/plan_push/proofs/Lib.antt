@@ -1,12 +1,11 @@
-pub mod ChosenSteps
 pub mod DriveSteps
-pub mod FrontViewSteps
-pub mod InnerSteps
+pub mod PlaceSteps
 pub mod ProgramSteps
+pub mod ReadySteps
 pub mod RewrittenSteps
 pub mod RuleTable
 pub mod SettleSteps
 pub mod SettledFits
 pub mod SettledSteps
+pub mod SwapLaws
 pub mod WalkSteps
-pub mod ViewSteps

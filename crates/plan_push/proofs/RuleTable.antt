@@ -1,6 +1,6 @@
 -- Each use of a rule improves the operators, wherever they stand.
 use Rattle.std.proofs.Common.{◌≡◌, ◌≤◌, ◌+◌, Bool, true, false, List, [], ◌∷◌, ◌++◌, length, refl, sym, ap, ap₂, ◌∙◌, subst, inl, inr, arith}
-use Rattle.std.specs.Prelude.{◌⊎◌, Option, None, Some, option_and_then}
+use Rattle.std.specs.Prelude.{◌⊎◌, Option, None, Some}
 use Rattle.std.proofs.lemmas.List.{length-append}
 use Rattle.kql_cells.specs.declared.schema.Column.{Column}
 use Rattle.kql_bound.specs.declared.plan.Op.{Op}
@@ -11,7 +11,7 @@ use Rattle.plan_rules.proofs.RuleLaws.{bare_serialize_law, expand_then_filter_la
 use Rattle.plan_rules.proofs.Weights.{ops-lighter-before, ops-lighter-behind}
 use Rattle.plan_rules.specs.Improves.{Improves}
 use Rattle.plan_rules.specs.Rules.{bare_serialize, expand_then_filter, extend_then_filter, extend_then_take, group_then_filter, idle_projection, join_then_filter, join_then_right_filter, parse_then_filter, parse_then_take, project_then_filter, project_then_take, sort_then_filter, sort_then_take, top_then_take, true_filter, two_filters, two_projections, two_sorts, two_takes, unique_then_filter, unseen_then_count}
-use Rattle.plan_push.specs.Table.{filter_rule, first_some, merge_rule, pair_rule, rule_at, single_rule, take_rule}
+use Rattle.plan_neighbours.specs.Table.{change_rule, filter_rule, first_some, merge_rule, rename_rule, single_rule, swap_rule, take_rule}
 
 pub improves-append : (k : Known) (inside : Bool) (cs : List Column) (xs ys behind : List Op) → Improves k inside cs xs ys → Improves k inside cs (xs ++ behind) (ys ++ behind)
 improves-append k inside cs xs ys behind h = record {
@@ -31,7 +31,7 @@ pub either-some : {A : Type 0} (a b : Option A) (c : A) → first_some a b ≡ S
 either-some None b c e = inr e
 either-some (Some x) b c e = inl e
 
-pub single_rule-improves : (k : Known) (inside : Bool) (cs : List Column) (x : Op) (zs : List Op) → single_rule k cs x ≡ Some zs → Improves k inside cs (x ∷ []) zs
+pub single_rule-improves : (k : Known) (inside : Bool) (cs : List Column) (x : Op) (zs : List Op) → single_rule cs x ≡ Some zs → Improves k inside cs (x ∷ []) zs
 unfolding single_rule
 single_rule-improves k inside cs x zs e = elim (either-some (true_filter x) (first_some (bare_serialize x) (idle_projection cs x)) zs e) [
   | inl h ↦ true_filter_law k inside cs x zs h
@@ -69,36 +69,24 @@ merge_rule-improves k inside cs x y zs e =
       ]
     ]
 
-pub filter_rule-improves : (k : Known) (inside : Bool) (cs : List Column) (x y : Op) (zs : List Op) → filter_rule k cs x y ≡ Some zs → Improves k inside cs (x ∷ y ∷ []) zs
+pub filter_rule-improves : (k : Known) (inside : Bool) (cs : List Column) (x y : Op) (zs : List Op) → filter_rule cs x y ≡ Some zs → Improves k inside cs (x ∷ y ∷ []) zs
 unfolding filter_rule
 filter_rule-improves k inside cs x y zs e =
-    let r7 = first_some (join_then_right_filter k cs x y) (group_then_filter x y) in
-    let r6 = first_some (unique_then_filter cs x y) r7 in
-    let r5 = first_some (join_then_filter cs x y) r6 in
-    let r4 = first_some (parse_then_filter x y) r5 in
-    let r3 = first_some (expand_then_filter x y) r4 in
-    let r2 = first_some (sort_then_filter x y) r3 in
-    let r1 = first_some (project_then_filter x y) r2 in
+    let r4 = first_some (join_then_filter cs x y) (unique_then_filter cs x y) in
+    let r3 = first_some (parse_then_filter x y) r4 in
+    let r2 = first_some (expand_then_filter x y) r3 in
+    let r1 = first_some (sort_then_filter x y) r2 in
     elim (either-some (extend_then_filter x y) r1 zs e) [
       | inl h ↦ extend_then_filter_law k inside cs x y zs h
-      | inr e1 ↦ elim (either-some (project_then_filter x y) r2 zs e1) [
-        | inl h ↦ project_then_filter_law k inside cs x y zs h
-        | inr e2 ↦ elim (either-some (sort_then_filter x y) r3 zs e2) [
-          | inl h ↦ sort_then_filter_law k inside cs x y zs h
-          | inr e3 ↦ elim (either-some (expand_then_filter x y) r4 zs e3) [
-            | inl h ↦ expand_then_filter_law k inside cs x y zs h
-            | inr e4 ↦ elim (either-some (parse_then_filter x y) r5 zs e4) [
-              | inl h ↦ parse_then_filter_law k inside cs x y zs h
-              | inr e5 ↦ elim (either-some (join_then_filter cs x y) r6 zs e5) [
-                | inl h ↦ join_then_filter_law k inside cs x y zs h
-                | inr e6 ↦ elim (either-some (unique_then_filter cs x y) r7 zs e6) [
-                  | inl h ↦ unique_then_filter_law k inside cs x y zs h
-                  | inr e7 ↦ elim (either-some (join_then_right_filter k cs x y) (group_then_filter x y) zs e7) [
-                    | inl h ↦ join_then_right_filter_law k inside cs x y zs h
-                    | inr h ↦ group_then_filter_law k inside cs x y zs h
-                  ]
-                ]
-              ]
+      | inr e1 ↦ elim (either-some (sort_then_filter x y) r2 zs e1) [
+        | inl h ↦ sort_then_filter_law k inside cs x y zs h
+        | inr e2 ↦ elim (either-some (expand_then_filter x y) r3 zs e2) [
+          | inl h ↦ expand_then_filter_law k inside cs x y zs h
+          | inr e3 ↦ elim (either-some (parse_then_filter x y) r4 zs e3) [
+            | inl h ↦ parse_then_filter_law k inside cs x y zs h
+            | inr e4 ↦ elim (either-some (join_then_filter cs x y) (unique_then_filter cs x y) zs e4) [
+              | inl h ↦ join_then_filter_law k inside cs x y zs h
+              | inr h ↦ unique_then_filter_law k inside cs x y zs h
             ]
           ]
         ]
@@ -117,29 +105,28 @@ take_rule-improves k inside cs x y zs e =
       ]
     ]
 
-pub pair_rule-improves : (k : Known) (inside : Bool) (cs : List Column) (x y : Op) (zs : List Op) → pair_rule k cs x y ≡ Some zs → Improves k inside cs (x ∷ y ∷ []) zs
-unfolding pair_rule
-pair_rule-improves k inside cs x y zs e = elim (either-some (merge_rule x y) (first_some (filter_rule k cs x y) (take_rule x y)) zs e) [
-  | inl h ↦ merge_rule-improves k inside cs x y zs h
-  | inr e2 ↦ elim (either-some (filter_rule k cs x y) (take_rule x y) zs e2) [
-    | inl h ↦ filter_rule-improves k inside cs x y zs h
-    | inr h ↦ take_rule-improves k inside cs x y zs h
-  ]
+pub swap_rule-improves : (k : Known) (inside : Bool) (cs : List Column) (x y : Op) (zs : List Op) → swap_rule cs x y ≡ Some zs → Improves k inside cs (x ∷ y ∷ []) zs
+unfolding swap_rule
+swap_rule-improves k inside cs x y zs e = elim (either-some (take_rule x y) (filter_rule cs x y) zs e) [
+  | inl h ↦ take_rule-improves k inside cs x y zs h
+  | inr h ↦ filter_rule-improves k inside cs x y zs h
 ]
 
-after-some : (o : Option (List Op)) (rest ys : List Op) → option_and_then (λ zs. Some (zs ++ rest)) o ≡ Some ys → (zs : List Op) × (o ≡ Some zs) × (zs ++ rest ≡ ys)
-after-some None rest ys e = absurd cc
-after-some (Some zs) rest ys e = (zs, refl, cc)
+pub rename_rule-improves : (k : Known) (inside : Bool) (cs : List Column) (x y : Op) (zs : List Op) → rename_rule k cs x y ≡ Some zs → Improves k inside cs (x ∷ y ∷ []) zs
+unfolding rename_rule
+rename_rule-improves k inside cs x y zs e =
+    let r1 = first_some (join_then_right_filter k cs x y) (group_then_filter x y) in
+    elim (either-some (project_then_filter x y) r1 zs e) [
+      | inl h ↦ project_then_filter_law k inside cs x y zs h
+      | inr e1 ↦ elim (either-some (join_then_right_filter k cs x y) (group_then_filter x y) zs e1) [
+        | inl h ↦ join_then_right_filter_law k inside cs x y zs h
+        | inr h ↦ group_then_filter_law k inside cs x y zs h
+      ]
+    ]
 
-pub rule_at-improves : (k : Known) (inside : Bool) (cs : List Column) (xs ys : List Op) → rule_at k cs xs ≡ Some ys → Improves k inside cs xs ys
-unfolding rule_at
-rule_at-improves k inside cs [] ys e = absurd cc
-rule_at-improves k inside cs (x ∷ []) ys e = single_rule-improves k inside cs x ys e
-rule_at-improves k inside cs (x ∷ y ∷ rest) ys e = elim (either-some (option_and_then (λ zs. Some (zs ++ y ∷ rest)) (single_rule k cs x)) (option_and_then (λ zs. Some (zs ++ rest)) (pair_rule k cs x y)) ys e) [
-  | inl h ↦
-      let r = after-some (single_rule k cs x) (y ∷ rest) ys h in
-      subst (Improves k inside cs (x ∷ y ∷ rest)) r.2 (improves-append k inside cs (x ∷ []) r.0 (y ∷ rest) (single_rule-improves k inside cs x r.0 r.1))
-  | inr h ↦
-      let r = after-some (pair_rule k cs x y) rest ys h in
-      subst (Improves k inside cs (x ∷ y ∷ rest)) r.2 (improves-append k inside cs (x ∷ y ∷ []) r.0 rest (pair_rule-improves k inside cs x y r.0 r.1))
+pub change_rule-improves : (k : Known) (inside : Bool) (cs : List Column) (x y : Op) (zs : List Op) → change_rule k cs x y ≡ Some zs → Improves k inside cs (x ∷ y ∷ []) zs
+unfolding change_rule
+change_rule-improves k inside cs x y zs e = elim (either-some (merge_rule x y) (rename_rule k cs x y) zs e) [
+  | inl h ↦ merge_rule-improves k inside cs x y zs h
+  | inr h ↦ rename_rule-improves k inside cs x y zs h
 ]

@@ -12,7 +12,7 @@ use Rattle.plan_rules.proofs.Context.{columns-cons}
 use Rattle.plan_push.proofs.SettledSteps.{settled-cons, settled-plan-out}
 use Rattle.plan_rules.specs.FoldedPlans.{is_program_folded}
 use Rattle.plan_push.specs.Settled.{if_known, is_quiet, lets_settled, settled, settled_op, settled_ops, settled_plan}
-use Rattle.plan_push.specs.Table.{rule_at}
+use Rattle.plan_neighbours.specs.Table.{rule_at}
 
 known : {X : Type 0} (o : Option X) (f : X → Bool) → if_known o f ≡ true → (x : X) × (o ≡ Some x) × (f x ≡ true)
 known None f h = absurd cc

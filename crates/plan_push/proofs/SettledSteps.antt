@@ -9,7 +9,7 @@ use Rattle.kql_bound.specs.declared.plan.Op.TheOpen.{Op-F}
 use Rattle.kql_bound.specs.declared.plan.Op.TheVariants as V
 use Rattle.kql_bound.specs.declared.plan.Plan.{Plan, para-roll-Plan}
 use Rattle.kql_meaning.specs.Fits.{Known, op_columns, source_columns}
-use Rattle.plan_push.specs.Table.{rule_at}
+use Rattle.plan_neighbours.specs.Table.{rule_at}
 use Rattle.plan_push.specs.Settled.{OpTest, PlanTest, if_known, settled_along, settled_op, settled_ops, settled_plan, settled_plan_step, settled_step}
 
 abbrev tested : List Op → List (Op × OpTest)

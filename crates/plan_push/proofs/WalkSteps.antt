@@ -1,6 +1,6 @@
 -- What a walk over operators goes by.
-use Rattle.std.proofs.Common.{◌≡◌, ◌≤◌, ◌<◌, ◌+◌, ◌*◌, ℕ, zero, suc, Bool, true, false, List, [], ◌∷◌, ◌++◌, take, length, get_or, map, refl, sym, ap, ap₂, ◌∙◌, subst, arith, rules}
-use Rattle.std.specs.Prelude.{◌&&◌, ◌||◌, ◌-◌, not, fold, reverse, slice_get, IsSome, MatchOption, None, Option, Some, is_some}
+use Rattle.std.proofs.Common.{◌≡◌, ◌≤◌, ◌<◌, ◌+◌, ◌*◌, ℕ, zero, suc, Bool, true, false, List, [], ◌∷◌, ◌++◌, take, length, get_or, refl, sym, ap, ap₂, ◌∙◌, subst, arith}
+use Rattle.std.specs.Prelude.{◌&&◌, ◌||◌, ◌-◌, not, fold, remove, reverse, slice_get, IsSome, None, Option, Some, is_some}
 use Rattle.std.proofs.lemmas.List.{append_assoc, append-nil, length-append, length-reverse, reverse-append, reverse-reverse, take-take, take_all, take_more}
 use Rattle.kql_cells.specs.declared.schema.Column.{Column}
 use Rattle.kql_bound.specs.declared.plan.Op.{Op}
@@ -12,24 +12,15 @@ use Rattle.plan_columns.proofs.MadeLaws.{op-makes, ops-none, ops-one}
 use Rattle.plan_rules.proofs.Context.{becomes-then, columns-append, columns-cons, lost}
 use Rattle.plan_rules.specs.Improves.{Improves}
 use Rattle.plan_rules.specs.Weight.{ops_weight}
-use Rattle.plan_push.proofs.RuleTable.{improves-append, improves-behind, pair_rule-improves, single_rule-improves}
+use Rattle.plan_neighbours.specs.Table.{change_rule, first_some, pair_rule, rule_at, single_rule, swap_rule}
+use Rattle.plan_push.proofs.PlaceSteps.{begun-back, begun-first, begun-pass, same-ends}
+use Rattle.plan_push.proofs.ReadySteps.{Here, change-here, swaps-here}
+use Rattle.plan_push.proofs.RuleTable.{change_rule-improves, improves-append, improves-behind, single_rule-improves, swap_rule-improves}
+use Rattle.plan_push.proofs.SwapLaws.{swap-is}
 use Rattle.plan_push.specs.Settled.{if_known}
-use Rattle.plan_push.specs.Table.{first_some, pair_rule, rule_at, single_rule}
-use Rattle.plan_push.specs.Walk.{Back, Stepped, Turned, Walk, is_quiet, is_still, next_rule, pace, places}
+use Rattle.plan_push.specs.Walk.{Back, Begun, Stepped, Turned, Walk, is_quiet, is_still, next_change, next_rule, next_swaps, pace}
 
 -- Lists and their ends.
-
-same-ends : {A : Type 0} (xs ys : List A) (x y : A) → xs ++ x ∷ [] ≡ ys ++ y ∷ [] → (xs ≡ ys) × (x ≡ y)
-same-ends [] [] x y e = (refl, cc)
-same-ends [] (b ∷ []) x y e = absurd cc
-same-ends [] (b ∷ c ∷ bs) x y e = absurd cc
-same-ends (a ∷ []) [] x y e = absurd cc
-same-ends (a ∷ c ∷ more) [] x y e = absurd cc
-same-ends (a ∷ more) (b ∷ bs) x y e =
-    let head : a ≡ b = cc in
-    let tails : more ++ x ∷ [] ≡ bs ++ y ∷ [] = cc in
-    let r = same-ends more bs x y tails in
-    (ap₂ (λ h t. h ∷ t) head r.0, r.1)
 
 last-is : {A : Type 0} (xs : List A) (n : ℕ) (x : A) → slice_get xs n ≡ Some x → n ≡ length xs - 1 → xs ≡ take n xs ++ x ∷ []
 last-is [] n x e l = absurd cc
@@ -48,27 +39,6 @@ get-none : {A : Type 0} (xs : List A) (n : ℕ) → slice_get xs n ≡ None → 
 get-none [] n e lt = omega (arith, lt)
 get-none (x ∷ xs) zero e lt = cc
 get-none (x ∷ xs) (suc n) e lt = get-none xs n e (omega (arith, lt))
-
--- The columns of places.
-
-pub place-none : (k : Known) (cs : List Column) → places [] k cs ≡ cs ∷ []
-unfolding places
-place-none k cs = refl
-
-places-length : (xs : List Op) (k : Known) (cs : List Column) → length (places xs k cs) ≡ suc (length xs)
-unfolding places
-places-length [] k cs = refl
-places-length (x ∷ xs) k cs = ap suc (places-length xs k (op_makes x k cs))
-
-places-here : (xs : List Op) (k : Known) (cs : List Column) → slice_get (places xs k cs) (length xs) ≡ Some (ops_make xs k cs)
-unfolding places
-places-here [] k cs = ap (λ c. Some c) (sym (ops-none k cs))
-places-here (x ∷ xs) k cs = places-here xs k (op_makes x k cs) ∙ ap (λ c. Some c) (sym (ops-one x xs k cs))
-
-places-end : (xs : List Op) (x : Op) (k : Known) (cs : List Column) → places (xs ++ x ∷ []) k cs ≡ places xs k cs ++ op_makes x k (ops_make xs k cs) ∷ []
-unfolding places
-places-end [] x k cs = ap (λ c. cs ∷ op_makes x k c ∷ []) (sym (ops-none k cs))
-places-end (y ∷ ys) x k cs = ap (λ ps. cs ∷ ps) (places-end ys x k (op_makes y k cs) ∙ ap (λ c. places ys k (op_makes y k cs) ++ op_makes x k c ∷ []) (sym (ops-one y ys k cs)))
 
 -- What is made where operators fit.
 
@@ -123,7 +93,7 @@ fired each k inside cs front xs ys rest h a =
 
 -- What is still.
 
-no-rule : (k : Known) (cs : List Column) (x : Op) (xs : List Op) → single_rule k cs x ≡ None → next_rule k cs x xs ≡ None → rule_at k cs (x ∷ xs) ≡ None
+no-rule : (k : Known) (cs : List Column) (x : Op) (xs : List Op) → single_rule cs x ≡ None → next_rule k cs x xs ≡ None → rule_at k cs (x ∷ xs) ≡ None
 unfolding rule_at
 no-rule k cs x [] e f = e
 no-rule k cs x (y ∷ ys) e f = rw (e, f) refl
@@ -168,18 +138,18 @@ not-some : (o : Option (List Op)) → o ≡ None → not (is_some o) ≡ true
 not-some None e = refl
 not-some (Some zs) e = absurd cc
 
-quiet-one : (x : Op) (xs rest : List Op) (k : Known) (cs : List Column) → single_rule k cs x ≡ None → next_rule k cs x (xs ++ rest) ≡ None → is_quiet xs rest k (op_makes x k cs) ≡ true → is_quiet (x ∷ xs) rest k cs ≡ true
+quiet-one : (x : Op) (xs rest : List Op) (k : Known) (cs : List Column) → single_rule cs x ≡ None → next_rule k cs x (xs ++ rest) ≡ None → is_quiet xs rest k (op_makes x k cs) ≡ true → is_quiet (x ∷ xs) rest k cs ≡ true
 unfolding is_quiet
 quiet-one x xs rest k cs e f g =
-    both-hold (not (is_some (single_rule k cs x))) (not (is_some (next_rule k cs x (xs ++ rest))) && is_quiet xs rest k (op_makes x k cs)) (not-some (single_rule k cs x) e)
+    both-hold (not (is_some (single_rule cs x))) (not (is_some (next_rule k cs x (xs ++ rest))) && is_quiet xs rest k (op_makes x k cs)) (not-some (single_rule cs x) e)
     (both-hold (not (is_some (next_rule k cs x (xs ++ rest)))) (is_quiet xs rest k (op_makes x k cs)) (not-some (next_rule k cs x (xs ++ rest)) f) g)
 
-quiet-parts : (x : Op) (xs rest : List Op) (k : Known) (cs : List Column) → is_quiet (x ∷ xs) rest k cs ≡ true → (single_rule k cs x ≡ None) × (next_rule k cs x (xs ++ rest) ≡ None) × (is_quiet xs rest k (op_makes x k cs) ≡ true)
+quiet-parts : (x : Op) (xs rest : List Op) (k : Known) (cs : List Column) → is_quiet (x ∷ xs) rest k cs ≡ true → (single_rule cs x ≡ None) × (next_rule k cs x (xs ++ rest) ≡ None) × (is_quiet xs rest k (op_makes x k cs) ≡ true)
 unfolding is_quiet
 quiet-parts x xs rest k cs h =
-    let a = both-true (not (is_some (single_rule k cs x))) (not (is_some (next_rule k cs x (xs ++ rest))) && is_quiet xs rest k (op_makes x k cs)) h in
+    let a = both-true (not (is_some (single_rule cs x))) (not (is_some (next_rule k cs x (xs ++ rest))) && is_quiet xs rest k (op_makes x k cs)) h in
     let b = both-true (not (is_some (next_rule k cs x (xs ++ rest)))) (is_quiet xs rest k (op_makes x k cs)) a.1 in
-    (is-none (single_rule k cs x) a.0, is-none (next_rule k cs x (xs ++ rest)) b.0, b.1)
+    (is-none (single_rule cs x) a.0, is-none (next_rule k cs x (xs ++ rest)) b.0, b.1)
 
 -- Of what is behind an operator the first alone counts.
 next-front : (k : Known) (cs : List Column) (y : Op) (ys : List Op) (x : Op) (r s : List Op) → next_rule k cs y ((ys ++ x ∷ []) ++ r) ≡ next_rule k cs y (ys ++ x ∷ s)
@@ -192,12 +162,12 @@ quiet-back (y ∷ ys) x r s k cs h =
     let p = quiet-parts y (ys ++ x ∷ []) r k cs h in
     quiet-one y ys (x ∷ s) k cs p.0 (sym (next-front k cs y ys x r s) ∙ p.1) (quiet-back ys x r s k (op_makes y k cs) p.2)
 
-quiet-pass : (xs : List Op) (x : Op) (r : List Op) (k : Known) (cs : List Column) → is_quiet xs (x ∷ r) k cs ≡ true → single_rule k (ops_make xs k cs) x ≡ None → next_rule k (ops_make xs k cs) x r ≡ None → is_quiet (xs ++ x ∷ []) r k cs ≡ true
-quiet-pass [] x r k cs h e f = quiet-one x [] r k cs (ap (λ c. single_rule k c x) (sym (ops-none k cs)) ∙ e) (ap (λ c. next_rule k c x r) (sym (ops-none k cs)) ∙ f) (quiet-none r k (op_makes x k cs))
+quiet-pass : (xs : List Op) (x : Op) (r : List Op) (k : Known) (cs : List Column) → is_quiet xs (x ∷ r) k cs ≡ true → single_rule (ops_make xs k cs) x ≡ None → next_rule k (ops_make xs k cs) x r ≡ None → is_quiet (xs ++ x ∷ []) r k cs ≡ true
+quiet-pass [] x r k cs h e f = quiet-one x [] r k cs (ap (λ c. single_rule c x) (sym (ops-none k cs)) ∙ e) (ap (λ c. next_rule k c x r) (sym (ops-none k cs)) ∙ f) (quiet-none r k (op_makes x k cs))
 quiet-pass (y ∷ ys) x r k cs h e f =
     let p = quiet-parts y ys (x ∷ r) k cs h in
     let on = ops-one y ys k cs in
-    quiet-one y (ys ++ x ∷ []) r k cs p.0 (next-front k cs y ys x r r ∙ p.1) (quiet-pass ys x r k (op_makes y k cs) p.2 (ap (λ c. single_rule k c x) (sym on) ∙ e) (ap (λ c. next_rule k c x r) (sym on) ∙ f))
+    quiet-one y (ys ++ x ∷ []) r k cs p.0 (next-front k cs y ys x r r ∙ p.1) (quiet-pass ys x r k (op_makes y k cs) p.2 (ap (λ c. single_rule c x) (sym on) ∙ e) (ap (λ c. next_rule k c x r) (sym on) ∙ f))
 
 first-fits : (x : Op) (xs : List Op) (k : Known) (inside : Bool) (cs : List Column) → IsSome (ops_columns (x ∷ xs) k inside cs) → (op_columns x k inside cs ≡ Some (op_makes x k cs)) × IsSome (ops_columns xs k inside (op_makes x k cs))
 first-fits x xs k inside cs h =
@@ -222,26 +192,19 @@ back-none before passed passed' waiting e f =
     let same : passed' ≡ passed = f ∙ sym e in
     record {
       same = ap (λ v. v ++ reverse waiting) same;
-      columns = λ k cs h. h ∙ ap (λ v. places v k cs) (sym same);
+      columns = λ k cs h. subst (λ v. Begun k cs before v) (sym same) h;
       quiet = λ k cs rest h. ap (λ v. is_quiet v (reverse waiting) k cs) f ∙ quiet-none (reverse waiting) k cs;
       slower = omega arith;
     }
 
-no-places : (xs : List Op) (k : Known) (cs : List Column) → [] ≡ places xs k cs → ⊥
-no-places xs k cs e = let none : 0 ≡ length (places xs k cs) = ap length e in omega (arith, none, places-length xs k cs)
-
-back-columns : (before before' : List (List Column)) (passed' : List Op) (x : Op) (last : Option (List Column)) → MatchOption last ((before ≡ []) × (before' ≡ [])) (λ c. before ≡ before' ++ c ∷ []) → (k : Known) (cs : List Column) → before ≡ places (passed' ++ x ∷ []) k cs → before' ≡ places passed' k cs
-back-columns before before' passed' x None m k cs h = absurd (no-places (passed' ++ x ∷ []) k cs (sym m.0 ∙ h))
-back-columns before before' passed' x (Some c) m k cs h = (same-ends before' (places passed' k cs) c (op_makes x k (ops_make passed' k cs)) (sym m ∙ (h ∙ places-end passed' x k cs))).0
-
-pub back-one : (before before' : List (List Column)) (passed passed' waiting waiting' : List Op) (x : Op) (last : Option (List Column)) → passed ≡ passed' ++ x ∷ [] → waiting' ≡ waiting ++ x ∷ [] → MatchOption last ((before ≡ []) × (before' ≡ [])) (λ c. before ≡ before' ++ c ∷ []) → Back before passed waiting before' passed' waiting'
-back-one before before' passed passed' waiting waiting' x last p w m =
+pub back-one : (before before' : List (List Column)) (passed passed' waiting waiting' : List Op) (x : Op) (n : ℕ) → n ≡ length passed → passed ≡ passed' ++ x ∷ [] → waiting' ≡ waiting ++ x ∷ [] → before' ≡ take n before → Back before passed waiting before' passed' waiting'
+back-one before before' passed passed' waiting waiting' x n l p w t =
     let tail : reverse waiting' ≡ x ∷ reverse waiting = ap (λ v. reverse v) w ∙ turned-end waiting x in
     record {
-      same = ap (λ t. passed' ++ t) tail ∙ (sym (append_assoc passed' (x ∷ []) (reverse waiting)) ∙ ap (λ v. v ++ reverse waiting) (sym p));
-      columns = λ k cs h. back-columns before before' passed' x last m k cs (h ∙ ap (λ v. places v k cs) p);
-      quiet = λ k cs rest h. ap (λ t. is_quiet passed' t k cs) tail ∙ quiet-back passed' x rest (reverse waiting) k cs (ap (λ v. is_quiet v rest k cs) (sym p) ∙ h);
-      slower = let n = ap length w in omega (arith, n, length-append waiting (x ∷ []));
+      same = ap (λ v. passed' ++ v) tail ∙ (sym (append_assoc passed' (x ∷ []) (reverse waiting)) ∙ ap (λ v. v ++ reverse waiting) (sym p));
+      columns = λ k cs h. begun-back k cs before before' passed passed' x n p l t h;
+      quiet = λ k cs rest h. ap (λ v. is_quiet passed' v k cs) tail ∙ quiet-back passed' x rest (reverse waiting) k cs (ap (λ v. is_quiet v rest k cs) (sym p) ∙ h);
+      slower = let counts = ap length w in omega (arith, counts, length-append waiting (x ∷ []));
     }
 
 -- A step, over those that wait behind the next.
@@ -264,31 +227,22 @@ rule-step each k inside cs before before' passed passed' waiting waiting' w betw
       faster = λ some. omega (arith, improved.lighter.load, better.no_longer, back.slower, lengths, count, length-append w (reverse made), length-reverse made);
     }
 
-pass-step : (k : Known) (inside : Bool) (cs here : List Column) (before before' : List (List Column)) (passed passed' w : List Op) (x : Op) → here ≡ ops_make passed k cs → Walk k inside cs before passed (w ++ x ∷ []) → single_rule k here x ≡ None → next_rule k here x (reverse w) ≡ None → before' ≡ before ++ op_makes x k here ∷ [] → passed' ≡ passed ++ x ∷ [] → Stepped k inside cs false passed (w ++ x ∷ []) before' passed' w
-pass-step k inside cs here before before' passed passed' w x h walk one two be pe =
+pass-step : (k : Known) (inside : Bool) (cs : List Column) (before : List (List Column)) (passed passed' w : List Op) (x : Op) → Walk k inside cs before passed (w ++ x ∷ []) → single_rule (ops_make passed k cs) x ≡ None → next_rule k (ops_make passed k cs) x (reverse w) ≡ None → passed' ≡ passed ++ x ∷ [] → Stepped k inside cs false passed (w ++ x ∷ []) before passed' w
+pass-step k inside cs before passed passed' w x walk one two pe =
     let tail : reverse (w ++ x ∷ []) ≡ x ∷ reverse w = turned-end w x in
     let whole : passed' ++ reverse w ≡ passed ++ reverse (w ++ x ∷ []) = ap (λ v. v ++ reverse w) pe ∙ (append_assoc passed (x ∷ []) (reverse w) ∙ ap (λ t. passed ++ t) (sym tail)) in
     let loads = ap (λ v. (ops_weight v).load) whole in
     record {
       walk = record {
         fitting = subst (λ v. IsSome (ops_columns v k inside cs)) (sym whole) walk.fitting;
-        columns = be ∙ (ap₂ (λ p c. p ++ op_makes x k c ∷ []) walk.columns h ∙ (sym (places-end passed x k cs) ∙ ap (λ v. places v k cs) (sym pe)));
-        quiet = ap (λ v. is_quiet v (reverse w) k cs) pe ∙ quiet-pass passed x (reverse w) k cs (ap (λ t. is_quiet passed t k cs) (sym tail) ∙ walk.quiet) (ap (λ c. single_rule k c x) (sym h) ∙ one) (ap (λ c. next_rule k c x (reverse w)) (sym h) ∙ two);
+        columns = begun-pass k cs before passed passed' x pe walk.columns;
+        quiet = ap (λ v. is_quiet v (reverse w) k cs) pe ∙ quiet-pass passed x (reverse w) k cs (ap (λ t. is_quiet passed t k cs) (sym tail) ∙ walk.quiet) one two;
       };
       turned = whole;
       faster = λ some. omega (arith, loads, length-append w (x ∷ []));
     }
 
 -- The same over the lists as they are at a step.
-
-some-one : (a b : List Column) → Some a ≡ Some b → a ≡ b
-some-one a b e = cc
-
-here-is : (k : Known) (inside : Bool) (cs here : List Column) (before : List (List Column)) (passed waiting : List Op) (n : ℕ) → Walk k inside cs before passed waiting → n ≡ length passed → slice_get before n ≡ Some here → here ≡ ops_make passed k cs
-here-is k inside cs here before passed waiting n walk l e = some-one here (ops_make passed k cs) (sym e ∙ (ap₂ (λ b m. slice_get b m) walk.columns l ∙ places-here passed k cs))
-
-pub never-here : (k : Known) (inside : Bool) (cs : List Column) (before : List (List Column)) (passed waiting : List Op) (n : ℕ) → Walk k inside cs before passed waiting → n ≡ length passed → slice_get before n ≡ None → ⊥
-never-here k inside cs before passed waiting n walk l e = let none : None ≡ Some (ops_make passed k cs) = sym e ∙ (ap₂ (λ b m. slice_get b m) walk.columns l ∙ places-here passed k cs) in cc
 
 pub none-now : (k : Known) (inside : Bool) (cs : List Column) (before : List (List Column)) (passed waiting : List Op) (at : ℕ) → at ≡ length waiting - 1 → slice_get waiting at ≡ None → Walk k inside cs before passed waiting → Stepped k inside cs false passed waiting before passed waiting
 none-now k inside cs before passed waiting at a e walk = record {
@@ -297,51 +251,118 @@ none-now k inside cs before passed waiting at a e walk = record {
   faster = λ some. absurd (get-none waiting at e (omega (arith, a, some)));
 }
 
-pub one-now : EachOpKeeps → (k : Known) (inside : Bool) (cs here now : List Column) (before before' : List (List Column)) (passed passed' waiting waiting' between made : List Op) (n at : ℕ) (x : Op) → at ≡ length waiting - 1 → slice_get waiting at ≡ Some x → n ≡ length passed → slice_get before n ≡ Some here → now ≡ here → single_rule k now x ≡ Some made → between ≡ take at waiting ++ reverse made → Back before passed between before' passed' waiting' → Walk k inside cs before passed waiting → Stepped k inside cs true passed waiting before' passed' waiting'
-one-now each k inside cs here now before before' passed passed' waiting waiting' between made n at x a g l h m rule be back walk =
+walk-now : (k : Known) (inside : Bool) (cs now : List Column) (before mid : List (List Column)) (passed waiting : List Op) (x : Op) → Here k cs now mid passed x → Walk k inside cs before passed waiting → Walk k inside cs mid passed waiting
+walk-now k inside cs now before mid passed waiting x h walk = record { fitting = walk.fitting; columns = h.begun; quiet = walk.quiet }
+
+pub one-now : EachOpKeeps → (k : Known) (inside : Bool) (cs now : List Column) (before mid before' : List (List Column)) (passed passed' waiting waiting' between made : List Op) (at : ℕ) (x : Op) → at ≡ length waiting - 1 → slice_get waiting at ≡ Some x → single_rule now x ≡ Some made → between ≡ take at waiting ++ reverse made → Back mid passed between before' passed' waiting' → Here k cs now mid passed x → Walk k inside cs before passed waiting → Stepped k inside cs true passed waiting before' passed' waiting'
+one-now each k inside cs now before mid before' passed passed' waiting waiting' between made at x a g rule be back h walk =
     let ends = last-is waiting at x g a in
-    let at_here = m ∙ here-is k inside cs here before passed waiting n walk l h in
-    let better = single_rule-improves k inside (ops_make passed k cs) x made (ap (λ c. single_rule k c x) (sym at_here) ∙ rule) in
+    let better = single_rule-improves k inside (ops_make passed k cs) x made (sym h.single ∙ rule) in
     let count = ap length ends in
-    rule-step each k inside cs before before' passed passed' waiting waiting' (take at waiting) between (x ∷ []) made walk (ap (λ v. reverse v) ends ∙ turned-end (take at waiting) x) (omega (arith, count, length-append (take at waiting) (x ∷ []))) better be back
+    rule-step each k inside cs mid before' passed passed' waiting waiting' (take at waiting) between (x ∷ []) made (walk-now k inside cs now before mid passed waiting x h walk) (ap (λ v. reverse v) ends ∙ turned-end (take at waiting) x) (omega (arith, count, length-append (take at waiting) (x ∷ []))) better be back
 
 end-of : (s : List Op) (d : Op) → 0 < length s → s ≡ take (length s - 1) s ++ get_or s (length s - 1) d ∷ []
 end-of s d some =
     let n : length s - 1 + 1 ≡ length s = omega (arith, some) in
     sym (take_all (length s) s (omega arith)) ∙ (ap (λ m. take m s) (sym n) ∙ take_more s (length s - 1) d (omega (arith, some)))
 
--- The last of those behind the next, where a rule fires at both.
-next-ends : (k : Known) (here : List Column) (x : Op) (s : List Op) (made : List Op) → next_rule k here x (reverse s) ≡ Some made → (y : Op) × (s ≡ take (length s - 1) s ++ y ∷ []) × (pair_rule k here x y ≡ Some made)
-next-ends k here x [] made e = absurd cc
-next-ends k here x (a ∷ more) made e =
+-- The last two that wait, where a rule fires at both.
+record Ends (s : List Op) (y : Op) : Type 0 where
+  parts : s ≡ take (length s - 1) s ++ y ∷ []
+  first : reverse s ≡ y ∷ reverse (take (length s - 1) s)
+
+ends-of : (a : Op) (more : List Op) → (y : Op) × Ends (a ∷ more) y
+ends-of a more =
     let whole = end-of (a ∷ more) a (omega arith) in
     let y = get_or (a ∷ more) (length (a ∷ more) - 1) a in
-    (y, whole, sym (ap (λ t. next_rule k here x t) (ap (λ v. reverse v) whole ∙ turned-end (take (length (a ∷ more) - 1) (a ∷ more)) y)) ∙ e)
+    (y, record { parts = whole; first = ap (λ v. reverse v) whole ∙ turned-end (take (length (a ∷ more) - 1) (a ∷ more)) y })
 
-pub two-now : EachOpKeeps → (k : Known) (inside : Bool) (cs here now : List Column) (before before' : List (List Column)) (passed passed' waiting waiting' behind between made : List Op) (n at on : ℕ) (x : Op) → at ≡ length waiting - 1 → slice_get waiting at ≡ Some x → n ≡ length passed → slice_get before n ≡ Some here → now ≡ here → behind ≡ take at waiting → next_rule k now x (reverse behind) ≡ Some made → on ≡ at - 1 → between ≡ take on waiting ++ reverse made → Back before passed between before' passed' waiting' → Walk k inside cs before passed waiting → Stepped k inside cs true passed waiting before' passed' waiting'
-two-now each k inside cs here now before before' passed passed' waiting waiting' behind between made n at on x a g l h m bi rule oi be back walk =
-    let ends = last-is waiting at x g a in
-    let at_here = m ∙ here-is k inside cs here before passed waiting n walk l h in
+change-ends : (k : Known) (here : List Column) (x : Op) (s made : List Op) → next_change k here x (reverse s) ≡ Some made → (y : Op) × (Ends s y) × (change_rule k here x y ≡ Some made)
+change-ends k here x [] made e = absurd cc
+change-ends k here x (a ∷ more) made e =
+    let r = ends-of a more in
+    (r.0, r.1, sym (ap (λ t. next_change k here x t) r.1.first) ∙ e)
+
+swap-ends : (here : List Column) (x : Op) (s : List Op) → next_swaps here x (reverse s) ≡ true → (y : Op) × (Ends s y) × (is_some (swap_rule here x y) ≡ true)
+swap-ends here x [] e = absurd cc
+swap-ends here x (a ∷ more) e =
+    let r = ends-of a more in
+    (r.0, r.1, sym (ap (λ t. next_swaps here x t) r.1.first) ∙ e)
+
+-- A rule that fired at both.
+two-step : EachOpKeeps → (k : Known) (inside : Bool) (cs now : List Column) (before mid before' : List (List Column)) (passed passed' waiting waiting' between made : List Op) (at on : ℕ) (x y : Op) → waiting ≡ take at waiting ++ x ∷ [] → at ≡ length waiting - 1 → Ends (take at waiting) y → on ≡ at - 1 → Improves k inside (ops_make passed k cs) (x ∷ y ∷ []) made → between ≡ take on waiting ++ reverse made → Back mid passed between before' passed' waiting' → Here k cs now mid passed x → Walk k inside cs before passed waiting → Stepped k inside cs true passed waiting before' passed' waiting'
+two-step each k inside cs now before mid before' passed passed' waiting waiting' between made at on x y ends a e oi better be back h walk =
     let s = take at waiting in
-    let r = next-ends k now x s made (ap (λ v. next_rule k now x (reverse v)) (sym bi) ∙ rule) in
-    let y = r.0 in
-    let better = pair_rule-improves k inside (ops_make passed k cs) x y made (ap (λ c. pair_rule k c x y) (sym at_here) ∙ r.2) in
     let w = take (length s - 1) s in
     let count = ap length ends in
-    let counts = ap length r.1 in
+    let counts = ap length e.parts in
     let length_s : length s ≡ at = omega (arith, a, count, length-append s (x ∷ [])) in
     let shorter : w ≡ take on waiting = ap (λ j. take j s) (ap (λ j. j - 1) length_s ∙ sym oi) ∙ take-take on at waiting (omega (arith, oi)) in
-    let tail : reverse waiting ≡ (x ∷ y ∷ []) ++ reverse w = ap (λ v. reverse v) ends ∙ (turned-end s x ∙ ap (λ t. x ∷ t) (ap (λ v. reverse v) r.1 ∙ turned-end w y)) in
-    rule-step each k inside cs before before' passed passed' waiting waiting' w between (x ∷ y ∷ []) made walk tail (omega (arith, count, counts, length-append s (x ∷ []), length-append w (y ∷ []))) better (be ∙ ap (λ v. v ++ reverse made) (sym shorter)) back
+    let tail : reverse waiting ≡ (x ∷ y ∷ []) ++ reverse w = ap (λ v. reverse v) ends ∙ (turned-end s x ∙ ap (λ t. x ∷ t) e.first) in
+    rule-step each k inside cs mid before' passed passed' waiting waiting' w between (x ∷ y ∷ []) made (walk-now k inside cs now before mid passed waiting x h walk) tail (omega (arith, count, counts, length-append s (x ∷ []), length-append w (y ∷ []))) better (be ∙ ap (λ v. v ++ reverse made) (sym shorter)) back
 
-pub pass-now : (k : Known) (inside : Bool) (cs here now1 now2 now3 : List Column) (before before' : List (List Column)) (passed passed' waiting waiting' behind : List Op) (n at : ℕ) (x last : Op) → at ≡ length waiting - 1 → slice_get waiting at ≡ Some x → n ≡ length passed → slice_get before n ≡ Some here → now1 ≡ here → now2 ≡ here → now3 ≡ here → behind ≡ take at waiting → single_rule k now1 x ≡ None → next_rule k now2 x (reverse behind) ≡ None → before' ≡ before ++ op_makes x k now3 ∷ [] → waiting ≡ waiting' ++ last ∷ [] → passed' ≡ passed ++ last ∷ [] → Walk k inside cs before passed waiting → Stepped k inside cs false passed waiting before' passed' waiting'
-pass-now k inside cs here now1 now2 now3 before before' passed passed' waiting waiting' behind n at x last a g l h m1 m2 m3 bi one two be we pe walk =
+pub change-now : EachOpKeeps → (k : Known) (inside : Bool) (cs now : List Column) (before mid before' : List (List Column)) (passed passed' waiting waiting' behind between made : List Op) (at on : ℕ) (x : Op) → at ≡ length waiting - 1 → slice_get waiting at ≡ Some x → behind ≡ take at waiting → next_change k now x (reverse behind) ≡ Some made → on ≡ at - 1 → between ≡ take on waiting ++ reverse made → Back mid passed between before' passed' waiting' → Here k cs now mid passed x → Walk k inside cs before passed waiting → Stepped k inside cs true passed waiting before' passed' waiting'
+change-now each k inside cs now before mid before' passed passed' waiting waiting' behind between made at on x a g bi rule oi be back h walk =
+    let r = change-ends k now x (take at waiting) made (ap (λ v. next_change k now x (reverse v)) (sym bi) ∙ rule) in
+    let better = change_rule-improves k inside (ops_make passed k cs) x r.0 made (sym (h.change r.0) ∙ r.2) in
+    two-step each k inside cs now before mid before' passed passed' waiting waiting' between made at on x r.0 (last-is waiting at x g a) a r.1 oi better be back h walk
+
+some-there : (o : Option (List Op)) → is_some o ≡ true → (zs : List Op) × (o ≡ Some zs)
+some-there None e = absurd cc
+some-there (Some zs) e = (zs, refl)
+
+get-behind : (w : List Op) (y : Op) (rest : List Op) → slice_get (w ++ y ∷ rest) (length w) ≡ Some y
+get-behind [] y rest = refl
+get-behind (o ∷ os) y rest = get-behind os y rest
+
+remove-behind : (w : List Op) (y : Op) (rest : List Op) → remove (w ++ y ∷ rest) (length w) ≡ w ++ rest
+remove-behind [] y rest = refl
+remove-behind (o ∷ os) y rest = ap (λ t. o ∷ t) (remove-behind os y rest)
+
+-- The one before the last, put behind it.
+turned-two : (w waiting between : List Op) (x y : Op) (on : ℕ) → waiting ≡ (w ++ y ∷ []) ++ x ∷ [] → on ≡ length w → ((v : Op) → slice_get waiting on ≡ Some v → between ≡ remove waiting on ++ v ∷ []) → between ≡ w ++ x ∷ y ∷ []
+turned-two w waiting between x y on e l put =
+    let whole : waiting ≡ w ++ y ∷ x ∷ [] = e ∙ append_assoc w (y ∷ []) (x ∷ []) in
+    let there : slice_get waiting on ≡ Some y = ap₂ (λ (v : List Op) m. slice_get v m) whole l ∙ get-behind w y (x ∷ []) in
+    let rest : remove waiting on ≡ w ++ x ∷ [] = ap₂ (λ (v : List Op) m. remove v m) whole l ∙ remove-behind w y (x ∷ []) in
+    put y there ∙ (ap (λ v. v ++ y ∷ []) rest ∙ append_assoc w (x ∷ []) (y ∷ []))
+
+pub swap-now : EachOpKeeps → (k : Known) (inside : Bool) (cs now : List Column) (before mid before' : List (List Column)) (passed passed' waiting waiting' behind between : List Op) (at on : ℕ) (x : Op) → at ≡ length waiting - 1 → slice_get waiting at ≡ Some x → behind ≡ take at waiting → next_swaps now x (reverse behind) ≡ true → on ≡ at - 1 → ((y : Op) → slice_get waiting on ≡ Some y → between ≡ remove waiting on ++ y ∷ []) → Back mid passed between before' passed' waiting' → Here k cs now mid passed x → Walk k inside cs before passed waiting → Stepped k inside cs true passed waiting before' passed' waiting'
+swap-now each k inside cs now before mid before' passed passed' waiting waiting' behind between at on x a g bi rule oi put back h walk =
+    let s = take at waiting in
+    let r = swap-ends now x s (ap (λ v. next_swaps now x (reverse v)) (sym bi) ∙ rule) in
+    let z = some-there (swap_rule now x r.0) r.2 in
+    let fires : swap_rule (ops_make passed k cs) x r.0 ≡ Some z.0 = sym (h.swaps r.0) ∙ z.1 in
+    let same = swap-is (ops_make passed k cs) x r.0 z.0 fires in
+    let better = swap_rule-improves k inside (ops_make passed k cs) x r.0 (r.0 ∷ x ∷ []) (fires ∙ ap (λ v. Some v) same) in
     let ends = last-is waiting at x g a in
-    let at_here = here-is k inside cs here before passed waiting n walk l h in
+    let w = take (length s - 1) s in
+    let count = ap length ends in
+    let counts = ap length r.1.parts in
+    let length_s : length s ≡ at = omega (arith, a, count, length-append s (x ∷ [])) in
+    let length_w : on ≡ length w = omega (arith, oi, length_s, counts, length-append w (r.0 ∷ [])) in
+    let shorter : w ≡ take on waiting = ap (λ j. take j s) (ap (λ j. j - 1) length_s ∙ sym oi) ∙ take-take on at waiting (omega (arith, oi)) in
+    let put_there = turned-two w waiting between x r.0 on (ends ∙ ap (λ v. v ++ x ∷ []) r.1.parts) length_w put in
+    two-step each k inside cs now before mid before' passed passed' waiting waiting' between (r.0 ∷ x ∷ []) at on x r.0 ends a r.1 oi better (put_there ∙ ap (λ v. v ++ x ∷ r.0 ∷ []) shorter) back h walk
+
+none-some : (o : Option (List Op)) → is_some o ≡ false → o ≡ None
+none-some None e = refl
+none-some (Some zs) e = absurd cc
+
+next-quiet : (k : Known) (cs : List Column) (x : Op) (r : List Op) → next_swaps cs x r ≡ false → next_change k cs x r ≡ None → next_rule k cs x r ≡ None
+unfolding pair_rule
+next-quiet k cs x [] e f = refl
+next-quiet k cs x (y ∷ ys) e f = ap₂ (λ a b. first_some a b) (none-some (swap_rule cs x y) e) f
+
+pub pass-now : (k : Known) (inside : Bool) (cs now : List Column) (before mid : List (List Column)) (passed passed' waiting waiting' behind : List Op) (at : ℕ) (x last : Op) → at ≡ length waiting - 1 → slice_get waiting at ≡ Some x → behind ≡ take at waiting → single_rule now x ≡ None → next_swaps now x (reverse behind) ≡ false → next_change k now x (reverse behind) ≡ None → waiting ≡ waiting' ++ last ∷ [] → passed' ≡ passed ++ last ∷ [] → Here k cs now mid passed x → Walk k inside cs before passed waiting → Stepped k inside cs false passed waiting mid passed' waiting'
+pass-now k inside cs now before mid passed passed' waiting waiting' behind at x last a g bi one two three we pe h walk =
+    let ends = last-is waiting at x g a in
     let same = same-ends (take at waiting) waiting' x last (sym ends ∙ we) in
     let whole : waiting ≡ waiting' ++ x ∷ [] = ends ∙ ap (λ v. v ++ x ∷ []) same.0 in
-    subst (λ v. Stepped k inside cs false passed v before' passed' waiting') (sym whole)
-    (pass-step k inside cs here before before' passed passed' waiting' x at_here (subst (λ v. Walk k inside cs before passed v) whole walk) (ap (λ c. single_rule k c x) (sym m1) ∙ one) (ap₂ (λ c v. next_rule k c x (reverse v)) (sym m2) (sym (bi ∙ same.0)) ∙ two) (be ∙ ap (λ c. before ++ op_makes x k c ∷ []) m3) (pe ∙ ap (λ o. passed ++ o ∷ []) (sym same.1)))
+    let turned : reverse waiting' ≡ reverse behind = ap (λ v. reverse v) (sym (bi ∙ same.0)) in
+    let quiet = next-quiet k (ops_make passed k cs) x (reverse behind) (sym (swaps-here k cs now mid passed x (reverse behind) h) ∙ two) (sym (change-here k cs now mid passed x (reverse behind) h) ∙ three) in
+    subst (λ v. Stepped k inside cs false passed v mid passed' waiting') (sym whole)
+    (pass-step k inside cs mid passed passed' waiting' x (subst (λ v. Walk k inside cs mid passed v) whole (walk-now k inside cs now before mid passed waiting x h walk)) (sym h.single ∙ one) (ap (λ t. next_rule k (ops_make passed k cs) x t) turned ∙ quiet) (pe ∙ ap (λ o. passed ++ o ∷ []) (sym same.1)))
 
 pub never-empty : (w : List Op) (at : ℕ) (x : Op) → slice_get w at ≡ Some x → w ≡ [] → ⊥
 never-empty [] at x g e = cc
@@ -354,13 +375,21 @@ last-turned s y some e =
     let whole : take (length s - 1) s ++ y ∷ [] ≡ s = ap (λ o. take (length s - 1) s ++ o ∷ []) e ∙ (sym (take_more s (length s - 1) y (omega (arith, some))) ∙ (ap (λ m. take m s) n ∙ take_all (length s) s (omega arith))) in
     ap reverse (sym whole) ∙ turned-end (take (length s - 1) s) y
 
-pub next-none : (k : Known) (cs : List Column) (x : Op) (s : List Op) → s ≡ [] → next_rule k cs x (reverse s) ≡ None
-next-none k cs x s e = ap (λ v. next_rule k cs x (reverse v)) e
+pub swaps-none : (cs : List Column) (x : Op) (s : List Op) → s ≡ [] → next_swaps cs x (reverse s) ≡ false
+swaps-none cs x s e = ap (λ v. next_swaps cs x (reverse v)) e
 
-pub next-last : (k : Known) (cs : List Column) (x y : Op) (s : List Op) → 0 < length s → y ≡ get_or s (length s - 1) y → next_rule k cs x (reverse s) ≡ pair_rule k cs x y
-next-last k cs x y s some e = ap (λ t. next_rule k cs x t) (last-turned s y some e)
+pub swaps-last : (cs : List Column) (x y : Op) (s : List Op) → 0 < length s → y ≡ get_or s (length s - 1) y → next_swaps cs x (reverse s) ≡ is_some (swap_rule cs x y)
+swaps-last cs x y s some e = ap (λ t. next_swaps cs x t) (last-turned s y some e)
 
-pub ruleset next_steps = (next-none, next-last)
+pub ruleset swaps_steps = (swaps-none, swaps-last)
+
+pub change-none : (k : Known) (cs : List Column) (x : Op) (s : List Op) → s ≡ [] → next_change k cs x (reverse s) ≡ None
+change-none k cs x s e = ap (λ v. next_change k cs x (reverse v)) e
+
+pub change-last : (k : Known) (cs : List Column) (x y : Op) (s : List Op) → 0 < length s → y ≡ get_or s (length s - 1) y → next_change k cs x (reverse s) ≡ change_rule k cs x y
+change-last k cs x y s some e = ap (λ t. next_change k cs x t) (last-turned s y some e)
+
+pub ruleset change_steps = (change-none, change-last)
 
 -- The loop.
 
@@ -386,7 +415,7 @@ walked-first k inside cs here ops none before passed nothing copied waiting e n 
     record {
       walk = record {
         fitting = subst (λ v. IsSome (ops_columns v k inside cs)) (sym whole) h;
-        columns = be ∙ (ap₂ (λ v c. v ++ c ∷ []) n e ∙ (sym (place-none k cs) ∙ ap (λ v. places v k cs) (sym pe)));
+        columns = begun-first k cs here none before passed e n be pe;
         quiet = ap (λ v. is_quiet v (reverse waiting) k cs) pe ∙ quiet-none (reverse waiting) k cs;
       };
       turned = whole;

@@ -9,7 +9,7 @@ use Rattle.kql_bound.specs.declared.plan.Plan.{Plan, para-Plan}
 use Rattle.kql_bound.specs.declared.plan.Program.{Program}
 use Rattle.kql_meaning.specs.Fits.{Known, known_of, lets_columns, op_columns, plan_columns, source_columns}
 use Rattle.plan_rules.specs.FoldedPlans.{is_program_folded}
-use Rattle.plan_push.specs.Table.{rule_at}
+use Rattle.plan_neighbours.specs.Table.{rule_at}
 
 -- A test that goes on with what is there, and fails where there is nothing: what fits has columns at each of its places.
 abbrev pub if_known : {X : Type 0} → Option X → (X → Bool) → Bool

@@ -1,0 +1,5 @@
+pub mod ChosenSteps
+pub mod FireSteps
+pub mod FrontViewSteps
+pub mod InnerSteps
+pub mod ViewSteps
