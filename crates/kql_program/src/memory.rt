@@ -10,8 +10,8 @@ use kql_outside::{CleanShelf, CleanSink, Gate};
 use std::alloc::Global;
 use std::thread::Threads;
 
-/// The top call over files and sinks in memory. Its ending and its bytes are those of the answer, of which there is one, or of want of
-/// memory; where there is no room for the answer, it is a write fault. Of `explain` the answer is one refusal, or one of the texts of plans
+/// The top call over files and sinks in memory. Where the sink for errors has room for the line of want of memory, its ending and its bytes
+/// are those of the answer, of which there is one, or of want of memory; where there is no room for the answer, it is a write fault. Of `explain` the answer is one refusal, or one of the texts of plans
 /// of the one program that the query is bound to.
 pub fn kql_in_memory<R: Threads + Sync, G: Gate + Sync>(
     rt: &R,

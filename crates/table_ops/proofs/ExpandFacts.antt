@@ -33,7 +33,7 @@ use Rattle.kql_values.specs.Moves.{column_of, no_column}
 use Rattle.table_ops.specs.Parts.{ArePartsOf, expanded_cells, input_cells, item_cells, item_values, part_below, part_or_null, parts_below, row_times, times, values_down}
 use Rattle.table_ops.specs.declared.parts.Parts.{Parts}
 use Rattle.table_ops.proofs.CountFacts.{items-fit, same-default, times-same, values-long}
-use Rattle.table_ops.proofs.ExpandFits.{expand-grid}
+use Rattle.kql_fit_laws.proofs.ExpandRows.{expand-grid}
 use Rattle.table_ops.proofs.InColumnFacts.{cell-there}
 use Rattle.table_ops.proofs.Transposed.{both-long, both-rows-made, columns_made, made-long, map-map}
 use Rattle.table_ops.proofs.ValueFacts.{item-fits}

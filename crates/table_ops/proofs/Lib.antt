@@ -5,5 +5,4 @@ pub mod ValueFacts
 pub mod CountFacts
 pub mod PartFacts
 pub mod DownFacts
-pub mod ExpandFits
 pub mod ExpandFacts
