@@ -3,11 +3,8 @@ use Rattle.std.specs.Prelude.{List, [], ◌∷◌, ◌++◌, Option, None, Some,
 use Rattle.kql_cells.specs.declared.schema.Column.{Column}
 use Rattle.kql_bound.specs.declared.plan.Op.{Op}
 use Rattle.kql_meaning.specs.Fits.{Known}
-use Rattle.plan_rules.specs.Rules.{bare_serialize, expand_then_filter, extend_then_filter, extend_then_take, group_then_filter, idle_projection, join_then_filter, join_then_right_filter, parse_then_filter, parse_then_take, project_then_filter, project_then_take, sort_then_filter, sort_then_take, top_then_take, true_filter, two_filters, two_projections, two_sorts, two_takes, unique_then_filter, unseen_then_count}
-
-abbrev pub first_some : {A : Type 0} → Option A → Option A → Option A
-first_some (Some a) o = Some a
-first_some None o = o
+use Rattle.plan_rules.specs.Rules.{bare_serialize, group_then_filter, idle_projection, join_then_right_filter, project_then_filter, sort_then_take, top_then_take, true_filter, two_filters, two_projections, two_sorts, two_takes, unseen_then_count}
+use Rattle.plan_swaps.specs.Swaps.{first_some, swap_rule}
 
 -- One operator.
 unfoldable pub single_rule : List Column → Op → Option (List Op)
@@ -22,25 +19,6 @@ merge_rule x y =
     (first_some (two_sorts x y)
     (first_some (two_projections x y)
     (first_some (unseen_then_count x y) (two_filters x y))))))
-
--- A filter that goes in front of its neighbour as it is.
-unfoldable pub filter_rule : List Column → Op → Op → Option (List Op)
-filter_rule cs x y =
-    first_some (extend_then_filter x y)
-    (first_some (sort_then_filter x y)
-    (first_some (expand_then_filter x y)
-    (first_some (parse_then_filter x y)
-    (first_some (join_then_filter cs x y) (unique_then_filter cs x y)))))
-
--- A `take` that goes in front of its neighbour.
-unfoldable pub take_rule : Op → Op → Option (List Op)
-take_rule x y =
-    first_some (extend_then_take x y)
-    (first_some (project_then_take x y) (parse_then_take x y))
-
--- Two neighbours that change places.
-unfoldable pub swap_rule : List Column → Op → Op → Option (List Op)
-swap_rule cs x y = first_some (take_rule x y) (filter_rule cs x y)
 
 -- A filter that goes in front of its neighbour, or into it, under other names.
 unfoldable pub rename_rule : Known → List Column → Op → Op → Option (List Op)

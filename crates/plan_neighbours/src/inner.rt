@@ -8,11 +8,11 @@ ghost use Rattle.plan_rules.specs.Reads.{reads_only, with_names};
 ghost use Rattle.plan_rules.specs.Rules.{chosen_items, group_then_filter, has_keys, item_expr, project_then_filter, renamed_item, two_projections, when};
 
 use crate::rules::one;
-use crate::views::{filter_of, group_of_op, project_of};
 use kql_bound::{BExpr, BItem, BItems, Op, Ops, clone_expr, clone_group, clone_items};
 use kql_cells::copy_names;
 use kql_columns::is_name_among;
 use kql_items::Items;
+use plan_swaps::{filter_of, group_of_op, project_of};
 use plan_terms::{are_plain, column_of, inner_names, is_plain, names_read, with_names};
 use std::alloc::{AllocError, Global};
 

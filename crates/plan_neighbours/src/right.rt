@@ -8,12 +8,12 @@ ghost use Rattle.plan_rules.specs.Reads.{reads_only, with_names};
 ghost use Rattle.plan_rules.specs.Rules.{is_right_name, join_then_right_filter, over_right, right_name, takes_right, when};
 
 use crate::rules::one;
-use crate::views::filter_of;
 use kql_bound::{BExpr, JoinKind, JoinPlan, Op, Ops, Plan, clone_join, clone_ops, clone_source};
 use kql_cells::{Column, NamedSchema};
 use kql_columns::has_column;
 use kql_items::Items;
 use plan_columns::plan_makes;
+use plan_swaps::filter_of;
 use plan_terms::{is_plain, names_read, reads_none, right_names, with_names};
 use std::alloc::{AllocError, Global};
 
@@ -120,7 +120,7 @@ fn over_right(
 
 // `join` of kind inner, innerunique, rightouter, rightsemi or rightanti, `where q`, q reads right columns alone: `where` of q with the
 // right names at the right plan's end.
-#[tactic(auto, using(crate::proofs::FrontViewSteps::join_steps), unfolding(plan_rules::specs::Rules::join_then_right_filter))]
+#[tactic(auto, using(plan_swaps::proofs::FrontViewSteps::join_steps), unfolding(plan_rules::specs::Rules::join_then_right_filter))]
 pub(crate) fn join_then_right_filter(
     alloc: Global,
     tables: &[NamedSchema],

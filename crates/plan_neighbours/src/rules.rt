@@ -1,22 +1,18 @@
 //! The rules: for each the function of its definition, in the order of the table.
-ghost use Rattle.std.specs.Prelude.{◌≡◌, ◌∷◌, ◌++◌, [], ◌||◌, IfOk, Some, is_some, min};
+ghost use Rattle.std.specs.Prelude.{◌≡◌, ◌∷◌, ◌++◌, [], IfOk, Some, min};
 ghost use Rattle.kql_bound.specs.declared.plan.Op.TheVariants as op;
 ghost use Rattle.kql_meaning.specs.Fits.{known_of};
 ghost use Rattle.kql_meaning.specs.FittingExpressions.{column_of, literal_of};
 ghost use Rattle.plan_rules.specs.Rules.{are_all_columns, bare_serialize, idle_projection, is_name, is_one_name, is_true_literal, is_true_value, sort_then_take, top_then_take, true_filter, two_sorts, two_takes, unseen_then_count};
-ghost use Rattle.plan_rules.specs.Views.{join_of, project_of};
-ghost use Rattle.plan_neighbours.specs.Table.{change_rule, filter_rule, merge_rule, rename_rule, single_rule, swap_rule, take_rule};
+ghost use Rattle.plan_neighbours.specs.Table.{change_rule, merge_rule, rename_rule, single_rule};
 
-use crate::filters::{
-    expand_then_filter, extend_then_filter, extend_then_take, join_then_filter, parse_then_filter,
-    parse_then_take, project_then_take, sort_then_filter, two_filters, unique_then_filter,
-};
+use crate::filters::two_filters;
 use crate::inner::{group_then_filter, project_then_filter, two_projections};
 use crate::right::join_then_right_filter;
-use crate::views::{filter_of, is_count, is_serialize, keeps_count, project_of, sort_of, take_of};
 use kql_bound::{BExpr, BItem, Keys, Op, Ops, clone_keys};
 use kql_cells::{Column, KText, NamedSchema, Value};
 use kql_items::Items;
+use plan_swaps::{filter_of, is_count, is_serialize, keeps_count, project_of, sort_of, take_of};
 use std::alloc::{AllocError, Global};
 
 pub(crate) fn one(alloc: Global, op: Op) -> Result<Ops, AllocError>
@@ -197,7 +193,7 @@ fn top_of_less(alloc: Global, n: u64, keys: &Keys, m: u64) -> Result<Option<Ops>
 }
 
 // `top n K`, `take m`: `top` of the less, K.
-#[tactic(auto, using(crate::proofs::ViewSteps::top_steps), unfolding(plan_rules::specs::Rules::top_then_take))]
+#[tactic(auto, using(plan_swaps::proofs::ViewSteps::top_steps), unfolding(plan_rules::specs::Rules::top_then_take))]
 fn top_then_take(alloc: Global, x: &Op, y: &Op) -> Result<Option<Ops>, AllocError>
     ensures rule { IfOk result (λ o. o ≡ top_then_take x.now y.now) }
 {
@@ -266,79 +262,6 @@ pub fn single_rule(alloc: Global, columns: &[Column], x: &Op) -> Option<Ops>
         return Some(made);
     }
     idle_projection(alloc, columns, x)
-}
-
-/// Whether the rules on an operator and the one behind it ask for the columns before it.
-#[tactic(auto, using(crate::proofs::FrontViewSteps::project_steps, crate::proofs::FrontViewSteps::join_steps))]
-pub fn asks_columns(x: &Op) -> bool
-    ensures asks { result ≡ (is_some (project_of x.now) || is_some (join_of x.now)) }
-{
-    match x {
-        Op::Where(_) => false,
-        Op::Extend(_) => false,
-        Op::Project(_) => true,
-        Op::Take(_) => false,
-        Op::Count => false,
-        Op::Serialize => false,
-        Op::Sort(_) => false,
-        Op::Top(_, _) => false,
-        Op::Summarize(_) => false,
-        Op::MakeSeries(_) => false,
-        Op::MvExpand(_) => false,
-        Op::Parse(_) => false,
-        Op::Join(_, _) => true,
-        Op::Union(_, _) => false,
-        Op::Scan(_) => false,
-        Op::Partition(_, _) => false,
-    }
-}
-
-// A filter that goes in front of its neighbour as it is.
-#[tactic(auto, using(crate::proofs::FireSteps::fire_steps), unfolding(crate::specs::Table::filter_rule))]
-fn filter_swaps(alloc: Global, columns: &[Column], x: &Op, y: &Op) -> Result<bool, AllocError>
-    ensures fires { IfOk result (λ b. b ≡ is_some (filter_rule columns.now x.now y.now)) }
-{
-    if extend_then_filter(alloc, x, y)? {
-        return Ok(true);
-    }
-    if sort_then_filter(x, y) {
-        return Ok(true);
-    }
-    if expand_then_filter(alloc, x, y)? {
-        return Ok(true);
-    }
-    if parse_then_filter(alloc, x, y)? {
-        return Ok(true);
-    }
-    if join_then_filter(alloc, columns, x, y)? {
-        return Ok(true);
-    }
-    unique_then_filter(alloc, columns, x, y)
-}
-
-// A `take` that goes in front of its neighbour.
-#[tactic(auto, using(crate::proofs::FireSteps::fire_steps), unfolding(crate::specs::Table::take_rule))]
-fn take_swaps(x: &Op, y: &Op) -> bool
-    ensures fires { result ≡ is_some (take_rule x.now y.now) }
-{
-    if extend_then_take(x, y) {
-        return true;
-    }
-    if project_then_take(x, y) {
-        return true;
-    }
-    parse_then_take(x, y)
-}
-
-/// Whether a rule fires by which two neighbours change places.
-#[tactic(auto, using(crate::proofs::FireSteps::fire_steps), unfolding(crate::specs::Table::swap_rule))]
-pub fn swaps(alloc: Global, columns: &[Column], x: &Op, y: &Op) -> Result<bool, AllocError>
-    ensures fires { IfOk result (λ b. b ≡ is_some (swap_rule columns.now x.now y.now)) }
-{
-    if take_swaps(x, y) {
-        return Ok(true);
-    }
-    filter_swaps(alloc, columns, x, y)
 }
 
 // Two neighbours that become one operator.

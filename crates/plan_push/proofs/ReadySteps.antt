@@ -7,7 +7,8 @@ use Rattle.kql_meaning.specs.Fits.{Known}
 use Rattle.plan_columns.specs.Made.{ops_make}
 use Rattle.plan_rules.specs.Rules.{both_of, bare_serialize, expand_then_filter, extend_then_filter, group_then_filter, idle_projection, join_then_filter, join_then_right_filter, parse_then_filter, project_then_filter, sort_then_filter, true_filter, unique_then_filter}
 use Rattle.plan_rules.specs.Views.{filter_of, join_of, project_of}
-use Rattle.plan_neighbours.specs.Table.{change_rule, filter_rule, first_some, merge_rule, rename_rule, single_rule, swap_rule, take_rule}
+use Rattle.plan_neighbours.specs.Table.{change_rule, merge_rule, rename_rule, single_rule}
+use Rattle.plan_swaps.specs.Swaps.{filter_rule, first_some, swap_rule, take_rule}
 use Rattle.plan_push.proofs.PlaceSteps.{found-here}
 use Rattle.plan_push.specs.Walk.{Begun, Found, Ready, Walk, next_change, next_swaps}
 

@@ -11,7 +11,8 @@ use Rattle.plan_rules.proofs.RuleLaws.{bare_serialize_law, expand_then_filter_la
 use Rattle.plan_rules.proofs.Weights.{ops-lighter-before, ops-lighter-behind}
 use Rattle.plan_rules.specs.Improves.{Improves}
 use Rattle.plan_rules.specs.Rules.{bare_serialize, expand_then_filter, extend_then_filter, extend_then_take, group_then_filter, idle_projection, join_then_filter, join_then_right_filter, parse_then_filter, parse_then_take, project_then_filter, project_then_take, sort_then_filter, sort_then_take, top_then_take, true_filter, two_filters, two_projections, two_sorts, two_takes, unique_then_filter, unseen_then_count}
-use Rattle.plan_neighbours.specs.Table.{change_rule, filter_rule, first_some, merge_rule, rename_rule, single_rule, swap_rule, take_rule}
+use Rattle.plan_neighbours.specs.Table.{change_rule, merge_rule, rename_rule, single_rule}
+use Rattle.plan_swaps.specs.Swaps.{filter_rule, first_some, swap_rule, take_rule}
 
 pub improves-append : (k : Known) (inside : Bool) (cs : List Column) (xs ys behind : List Op) → Improves k inside cs xs ys → Improves k inside cs (xs ++ behind) (ys ++ behind)
 improves-append k inside cs xs ys behind h = record {

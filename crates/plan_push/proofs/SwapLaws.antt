@@ -7,7 +7,7 @@ use Rattle.plan_rules.proofs.RuleViews.{both-some, expand-is, extend-is, filter-
 use Rattle.plan_rules.specs.Rules.{both_of, expand_then_filter, extend_then_filter, extend_then_take, join_then_filter, parse_then_filter, parse_then_take, project_then_take, sort_then_filter, unique_then_filter, when}
 use Rattle.plan_rules.specs.Views.{expand_of, extend_of, filter_of, join_of, parse_of, project_of, sort_of, take_of}
 use Rattle.plan_push.proofs.RuleTable.{either-some}
-use Rattle.plan_neighbours.specs.Table.{filter_rule, first_some, swap_rule, take_rule}
+use Rattle.plan_swaps.specs.Swaps.{filter_rule, first_some, swap_rule, take_rule}
 
 -- A rule on two views whose operators are the two turned round.
 swapped : {A B : Type 0} (a : Option A) (b : Option B) (test : A → B → Bool) (first : B → Op) (second : A → Op) (x y : Op) (zs : List Op) → ((v : A) → a ≡ Some v → x ≡ second v) → ((w : B) → b ≡ Some w → y ≡ first w) → both_of a b (λ v w. when (test v w) (first w ∷ second v ∷ [])) ≡ Some zs → zs ≡ y ∷ x ∷ []

@@ -12,7 +12,8 @@ use Rattle.plan_columns.proofs.MadeLaws.{op-makes, ops-none, ops-one}
 use Rattle.plan_rules.proofs.Context.{becomes-then, columns-append, columns-cons, lost}
 use Rattle.plan_rules.specs.Improves.{Improves}
 use Rattle.plan_rules.specs.Weight.{ops_weight}
-use Rattle.plan_neighbours.specs.Table.{change_rule, first_some, pair_rule, rule_at, single_rule, swap_rule}
+use Rattle.plan_neighbours.specs.Table.{change_rule, pair_rule, rule_at, single_rule}
+use Rattle.plan_swaps.specs.Swaps.{first_some, swap_rule}
 use Rattle.plan_push.proofs.PlaceSteps.{begun-back, begun-first, begun-pass, same-ends}
 use Rattle.plan_push.proofs.ReadySteps.{Here, change-here, swaps-here}
 use Rattle.plan_push.proofs.RuleTable.{change_rule-improves, improves-append, improves-behind, single_rule-improves, swap_rule-improves}

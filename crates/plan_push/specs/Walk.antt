@@ -7,7 +7,8 @@ use Rattle.plan_columns.specs.Made.{op_makes, ops_make}
 use Rattle.plan_rules.specs.Improves.{Improves}
 use Rattle.plan_rules.specs.Weight.{ops_weight}
 use Rattle.plan_push.specs.Settled.{if_known}
-use Rattle.plan_neighbours.specs.Table.{change_rule, pair_rule, rule_at, single_rule, swap_rule}
+use Rattle.plan_neighbours.specs.Table.{change_rule, pair_rule, rule_at, single_rule}
+use Rattle.plan_swaps.specs.Swaps.{swap_rule}
 
 -- The columns before each operator, and those behind the last.
 unfoldable pub places : List Op → Known → List Column → List (List Column)

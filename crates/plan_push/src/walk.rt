@@ -12,7 +12,8 @@ use kql_bound::{Op, Ops, clone_op};
 use kql_cells::{Column, NamedSchema, copy_columns};
 use kql_items::Items;
 use plan_columns::op_makes;
-use plan_neighbours::{asks_columns, change_rule, single_rule, swaps};
+use plan_neighbours::{change_rule, single_rule};
+use plan_swaps::{asks_columns, swaps};
 use std::alloc::{AllocError, Global};
 
 pub(crate) fn either(a: bool, b: bool) -> bool

@@ -7,7 +7,7 @@ use kql_bound::{BExpr, BItems, Expand, GroupPlan, Keys, Op, ParsePlan};
 
 /// The predicate of a filter.
 #[tactic(auto, using(crate::proofs::ViewSteps::filter_steps))]
-pub(crate) fn filter_of(op: &Op) -> Option<&BExpr>
+pub fn filter_of(op: &Op) -> Option<&BExpr>
     ensures view { option_copied result ≡ filter_of op.now }
 {
     match op {
@@ -32,7 +32,7 @@ pub(crate) fn filter_of(op: &Op) -> Option<&BExpr>
 
 /// The number of a `take`.
 #[tactic(auto, using(crate::proofs::ViewSteps::take_steps))]
-pub(crate) fn take_of(op: &Op) -> Option<u64>
+pub fn take_of(op: &Op) -> Option<u64>
     ensures view { result ≡ take_of op.now }
 {
     match op {
@@ -57,7 +57,7 @@ pub(crate) fn take_of(op: &Op) -> Option<u64>
 
 /// The keys of a `sort`.
 #[tactic(auto, using(crate::proofs::ViewSteps::sort_steps))]
-pub(crate) fn sort_of(op: &Op) -> Option<&Keys>
+pub fn sort_of(op: &Op) -> Option<&Keys>
     ensures view { option_copied result ≡ sort_of op.now }
 {
     match op {
@@ -82,7 +82,7 @@ pub(crate) fn sort_of(op: &Op) -> Option<&Keys>
 
 /// What a `parse` takes.
 #[tactic(auto, using(crate::proofs::ViewSteps::parse_steps))]
-pub(crate) fn parse_of(op: &Op) -> Option<&ParsePlan>
+pub fn parse_of(op: &Op) -> Option<&ParsePlan>
     ensures view { option_copied result ≡ parse_of op.now }
 {
     match op {
@@ -107,7 +107,7 @@ pub(crate) fn parse_of(op: &Op) -> Option<&ParsePlan>
 
 /// Whether this is a `count`.
 #[tactic(auto, using(crate::proofs::ViewSteps::count_steps))]
-pub(crate) fn is_count(op: &Op) -> bool
+pub fn is_count(op: &Op) -> bool
     ensures view { result ≡ is_count op.now }
 {
     match op {
@@ -132,7 +132,7 @@ pub(crate) fn is_count(op: &Op) -> bool
 
 /// Whether this is a bare `serialize`.
 #[tactic(auto, using(crate::proofs::ViewSteps::serialize_steps))]
-pub(crate) fn is_serialize(op: &Op) -> bool
+pub fn is_serialize(op: &Op) -> bool
     ensures view { result ≡ is_serialize op.now }
 {
     match op {
@@ -157,7 +157,7 @@ pub(crate) fn is_serialize(op: &Op) -> bool
 
 /// Whether a count does not see it.
 #[tactic(auto, using(crate::proofs::ViewSteps::keeps_steps))]
-pub(crate) fn keeps_count(op: &Op) -> bool
+pub fn keeps_count(op: &Op) -> bool
     ensures view { result ≡ keeps_count op.now }
 {
     match op {
@@ -182,7 +182,7 @@ pub(crate) fn keeps_count(op: &Op) -> bool
 
 /// The items of an `extend`.
 #[tactic(auto, using(crate::proofs::FrontViewSteps::extend_steps))]
-pub(crate) fn extend_of(op: &Op) -> Option<&BItems>
+pub fn extend_of(op: &Op) -> Option<&BItems>
     ensures view { option_copied result ≡ extend_of op.now }
 {
     match op {
@@ -207,7 +207,7 @@ pub(crate) fn extend_of(op: &Op) -> Option<&BItems>
 
 /// The items of a `project`.
 #[tactic(auto, using(crate::proofs::FrontViewSteps::project_steps))]
-pub(crate) fn project_of(op: &Op) -> Option<&BItems>
+pub fn project_of(op: &Op) -> Option<&BItems>
     ensures view { option_copied result ≡ project_of op.now }
 {
     match op {
@@ -232,7 +232,7 @@ pub(crate) fn project_of(op: &Op) -> Option<&BItems>
 
 /// What an `mv-expand` takes.
 #[tactic(auto, using(crate::proofs::FrontViewSteps::expand_steps))]
-pub(crate) fn expand_of(op: &Op) -> Option<&Expand>
+pub fn expand_of(op: &Op) -> Option<&Expand>
     ensures view { option_copied result ≡ expand_of op.now }
 {
     match op {
@@ -257,7 +257,7 @@ pub(crate) fn expand_of(op: &Op) -> Option<&Expand>
 
 /// What a `summarize` takes.
 #[tactic(auto, using(crate::proofs::FrontViewSteps::group_steps))]
-pub(crate) fn group_of_op(op: &Op) -> Option<&GroupPlan>
+pub fn group_of_op(op: &Op) -> Option<&GroupPlan>
     ensures view { option_copied result ≡ group_of_op op.now }
 {
     match op {

@@ -3,7 +3,7 @@ use Rattle.std.proofs.Common.{◌≡◌, Bool, true, false, List, refl}
 use Rattle.std.specs.Prelude.{◌||◌, Option, None, Some, is_some}
 use Rattle.kql_bound.specs.declared.plan.Op.{Op}
 use Rattle.plan_rules.specs.Rules.{when}
-use Rattle.plan_neighbours.specs.Table.{first_some}
+use Rattle.plan_swaps.specs.Swaps.{first_some}
 
 pub some-when : (b : Bool) (zs : List Op) → is_some (when b zs) ≡ b
 some-when true zs = refl

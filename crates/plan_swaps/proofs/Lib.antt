@@ -1,0 +1,3 @@
+pub mod FireSteps
+pub mod FrontViewSteps
+pub mod ViewSteps
