@@ -34,7 +34,7 @@ of_queries =
     (codes "union" ∷ [], queries.UNION.now) ∷
     (codes "columns" ∷ codes "names" ∷ [], queries.COLUMNS.now) ∷
     (codes "tables" ∷ [], queries.TABLES.now) ∷
-    (codes "kusto" ∷ codes "iif" ∷ codes "notnull" ∷ codes "notempty" ∷ codes "int" ∷ codes "real" ∷ codes "double" ∷ codes "decimal" ∷ codes "guid" ∷ codes "toint" ∷ codes "toreal" ∷ codes "todouble" ∷ codes "todecimal" ∷ codes "toguid" ∷ codes "avg" ∷ codes "avgif" ∷ codes "dcount" ∷ codes "dcountif" ∷ codes "percentile" ∷ codes "percentiles" ∷ codes "stdev" ∷ codes "stdevif" ∷ codes "variance" ∷ codes "varianceif" ∷ codes "hll" ∷ codes "tdigest" ∷ codes "sqrt" ∷ codes "pow" ∷ codes "exp" ∷ codes "log" ∷ codes "log10" ∷ codes "round" ∷ codes "rand" ∷ codes "series_stats" ∷ codes "any" ∷ codes "makelist" ∷ codes "makeset" ∷ codes "pack" ∷ codes "matches" ∷ codes "regex" ∷ codes "extract" ∷ codes "has_any" ∷ codes "has_all" ∷ codes "hasprefix" ∷ codes "hassuffix" ∷ codes "trim" ∷ codes "countof" ∷ codes "format_datetime" ∷ codes "toscalar" ∷ codes "materialize" ∷ codes "as" ∷ codes "datatable" ∷ codes "externaldata" ∷ codes "search" ∷ codes "find" ∷ codes "filter" ∷ codes "sample" ∷ codes "mv-apply" ∷ codes "mvexpand" ∷ codes "project-reorder" ∷ codes "parse-where" ∷ codes "render" ∷ codes "evaluate" ∷ codes "invoke" ∷ codes "facet" ∷ codes "fork" ∷ codes "reduce" ∷ codes "getschema" ∷ codes "consume" ∷ codes "top-nested" ∷ codes "top-hitters" ∷ codes "row_rank_min" ∷ codes "row_rank_dense" ∷ codes "row_window_session" ∷ codes "extract_json" ∷ codes "leftantisemi" ∷ codes "anti" ∷ codes "pivot" ∷ codes "database" ∷ codes "sample-distinct" ∷ [], queries.KUSTO.now) ∷
+    (codes "kusto" ∷ codes "iif" ∷ codes "notnull" ∷ codes "notempty" ∷ codes "int" ∷ codes "real" ∷ codes "double" ∷ codes "decimal" ∷ codes "guid" ∷ codes "toint" ∷ codes "toreal" ∷ codes "todouble" ∷ codes "todecimal" ∷ codes "toguid" ∷ codes "avg" ∷ codes "avgif" ∷ codes "dcount" ∷ codes "dcountif" ∷ codes "percentile" ∷ codes "percentiles" ∷ codes "stdev" ∷ codes "stdevif" ∷ codes "variance" ∷ codes "varianceif" ∷ codes "hll" ∷ codes "tdigest" ∷ codes "sqrt" ∷ codes "pow" ∷ codes "exp" ∷ codes "log" ∷ codes "log10" ∷ codes "round" ∷ codes "rand" ∷ codes "series_stats" ∷ codes "any" ∷ codes "makelist" ∷ codes "makeset" ∷ codes "pack" ∷ codes "matches" ∷ codes "regex" ∷ codes "extract" ∷ codes "has_any" ∷ codes "has_all" ∷ codes "hasprefix" ∷ codes "hassuffix" ∷ codes "trim" ∷ codes "countof" ∷ codes "format_datetime" ∷ codes "toscalar" ∷ codes "materialize" ∷ codes "as" ∷ codes "datatable" ∷ codes "externaldata" ∷ codes "search" ∷ codes "find" ∷ codes "filter" ∷ codes "sample" ∷ codes "mv-apply" ∷ codes "mvexpand" ∷ codes "project-reorder" ∷ codes "parse-where" ∷ codes "render" ∷ codes "evaluate" ∷ codes "invoke" ∷ codes "facet" ∷ codes "fork" ∷ codes "reduce" ∷ codes "getschema" ∷ codes "consume" ∷ codes "top-nested" ∷ codes "top-hitters" ∷ codes "row_rank_min" ∷ codes "row_rank_dense" ∷ codes "row_window_session" ∷ codes "extract_json" ∷ codes "leftantisemi" ∷ codes "anti" ∷ codes "pivot" ∷ codes "bag_unpack" ∷ codes "database" ∷ codes "sample-distinct" ∷ [], queries.KUSTO.now) ∷
     []
 
 -- the operators of tables

@@ -42,7 +42,8 @@ pub(crate) const BAD_LENGTH: &str = "\
 A row has another number of fields than the header; the column is the number of
 its fields.
 
-Put a cell that holds a comma or a line end between double quotes.
+Put a cell that holds a comma or a line end between double quotes. A row is a
+record: a quote that is not closed runs to the file's end.
 ";
 
 pub(crate) const BAD_CELL: &str = "\

@@ -12,7 +12,8 @@ No column, constant or step column has that name.
 Look at the spelling: names are compared by bytes, so X is not x; a name that is
 no word is written ['a b'], and a text stands in quotes. An item reads the row as
 it came: extend y = x, z = y is extend y = x | extend z = y. Behind summarize and
-project only their columns are left.
+project only their columns are left. A header's field ms:Long is a name as a
+whole, since types are in lower case.
 ";
 
 pub(crate) const UNKNOWN_FUNCTION: &str = "\
@@ -31,14 +32,18 @@ pub(crate) const WRONG_ARGUMENTS: &str = "\
 403 WrongArguments
 
 The function takes another number of arguments, or no such argument: some must
-be a constant, a column alone or a known part word, and a * is for few.
+be a constant, a column alone or a known part word, and a * is for few. At an
+operator's name: a count, a default or a bound that is no constant, an item of
+summarize that reads a column outside of an aggregate, or an item of make-series
+that is not one aggregate alone.
 
     T | extend y = abs(x, x)                   at abs
     T | extend y = datetime_add(\"fortnight\", 1, t)    at datetime_add
     T | summarize arg_max(x, s) + 1            at arg_max
 
 Give the arguments that the function takes; name the result of a call of several
-columns in an operator of its own.
+columns in an operator of its own. The keys of summarize stand behind by:
+summarize count() by host.
 ";
 
 pub(crate) const WRONG_TYPE: &str = "\
@@ -58,7 +63,9 @@ s:long; two dynamic values are compared when one of them is converted.
 pub(crate) const UNSUPPORTED_TYPE: &str = "\
 405 UnsupportedType
 
-The language leaves out this type: int, real, double, decimal or guid.
+The language leaves out this type: int, real, double, decimal or guid. Where a
+type stands it is bool, long, string, datetime, timespan or dynamic, in lower
+case.
 
     T | where x > int(5)                       at int
 

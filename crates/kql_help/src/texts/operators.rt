@@ -157,10 +157,11 @@ any piece, and a column NAME or NAME:TYPE takes its piece, as a string unless a
 type is given. In kind simple, the default, a piece must read as its column's
 type; where there is no cut all new columns are absent. In kind relaxed a piece
 that does not read is null. The earliest ends are taken, compared from the left.
-A long column directly before * has the longest number that stands there, or the
-empty piece. The rows keep their order; columns are placed as by extend. A
-datetime before a string of one blank ends at its date: take the date and the
-clock apart, and put them together by todatetime(strcat(date, \" \", clock)).
+A long column directly before * has the longest number that stands there, one
+too great for a long too, or the empty piece. The rows keep their order; columns
+are placed as by extend. A datetime before a string of one blank ends at its
+date: take the date and the clock apart, and put them together by
+todatetime(strcat(date, \" \", clock)).
 
     P | parse m with * \"id=\" Id:long \" \" Rest | project Id, Rest
 ";

@@ -5,18 +5,18 @@ use crate::topic::Topic;
 pub(crate) const OVERVIEW: &str = "\
 kql help TOPIC tells of one of these; kql --help has the words of the command.
 
-    commands     run, plain, explain, trial
-    a query      query, literals, let, range, print, union, columns; kusto has what
+    Commands:    run, plain, explain, trial
+    Queries:     query, literals, let, range, print, union, columns; kusto has what
                  to write for what Kusto has and this language has not
-    operators    where, extend, project, project-away, project-keep,
+    Operators:   where, extend, project, project-away, project-keep,
                  project-rename, take, limit, count, sort, order, top, distinct,
                  summarize, make-series, mv-expand, parse, join, lookup, union,
                  serialize, scan, partition
-    values       functions names them all, and of them operators, searches, nulls,
+    Values:      functions names them all, and of them operators, searches, nulls,
                  numbers, conversions, strings, datetimes, dynamic, window and
                  aggregates
-    files        tables
-    refusals     codes names them all, and each code, as kql help 404
+    Files:       tables
+    Refusals:    codes names them all, and each code, as kql help 404
 ";
 
 pub(crate) const CODES: &str = "\

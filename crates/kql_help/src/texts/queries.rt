@@ -140,8 +140,8 @@ An item n = E gives the column n. Without a name it gives
     an item of print                          print_0, print_1 and so on
     count(), countif(p)                       count_, countif_
     sum(x) and the like of a column           sum_x; of another expression sum_
-    make_list(x), make_list_if                list_x
-    make_set(x), make_set_if                  set_x
+    make_list(x), make_list_if of a column    list_x
+    make_set(x), make_set_if of a column      set_x
     arg_max(e, c, ..), arg_min                the names of the columns, e's first
     take_any(c, ..)                           the names of the columns
     anything else                             Column1, Column2 and so on
@@ -174,6 +174,9 @@ What differs from Kusto, and what to write instead
     row_rank_dense, row_rank_min, row_window_session
                                  row_number, row_cumsum, scan
     x in (T | project y)         join kind=leftsemi (T) on $left.x == $right.y
+    x in (dynamic([..]))         set_has_element(dynamic([..]), x)
+    let ids = ..; x in (ids)     join kind=leftsemi (ids) on x
+    (T | ..) | count             T | .. | count
     join kind=leftantisemi       join kind=leftanti
     toscalar(T | ..)             lookup (T | ..) on a column that is 1 on both sides
     materialize(T | ..), as A    let A = T | ..;
@@ -185,6 +188,7 @@ What differs from Kusto, and what to write instead
     project-reorder, wildcards   project, with each name
     parse-where, kind=regex      parse, and where behind it
     evaluate pivot(s)            summarize with a countif for each value
+    evaluate bag_unpack(d)       extend a = d.a, b = d.b
     render                       nothing: the answer is CSV
     invoke, facet, fork, reduce, getschema, consume, sample-distinct, top-nested,
     top-hitters                  nothing
@@ -206,7 +210,8 @@ are names, or NAME:TYPE; a field without a type is a column of strings.
     bool         true or false, in any case
     long         -9223372036854775808 to 9223372036854775807
     string       the text of the cell
-    datetime     2024-03-01, with T or a space and 10:04, :59, .9999999, and Z
+    datetime     2024-03-01; or with T or a space and 10:04, 10:04:59 or
+                 10:04:59.9999999, and then Z or none
     timespan     [-][d.]hh:mm:ss[.fffffff], or a number with d, h, m, s, ms,
                  microsecond or tick
     dynamic      JSON; any other text is that text as a dynamic value
@@ -346,6 +351,7 @@ pub(crate) const TOPICS: &[Topic] = &[
             "leftantisemi",
             "anti",
             "pivot",
+            "bag_unpack",
             "database",
             "sample-distinct",
         ],

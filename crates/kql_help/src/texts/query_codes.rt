@@ -9,8 +9,9 @@ A byte here begins no token, or is not UTF-8, in a string or a comment too.
 
     T | where x # 5                            at #
 
-Remove it, or save the query file in UTF-8. A name that is no word is written
-['a b'], and ! before an expression not(..).
+Remove it, or save the query file in UTF-8, without a byte order mark. It may be
+invisible, as a no-break space. A name that is no word is written ['a b'], and !
+before an expression not(..).
 ";
 
 pub(crate) const OPEN_TEXT: &str = "\

@@ -121,7 +121,8 @@ Dynamic values; where an array or a bag is wanted and another value given: null
         bag_merge(dynamic({\"a\":1}), dynamic({\"a\":2,\"b\":3})) is {\"a\":1,\"b\":3}
     pack_array(x, ..)            the array of its arguments, nulls among them
         pack_array(1, long(null), \"x\") is [1,null,\"x\"]
-    bag_pack(s, x, ..)           the bag of keys and values; a later key replaces
+    bag_pack(s, x, ..)           the bag of keys and values, nulls among them; a
+                                 later key replaces
         bag_pack(\"k\", 1, \"k\", 2) is {\"k\":2}
     set_union set_intersect set_difference (d, d)
                                  distinct elements by first occurrence: of both; of

@@ -13,7 +13,7 @@ There is no word behind kql.
 pub(crate) const UNKNOWN_COMMAND: &str = "\
 602 UnknownCommand
 
-The first word is not run, plain, explain or trial.
+The first word is not run, plain, explain or trial, nor help or --version.
 
     kql walk q                                 at word 0
 
