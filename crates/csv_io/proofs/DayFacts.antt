@@ -1,6 +1,6 @@
 -- Datetimes of a day that is known.
 use Rattle.std.proofs.Common.{◌≡◌, ◌≤◌, ◌<◌, ◌+◌, ◌-◌, ◌*◌, ◌/◌, ◌%◌, ◌==◌, ◌&&◌, ◌∙◌, ℕ, zero, suc, Bool, true, false, eqb, List, [], ◌∷◌, length, length-drop, length-take, drop, take, get_or, map, refl, sym, ap, subst, arith, inl, inr, of_z, to_z, w64, FitsSigned}
-use Rattle.std.specs.Prelude.{◌+ℤ◌, ℤ, pos, Option, Some, None, nat_lt}
+use Rattle.std.specs.Prelude.{◌+ℤ◌, ℤ, pos, Option, Some, None, nat_lt, option_map}
 use Rattle.std.specs.List.{range_with_len}
 use Rattle.std.proofs.lemmas.Bool.{cases_Bool, eqb-true}
 use Rattle.std.proofs.lemmas.Bool.Decides.{nat_tests}
@@ -9,7 +9,8 @@ use Rattle.std.proofs.lemmas.List.{drop_all, drop_more, take_all}
 use lib.Pointwise.{pointwise}
 use Rattle.csv_io.specs.Days.{IsDay, IsPair, IsTicksOf, has_marks}
 use Rattle.kql_cells.specs.Values.{IsMoment}
-use Rattle.kql_ticks.specs.Forms.{before_z, date_in, fraction_in, minutes_in, moment_in, seconds_in, time_in, time_of_day_in}
+use Rattle.kql_ticks.specs.Forms.{date_in, fraction_in, long_time_in, minutes_in, moment_in, seconds_in, ticks_in_range, time_in, time_of_day_in, zone_in, zoned_in}
+use Rattle.kql_ticks.proofs.ZoneLaws.{tick-is, ticks_are}
 use Rattle.kql_ticks.specs.Numbers.{number, share, value}
 
 below : (n m : ℕ) → n < m → nat_lt n m ≡ true
@@ -34,10 +35,23 @@ seven-share a b c d e f g p q r s n w x y z is =
 time-full : (a b c d e f g h i j k l m hours minutes seconds p q r s : ℕ) → IsPair a b hours → IsPair c d minutes → IsPair e f seconds
     → IsPair g h p → IsPair i j q → IsPair k l r → IsPair 48 m s → hours < 24 → minutes < 60 → seconds < 60
     → time_of_day_in (84 ∷ a ∷ b ∷ 58 ∷ c ∷ d ∷ 58 ∷ e ∷ f ∷ 46 ∷ g ∷ h ∷ i ∷ j ∷ k ∷ l ∷ m ∷ 90 ∷ [])
-    ≡ Some (36000000000 * hours + 600000000 * minutes + (10000000 * seconds + (1000 * (100 * p + q) + (10 * r + s))))
-unfolding time_of_day_in before_z time_in minutes_in seconds_in fraction_in
+    ≡ Some (pos (36000000000 * hours + 600000000 * minutes + (10000000 * seconds + (1000 * (100 * p + q) + (10 * r + s)))))
+unfolding time_of_day_in zoned_in zone_in long_time_in time_in minutes_in seconds_in fraction_in
 time-full a b c d e f g h i j k l m hours minutes seconds p q r s wh wm ws wp wq wr wz lh lm ls =
     rw (
+      wh.0,
+      wh.1,
+      wm.0,
+      wm.1,
+      ws.0,
+      ws.1,
+      wp.0,
+      wp.1,
+      wq.0,
+      wq.1,
+      wr.0,
+      wr.1,
+      wz.1,
       pair-number a b hours wh,
       pair-number c d minutes wm,
       pair-number e f seconds ws,
@@ -45,7 +59,7 @@ time-full a b c d e f g h i j k l m hours minutes seconds p q r s wh wm ws wp wq
       below hours 24 lh,
       below minutes 60 lm,
       below seconds 60 ls,
-    ) refl
+    ) (ap Some (omega (arith, ints)))
 
 -- a list by its elements
 spelled : (t : List ℕ) (n k : ℕ) → k + n ≡ length t → drop k t ≡ map (λ i. get_or t i 0) (range_with_len k n)
@@ -64,7 +78,7 @@ pub time-at : (t : List ℕ) (hours minutes seconds p q r s : ℕ) → length t 
     → IsPair (get_or t 1 0) (get_or t 2 0) hours → IsPair (get_or t 4 0) (get_or t 5 0) minutes → IsPair (get_or t 7 0) (get_or t 8 0) seconds
     → IsPair (get_or t 10 0) (get_or t 11 0) p → IsPair (get_or t 12 0) (get_or t 13 0) q → IsPair (get_or t 14 0) (get_or t 15 0) r → IsPair 48 (get_or t 16 0) s
     → hours < 24 → minutes < 60 → seconds < 60
-    → time_of_day_in t ≡ Some (36000000000 * hours + 600000000 * minutes + (10000000 * seconds + (1000 * (100 * p + q) + (10 * r + s))))
+    → time_of_day_in t ≡ Some (pos (36000000000 * hours + 600000000 * minutes + (10000000 * seconds + (1000 * (100 * p + q) + (10 * r + s)))))
 time-at t hours minutes seconds p q r s size marks wh wm ws wp wq wr wz lh lm ls =
     let m = all-five (get_or t 0 0 == 84) (get_or t 3 0 == 58) (get_or t 6 0 == 58) (get_or t 9 0 == 46) (get_or t 17 0 == 90) marks in
     let e0 = eqb-true (get_or t 0 0) 84 m.0 in
@@ -77,24 +91,31 @@ time-at t hours minutes seconds p q r s size marks wh wm ws wp wq wr wz lh lm ls
     (get_or t 13 0) (get_or t 14 0) (get_or t 15 0) (get_or t 16 0) hours minutes seconds p q r s wh wm ws wp wq wr wz lh lm ls)
 
 -- the day of a date, and a time of it
-moment-bound : (d c : ℕ) → IsMoment (pos (864000000000 * d + 0)) → c < 864000000000 → IsMoment (pos (864000000000 * d + 0 + c))
-moment-bound d c h lt = (omega (arith, ints, h.0), omega (arith, ints, h.1))
+day-of : (d : ℕ) (x : ℤ) → option_map pos (ticks_in_range (pos (864000000000 * d) +ℤ pos 0)) ≡ Some x → (x ≡ pos (864000000000 * d)) × (864000000000 * d ≤ 3155378975999999999)
+day-of d x e =
+    let plain : pos (864000000000 * d) +ℤ pos 0 ≡ pos (864000000000 * d) = omega (arith, ints) in
+    tick-is (864000000000 * d) x (rw plain at e)
 
-day-some : (t : List ℕ) (d c : ℕ) → date_in (take 10 t) ≡ Some d → IsMoment (pos (864000000000 * d + 0)) → time_of_day_in (drop 10 t) ≡ Some c → c < 864000000000
-    → IsTicksOf t (pos (864000000000 * d + 0) +ℤ pos c)
+moment-bound : (d c : ℕ) → 864000000000 * d ≤ 3155378975999999999 → c < 864000000000 → IsMoment (pos (864000000000 * d) +ℤ pos c)
+moment-bound d c h lt = (omega (arith, ints), omega (arith, ints))
+
+day-some : (t : List ℕ) (d c : ℕ) → date_in (take 10 t) ≡ Some d → 864000000000 * d ≤ 3155378975999999999 → time_of_day_in (drop 10 t) ≡ Some (pos c) → c < 864000000000
+    → IsTicksOf t (pos (864000000000 * d) +ℤ pos c)
 unfolding moment_in
-day-some t d c e h time lt = (rw (e, time) (ap (λ n. Some (pos n)) (omega arith)), moment-bound d c h lt)
+day-some t d c e h time lt =
+    let sum : pos (864000000000 * d) +ℤ pos c ≡ pos (864000000000 * d + c) = omega (arith, ints) in
+    (rw (e, time, ticks_are (pos (864000000000 * d) +ℤ pos c) (864000000000 * d + c) sum (omega arith)) (ap Some (sym sum)), moment-bound d c h lt)
 
-day-by : (t : List ℕ) (x : ℤ) (c : ℕ) (o : Option ℕ) → date_in (take 10 t) ≡ o → length (take 10 t) ≤ 10 → IsTicksOf (take 10 t) x → time_of_day_in (drop 10 t) ≡ Some c → c < 864000000000 → IsTicksOf t (x +ℤ pos c)
+day-by : (t : List ℕ) (x : ℤ) (c : ℕ) (o : Option ℕ) → date_in (take 10 t) ≡ o → length (take 10 t) ≤ 10 → IsTicksOf (take 10 t) x → time_of_day_in (drop 10 t) ≡ Some (pos c) → c < 864000000000 → IsTicksOf t (x +ℤ pos c)
 unfolding moment_in time_of_day_in
 day-by t x c None e size h time lt =
     let q = rw (take_all 10 (take 10 t) size, e) at h.0 in cc q
 day-by t x c (Some d) e size h time lt =
     let q = rw (take_all 10 (take 10 t) size, drop_all 10 (take 10 t) size, e) at h.0 in
-    let is : pos (864000000000 * d + 0) ≡ x = cc q in
-    subst (λ z. IsTicksOf t (z +ℤ pos c)) is (day-some t d c e (subst IsMoment (sym is) h.1) time lt)
+    let day = day-of d x q in
+    subst (λ z. IsTicksOf t (z +ℤ pos c)) (sym day.0) (day-some t d c e day.1 time lt)
 
-pub day-time : (t : List ℕ) (x : ℤ) (c : ℕ) → length (take 10 t) ≤ 10 → IsTicksOf (take 10 t) x → time_of_day_in (drop 10 t) ≡ Some c → c < 864000000000 → IsTicksOf t (x +ℤ pos c)
+pub day-time : (t : List ℕ) (x : ℤ) (c : ℕ) → length (take 10 t) ≤ 10 → IsTicksOf (take 10 t) x → time_of_day_in (drop 10 t) ≡ Some (pos c) → c < 864000000000 → IsTicksOf t (x +ℤ pos c)
 day-time t x c size h time lt = day-by t x c (date_in (take 10 t)) refl size h time lt
 
 -- lists whose elements are equal
@@ -120,7 +141,7 @@ sum-plain x n m lt =
     rw (to_z-of_z w64 x fx, time) (to_z-of_z w64 (x +ℤ pos n) fs)
 
 pub ticks-known : (text date : List ℕ) (start : Option ℤ) (x : ℤ) (n : ℕ) (b : Bool) → length text ≡ 28 → start ≡ Some x → IsDay date start → b ≡ pointwise eqb (take 10 text) date → b ≡ true
-    → time_of_day_in (take (length text - 10) (drop 10 text)) ≡ Some n → n < 864000000000 → IsTicksOf text (to_z w64 (of_z w64 (to_z w64 (of_z w64 x) +ℤ to_z w64 n)))
+    → time_of_day_in (take (length text - 10) (drop 10 text)) ≡ Some (pos n) → n < 864000000000 → IsTicksOf text (to_z w64 (of_z w64 (to_z w64 (of_z w64 x) +ℤ to_z w64 n)))
 ticks-known text date start x n b size some day same held time lt =
     let equal = same-lists (take 10 text) date (sym same ∙ held) in
     let known = subst (λ l. IsTicksOf l x) (sym equal) (day-known date start x some day) in

@@ -8,7 +8,8 @@ use Rattle.std.proofs.lemmas.List.Folds.{list_any_none}
 use Rattle.std.proofs.lemmas.List.Sums.{suffix_len_is}
 use Rattle.std.proofs.lemmas.Grind.{get_or_default_zero}
 use Rattle.csv.specs.Records.{field_at}
-use Rattle.csv_io.specs.Cells.{FitsKind, read_filled}
+use Rattle.csv_io.specs.Blanks.{bare}
+use Rattle.csv_io.specs.Cells.{FitsKind, read_bare, read_filled}
 use Rattle.csv_io.specs.Faults.{bad_cell, fault_at}
 use Rattle.csv_io.specs.Header.{is_colon}
 use Rattle.csv_io.specs.Load.{cell_faults, cell_of}
@@ -85,21 +86,23 @@ next-at now g cs j d lt eg size ec =
     rw (ec, size) (next-kind now.grid.columns j d within)
 
 -- an empty field
-pub read-empty : (k : Kind) (n at : ℕ) (t : List ℕ) → t ≡ [] → (cell_faults k n at t ≡ []) × (cell_of k t ≡ absent k)
+pub read-empty : (k : Kind) (n at : ℕ) (t : List ℕ) → bare k t ≡ [] → (cell_faults k n at t ≡ []) × (cell_of k t ≡ absent k)
 unfolding cell_of cell_faults
 read-empty k n at t e = rw e (refl, refl)
 
 -- a field that reads
-pub read-value : (k : Kind) (n at : ℕ) (t : List ℕ) (v : Value) → t ≢ [] → read_filled k t ≡ Some v → (cell_faults k n at t ≡ []) × (cell_of k t ≡ v)
+filled-bare : (k : Kind) (t : List ℕ) (o : Option Value) → t ≢ [] → read_filled k t ≡ o → read_bare k t ≡ o
+filled-bare k [] o some e = absurd (some refl)
+filled-bare k (b ∷ t) o some e = e
+
+pub read-value : (k : Kind) (n at : ℕ) (t : List ℕ) (v : Value) → bare k t ≢ [] → read_filled k (bare k t) ≡ Some v → (cell_faults k n at t ≡ []) × (cell_of k t ≡ v)
 unfolding cell_of cell_faults
-read-value k n at [] v some e = absurd (some refl)
-read-value k n at (b ∷ t) v some e = rw e (refl, refl)
+read-value k n at t v some e = rw (filled-bare k (bare k t) (Some v) some e) (refl, refl)
 
 -- and one that does not
-pub read-none : (k : Kind) (n at : ℕ) (t : List ℕ) → t ≢ [] → read_filled k t ≡ None → cell_faults k n at t ≡ fault_at bad_cell n at ∷ []
+pub read-none : (k : Kind) (n at : ℕ) (t : List ℕ) → bare k t ≢ [] → read_filled k (bare k t) ≡ None → cell_faults k n at t ≡ fault_at bad_cell n at ∷ []
 unfolding cell_faults
-read-none k n at [] some e = absurd (some refl)
-read-none k n at (b ∷ t) some e = rw e refl
+read-none k n at t some e = rw (filled-bare k (bare k t) None some e) refl
 
 is-empty-list : (t : List ℕ) → length t ≡ 0 → t ≡ []
 is-empty-list [] e = refl
@@ -113,7 +116,7 @@ is-filled [] b e n m = cc
 is-filled (c ∷ t) b e n m = cc
 
 -- a filled field of a column of dynamic values
-pub read-dynamic : (k : Kind) (n at : ℕ) (t : List ℕ) (v : Value) → t ≢ [] → k ≡ kind.Dynamic → v ≡ parsed t → (cell_faults k n at t ≡ []) × (cell_of k t ≡ v)
-read-dynamic k n at t v some e p = rw e (read-value kind.Dynamic n at t v some (ap Some (sym p)))
+pub read-dynamic : (k : Kind) (n at : ℕ) (t : List ℕ) (v : Value) → bare k t ≢ [] → k ≡ kind.Dynamic → v ≡ parsed (bare k t) → (cell_faults k n at t ≡ []) × (cell_of k t ≡ v)
+read-dynamic k n at t v some e p = read-value k n at t v some (rw e (ap Some (sym (rw e at p))))
 
 pub ruleset cell_facts = (kind-fits, absent-fits, next-kind, read-empty, read-value, read-none)

@@ -1,3 +1,4 @@
+pub mod BlankFacts
 pub mod CellBack
 pub mod CutFacts
 pub mod DayFacts

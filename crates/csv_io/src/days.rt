@@ -94,7 +94,7 @@ impl Day {
 #[inline(always)]
 fn time_of_day(t: &[u8]) -> Option<u64>
     requires { length t.now ≡ 18 }
-    ensures value { IfSome result (λ n. time_of_day_in t.now ≡ Some n) }
+    ensures value { IfSome result (λ n. time_of_day_in t.now ≡ Some (pos n)) }
     ensures bound { IfSome result (λ n. n < 864000000000) }
 {
     if !has_marks(t) {

@@ -1,6 +1,7 @@
 //! Tables from CSV and back: RFC 4180 as the crate `csv` reads and writes it, under a header that types its columns.
 #![tactic(auto)]
 
+mod blanks;
 mod cells;
 mod cut;
 mod days;

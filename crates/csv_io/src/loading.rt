@@ -6,6 +6,7 @@ ghost use Rattle.csv_io.specs.Next.{IsNext};
 ghost use Rattle.csv_io.specs.TextRecords.{AllRecordsText};
 ghost use Rattle.kql_values.specs.Growing.{with_cell};
 
+use crate::blanks::bare;
 use crate::cells::filled_cell;
 use crate::days::Day;
 use crate::fault::{BAD_CELL, BAD_LENGTH, DataFault, NO_HEADER, NOT_UTF8, refused};
@@ -24,8 +25,9 @@ use std::str;
 /// The first record is the header. A field `Name:type` of it, where the text after the last colon is one of the words
 /// bool, long, string, datetime, timespan and dynamic, names a column of that type; any other field is wholly a name,
 /// of type string. The other records are the rows. An empty cell is null, and the empty string in a column of strings.
-/// A bool is `true` or `false` in any case of ASCII; a long is digits with a minus before them or none; datetimes,
-/// timespans and JSON are read by `read_moment`, `read_span` and `parse_json`.
+/// Spaces and tabs round a cell are passed over, but for those of strings and JSON. A bool is `true` or `false` in any
+/// case of ASCII; a long is digits with a minus before them or none; datetimes, timespans and JSON are read by
+/// `read_moment`, `read_span` and `parse_json`.
 ///
 /// The refusals, in the order in which they are looked for: 301 the file is not UTF-8 (the column is the number of bytes
 /// before the first that is not); 302 there is no record; then of the header, column by column, 303 no name, a type that
@@ -116,6 +118,7 @@ fn read_cell(
     ensures read { Reads (cell_faults kind row column text.now) tt result }
     ensures added { OnOk result (table.new ≡ with_cell table.old (cell_of kind text.now)) }
 {
+    let text = bare(kind, text);
     if text.is_empty() {
         table.push_cell(kind.absent())?;
         return Ok(());

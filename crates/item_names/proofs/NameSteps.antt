@@ -1,7 +1,7 @@
 -- The equations of the names of items, one for each variant of an expression, and how many names there are.
 use Rattle.std.proofs.Common.{◌≡◌, ℕ, List, [], ◌∷◌, map, length, refl, rules}
-use Rattle.std.specs.Prelude.{Option, None, Some, is_none, if◌then◌else◌}
-use Rattle.std.specs.List.{list_any}
+use Rattle.std.specs.Prelude.{◌++◌, ◌&&◌, Option, None, Some, is_none, is_some, option_and_then}
+use Rattle.std.specs.List.{list_all, list_any}
 use Rattle.kql_cells.specs.declared.schema.Column.{Column}
 use Rattle.kql_functions.specs.declared.func.Func.{Func}
 use Rattle.kql_functions.specs.declared.aggregate.Aggregate.{Aggregate}
@@ -16,7 +16,8 @@ use Rattle.kql_bound.specs.declared.literal.Lit.{Lit}
 use Rattle.kql_meaning.specs.Results.{aggregate_result_kinds, result_kinds, result_kinds_step, typed}
 use Rattle.std.proofs.lemmas.List.{length-map}
 use Rattle.kql_cells.specs.declared.value.Kind.{Kind}
-use Rattle.item_names.specs.ItemNames.{aggregate_names, first_column, is_binning, item_names, or_numbered, own_name, own_names, own_names_step, takes_number}
+use Rattle.item_names.specs.ItemNames.{aggregate_names, call_name, index_name, item_names, name_behind, or_numbered, own_name, own_names, own_names_step, path_name, path_of, takes_number}
+use Rattle.kql_meaning.specs.FittingExpressions.{column_of}
 
 -- The name that an expression of one row has by itself.
 
@@ -32,7 +33,7 @@ pub own-Step : (c : StepColumn) → own_name (V.Step c) ≡ None
 unfolding own_name
 own-Step c = search (rules, the_lemmas)
 
-pub own-Call : (f : Func) (args : List BExpr) → own_name (V.Call f args) ≡ (if is_binning f then first_column args else None)
+pub own-Call : (f : Func) (args : List BExpr) → own_name (V.Call f args) ≡ call_name f args
 unfolding own_name
 own-Call f args = search (rules, the_lemmas)
 
@@ -40,7 +41,7 @@ pub own-Chain : (first : BExpr) (links : List (ChainSign × BExpr)) → own_name
 unfolding own_name
 own-Chain first links = search (rules, the_lemmas)
 
-pub own-Path : (whole : BExpr) (steps : List BExpr) → own_name (V.Path whole steps) ≡ None
+pub own-Path : (whole : BExpr) (steps : List BExpr) → own_name (V.Path whole steps) ≡ path_name whole steps
 unfolding own_name
 own-Path whole steps = search (rules, the_lemmas)
 
@@ -53,6 +54,61 @@ unfolding own_name
 own-Aggregate f args = search (rules, the_lemmas)
 
 pub ruleset own_steps = (own-Literal, own-Column, own-Step, own-Call, own-Chain, own-Path, own-Window, own-Aggregate)
+
+-- The name of the path that it is.
+
+pub path-Literal : (l : Lit) → path_of (V.Literal l) ≡ None
+unfolding path_of
+path-Literal l = search (rules, the_lemmas)
+
+pub path-Column : (n : List ℕ) → path_of (V.Column n) ≡ None
+unfolding path_of
+path-Column n = search (rules, the_lemmas)
+
+pub path-Step : (c : StepColumn) → path_of (V.Step c) ≡ None
+unfolding path_of
+path-Step c = search (rules, the_lemmas)
+
+pub path-Call : (f : Func) (args : List BExpr) → path_of (V.Call f args) ≡ None
+unfolding path_of
+path-Call f args = search (rules, the_lemmas)
+
+pub path-Chain : (first : BExpr) (links : List (ChainSign × BExpr)) → path_of (V.Chain first links) ≡ None
+unfolding path_of
+path-Chain first links = search (rules, the_lemmas)
+
+pub path-Path : (whole : BExpr) (steps : List BExpr) → path_of (V.Path whole steps) ≡ path_name whole steps
+unfolding path_of
+path-Path whole steps = search (rules, the_lemmas)
+
+pub path-Window : (f : Window) (args : List BExpr) → path_of (V.Window f args) ≡ None
+unfolding path_of
+path-Window f args = search (rules, the_lemmas)
+
+pub path-Aggregate : (f : Aggregate) (args : List BExpr) → path_of (V.Aggregate f args) ≡ None
+unfolding path_of
+path-Aggregate f args = search (rules, the_lemmas)
+
+pub ruleset path_steps = (path-Literal, path-Column, path-Step, path-Call, path-Chain, path-Path, path-Window, path-Aggregate)
+
+-- Whether a path has a name.
+
+named-step : (name : List ℕ) (es : List BExpr) (o : Option (List ℕ)) → ((n : List ℕ) → is_some (name_behind n es) ≡ list_all (λ e. is_some (index_name e)) es) → is_some (option_and_then (λ index. name_behind (name ++ index) es) o) ≡ (is_some o && list_all (λ e. is_some (index_name e)) es)
+named-step name es None h = refl
+named-step name es (Some index) h = h (name ++ index)
+
+pub named-behind : (name : List ℕ) (es : List BExpr) → is_some (name_behind name es) ≡ list_all (λ e. is_some (index_name e)) es
+unfolding name_behind
+named-behind name [] = refl
+named-behind name (e ∷ es) = named-step name es (index_name e) (λ n. named-behind n es)
+
+path-named : (o : Option (List ℕ)) (steps : List BExpr) → is_some (option_and_then (λ column. name_behind column steps) o) ≡ (is_some o && list_all (λ e. is_some (index_name e)) steps)
+path-named None steps = refl
+path-named (Some column) steps = named-behind column steps
+
+pub path_is_named : (whole : BExpr) (steps : List BExpr) → is_some (path_name whole steps) ≡ (is_some (column_of whole) && list_all (λ e. is_some (index_name e)) steps)
+unfolding path_name
+path_is_named whole steps = path-named (column_of whole) steps
 
 -- The names of an item.
 

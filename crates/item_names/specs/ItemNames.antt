@@ -1,8 +1,10 @@
 -- The names of the columns that items give where the query gives none.
 --
 -- Items are bound: a constant is a literal and no column, brackets are gone, and the columns that a `*` takes stand in its place.
-use Rattle.std.specs.Prelude.{ℕ, ◌+◌, Bool, true, false, is_none, List, [], ◌∷◌, ◌++◌, Option, None, Some, codes, decimal, map, option_map, unwrap_or, if◌then◌else◌}
+use Rattle.std.specs.Prelude.{ℕ, ◌+◌, Bool, true, false, is_none, List, [], ◌∷◌, ◌++◌, Option, None, Some, codes, decimal, map, option_and_then, option_map, pos, unwrap_or, if◌then◌else◌}
 use Rattle.std.specs.List.{list_any}
+use Rattle.kql_cells.specs.declared.value.Value.{Value}
+use Rattle.kql_cells.specs.declared.value.Value.TheVariants as value
 use Rattle.kql_functions.specs.Names.{aggregate_name}
 use Rattle.kql_functions.specs.declared.aggregate.Aggregate.{Aggregate}
 use Rattle.kql_functions.specs.declared.aggregate.Aggregate.TheVariants as aggregate
@@ -11,7 +13,8 @@ use Rattle.kql_functions.specs.declared.func.Func.{Func}
 use Rattle.kql_functions.specs.declared.func.Func.TheVariants as func
 use Rattle.kql_bound.specs.declared.expr.BExpr.{BExpr, out-BExpr}
 use Rattle.kql_bound.specs.declared.expr.BExpr.TheOpen.{BExpr-F}
-use Rattle.kql_meaning.specs.FittingExpressions.{column_of}
+use Rattle.kql_bound.specs.declared.literal.Lit.{Lit}
+use Rattle.kql_meaning.specs.FittingExpressions.{column_of, literal_of}
 
 -- Names of single columns.
 
@@ -27,12 +30,51 @@ unfoldable pub first_column : List BExpr → Option (List ℕ)
 first_column [] = None
 first_column (e ∷ es) = column_of e
 
+-- What a step of a path adds to its name: a key, or a place from the start.
+unfoldable pub index_of : Value → Option (List ℕ)
+index_of (value.Text key) = Some (codes "_" ++ key)
+index_of (value.Long (pos n)) = Some (codes "_" ++ decimal n)
+index_of _ = None
+
+unfoldable pub index_name : BExpr → Option (List ℕ)
+index_name e = option_and_then (λ (l : Lit). index_of l.value) (literal_of e)
+
+-- A name, and behind it what each of these steps adds, if each is a key or a place from the start.
+unfoldable pub name_behind : List ℕ → List BExpr → Option (List ℕ)
+name_behind name [] = Some name
+name_behind name (e ∷ es) = option_and_then (λ index. name_behind (name ++ index) es) (index_name e)
+
+-- The name of a path that begins at a column.
+unfoldable pub path_name : BExpr → List BExpr → Option (List ℕ)
+path_name whole steps = option_and_then (λ column. name_behind column steps) (column_of whole)
+
+abbrev pub path_step : BExpr-F BExpr → Option (List ℕ)
+path_step (BExpr-F.Path whole steps) = path_name whole steps
+path_step _ = None
+
+unfoldable pub path_of : BExpr → Option (List ℕ)
+path_of e = path_step (out-BExpr e)
+
+-- The name of the path that the first of these expressions is.
+unfoldable pub first_path : List BExpr → Option (List ℕ)
+first_path [] = None
+first_path (e ∷ es) = path_of e
+
+unfoldable pub is_conversion : Func → Bool
+is_conversion (func.Conversion f) = true
+is_conversion _ = false
+
+-- The name of a call: bins of a column have the column's, and a conversion of a path has the path's.
+unfoldable pub call_name : Func → List BExpr → Option (List ℕ)
+call_name f args = if is_binning f then first_column args else (if is_conversion f then first_path args else None)
+
 abbrev pub own_name_step : BExpr-F BExpr → Option (List ℕ)
 own_name_step (BExpr-F.Column n) = Some n
-own_name_step (BExpr-F.Call f args) = if is_binning f then first_column args else None
+own_name_step (BExpr-F.Call f args) = call_name f args
+own_name_step (BExpr-F.Path whole steps) = path_name whole steps
 own_name_step _ = None
 
--- The name that an expression of one row has by itself: a column its own, and the bins of a column the column's.
+-- The name that an expression of one row has by itself: a column its own, and a path that of its column and its steps.
 unfoldable pub own_name : BExpr → Option (List ℕ)
 own_name e = own_name_step (out-BExpr e)
 

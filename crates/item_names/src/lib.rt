@@ -5,6 +5,7 @@
 
 mod laws;
 mod names;
+mod paths;
 
 pub use laws::law_of_item_names;
 pub use names::{item_names, print_name, takes_number};

@@ -2,9 +2,9 @@
 ghost use Rattle.std.specs.Prelude.{◌≡◌, [], ◌∷◌, IfOk, is_none, map};
 ghost use Rattle.std.specs.List.{list_any};
 ghost use Rattle.std.specs.Option.{option_copied};
-ghost use Rattle.kql_meaning.specs.FittingExpressions.{column_of};
-ghost use Rattle.item_names.specs.ItemNames.{aggregate_names, first_column, is_binning, item_names, name_of_gathered, name_over, numbered, or_numbered, own_name, print_name, takes_number};
+ghost use Rattle.item_names.specs.ItemNames.{aggregate_names, call_name, first_column, is_binning, is_conversion, item_names, name_of_gathered, name_over, numbered, or_numbered, own_name, print_name, takes_number};
 
+use crate::paths::{column_of, first_path, has_no_path, is_nameless_path, path_name};
 use kql_bound::BExpr;
 use kql_cells::{KText, Names};
 use kql_functions::{Aggregate, ArithmeticFunc, Func};
@@ -23,23 +23,6 @@ fn is_binning(f: Func) -> bool
     }
 }
 
-// The column that an expression is.
-#[tactic(auto, using(kql_meaning::proofs::ExpressionFitLaws::column_steps))]
-fn column_of(e: &BExpr) -> Option<&str>
-    ensures column { option_copied result ≡ column_of e.now }
-{
-    match e {
-        BExpr::Literal(_) => None,
-        BExpr::Column(name) => Some(name.as_str()),
-        BExpr::Step(_) => None,
-        BExpr::Call(_, _) => None,
-        BExpr::Chain(_, _) => None,
-        BExpr::Path(_, _) => None,
-        BExpr::Window(_, _) => None,
-        BExpr::Aggregate(_, _) => None,
-    }
-}
-
 // The column that the first of these expressions is.
 #[tactic(auto, unfolding(crate::specs::ItemNames::first_column))]
 fn first_column(args: &[BExpr]) -> Option<&str>
@@ -51,26 +34,51 @@ fn first_column(args: &[BExpr]) -> Option<&str>
     }
 }
 
+#[tactic(auto, unfolding(crate::specs::ItemNames::is_conversion))]
+fn is_conversion(f: Func) -> bool
+    ensures conversion { result ≡ is_conversion f }
+{
+    matches!(f, Func::Conversion(_))
+}
+
+// The name of the column that the first of these expressions is.
+fn first_column_name(alloc: Global, args: &[BExpr]) -> Result<Option<KText>, AllocError>
+    ensures name { IfOk result (λ o. o ≡ first_column args.now) }
+{
+    match first_column(args) {
+        Some(name) => Ok(Some(KText::from_str(alloc, name)?)),
+        None => Ok(None),
+    }
+}
+
+// The name of a call.
+#[tactic(auto, unfolding(crate::specs::ItemNames::call_name))]
+fn call_name(alloc: Global, f: Func, args: &[BExpr]) -> Result<Option<KText>, AllocError>
+    ensures name { IfOk result (λ o. o ≡ call_name f args.now) }
+{
+    if is_binning(f) {
+        first_column_name(alloc, args)
+    } else if is_conversion(f) {
+        first_path(alloc, args)
+    } else {
+        Ok(None)
+    }
+}
+
 // The name that an expression of one row has by itself.
 #[tactic(auto, using(crate::proofs::NameSteps::own_steps))]
-fn own_name(e: &BExpr) -> Option<&str>
-    ensures name { option_copied result ≡ own_name e.now }
+fn own_name(alloc: Global, e: &BExpr) -> Result<Option<KText>, AllocError>
+    ensures name { IfOk result (λ o. o ≡ own_name e.now) }
 {
     match e {
-        BExpr::Literal(_) => None,
-        BExpr::Column(name) => Some(name.as_str()),
-        BExpr::Step(_) => None,
-        BExpr::Call(f, args) => {
-            if is_binning(*f) {
-                first_column(args.as_slice())
-            } else {
-                None
-            }
-        }
-        BExpr::Chain(_, _) => None,
-        BExpr::Path(_, _) => None,
-        BExpr::Window(_, _) => None,
-        BExpr::Aggregate(_, _) => None,
+        BExpr::Literal(_) => Ok(None),
+        BExpr::Column(name) => Ok(Some(name.copy(alloc)?)),
+        BExpr::Step(_) => Ok(None),
+        BExpr::Call(f, args) => call_name(alloc, *f, args.as_slice()),
+        BExpr::Chain(_, _) => Ok(None),
+        BExpr::Path(whole, steps) => path_name(alloc, whole.get(), steps.as_slice()),
+        BExpr::Window(_, _) => Ok(None),
+        BExpr::Aggregate(_, _) => Ok(None),
     }
 }
 
@@ -87,8 +95,8 @@ fn numbered(alloc: Global, number: u64) -> Result<KText, AllocError>
 fn name_of(alloc: Global, e: &BExpr, number: u64) -> Result<KText, AllocError>
     ensures name { IfOk result (λ n. n ≡ or_numbered number (own_name e.now)) }
 {
-    match own_name(e) {
-        Some(name) => KText::from_str(alloc, name),
+    match own_name(alloc, e)? {
+        Some(name) => Ok(name),
         None => numbered(alloc, number),
     }
 }
@@ -186,11 +194,35 @@ pub fn item_names(alloc: Global, e: &BExpr, number: u64) -> Result<Names, AllocE
     }
 }
 
+// Whether a call has no name.
+#[tactic(auto, unfolding(crate::specs::ItemNames::call_name))]
+fn is_nameless_call(f: Func, args: &[BExpr]) -> bool
+    ensures none { result ≡ is_none (call_name f args.now) }
+{
+    if is_binning(f) {
+        first_column(args).is_none()
+    } else if is_conversion(f) {
+        has_no_path(args)
+    } else {
+        true
+    }
+}
+
 // Whether an expression has no name by itself.
+#[tactic(auto, using(crate::proofs::NameSteps::own_steps))]
 fn is_nameless(e: &BExpr) -> bool
     ensures none { result ≡ is_none (own_name e.now) }
 {
-    own_name(e).is_none()
+    match e {
+        BExpr::Literal(_) => true,
+        BExpr::Column(_) => false,
+        BExpr::Step(_) => true,
+        BExpr::Call(f, args) => is_nameless_call(*f, args.as_slice()),
+        BExpr::Chain(_, _) => true,
+        BExpr::Path(whole, steps) => is_nameless_path(whole.get(), steps.as_slice()),
+        BExpr::Window(_, _) => true,
+        BExpr::Aggregate(_, _) => true,
+    }
 }
 
 // Whether one of these expressions has no name by itself.

@@ -4,7 +4,7 @@
 use item_names::{item_names, print_name, takes_number};
 use kql_bound::{BExpr, ChainSign, Exprs, Link, Lit, StepColumn};
 use kql_cells::{KText, Kind, Value};
-use kql_functions::{Aggregate, ArithmeticFunc, Func, Window};
+use kql_functions::{Aggregate, ArithmeticFunc, ConversionFunc, Func, Window};
 use kql_items::{Boxed, Items};
 use std::alloc::{AllocError, Global};
 use std::test::Fail;
@@ -64,9 +64,63 @@ fn sum(alloc: Global) -> Made<BExpr> {
 
 // x[5]
 fn path(alloc: Global) -> Made<BExpr> {
-    let whole = boxed(alloc, column(alloc, "x"))?;
-    let steps = one(alloc, number())?;
-    Ok(BExpr::Path(whole, steps))
+    steps_into(alloc, column(alloc, "x"), one(alloc, number()))
+}
+
+fn steps_into(alloc: Global, whole: Made<BExpr>, steps: Made<Exprs>) -> Made<BExpr> {
+    let whole = boxed(alloc, whole)?;
+    Ok(BExpr::Path(whole, steps?))
+}
+
+fn key(alloc: Global, key: &str) -> Made<BExpr> {
+    Ok(BExpr::Literal(Lit {
+        kind: Kind::Text,
+        value: Value::Text(KText::from_str(alloc, key)?),
+    }))
+}
+
+fn place(n: i64) -> Made<BExpr> {
+    Ok(BExpr::Literal(Lit {
+        kind: Kind::Long,
+        value: Value::Long(n),
+    }))
+}
+
+// x.a b[5]
+fn deep_path(alloc: Global) -> Made<BExpr> {
+    steps_into(
+        alloc,
+        column(alloc, "x"),
+        two(alloc, key(alloc, "a b"), number()),
+    )
+}
+
+// x.a[-1]
+fn path_from_end(alloc: Global) -> Made<BExpr> {
+    steps_into(
+        alloc,
+        column(alloc, "x"),
+        two(alloc, key(alloc, "a"), place(-1)),
+    )
+}
+
+// x[b]
+fn path_by_column(alloc: Global) -> Made<BExpr> {
+    steps_into(alloc, column(alloc, "x"), one(alloc, column(alloc, "b")))
+}
+
+// bin(x, 5)[0]
+fn path_into_call(alloc: Global) -> Made<BExpr> {
+    steps_into(
+        alloc,
+        binned(alloc, ArithmeticFunc::Bin),
+        one(alloc, place(0)),
+    )
+}
+
+fn converted(alloc: Global, f: ConversionFunc, e: Made<BExpr>) -> Made<BExpr> {
+    let args = one(alloc, e)?;
+    Ok(BExpr::Call(Func::Conversion(f), args))
 }
 
 // a.x
@@ -162,12 +216,44 @@ fn numbered_items(rt: HostRuntime) -> Result<(), Fail> {
     let alloc = rt.alloc();
     let literal = named(alloc, number(), "Column3 #")?;
     let sum = named(alloc, sum(alloc), "Column3 #")?;
-    let path = named(alloc, path(alloc), "Column3 #")?;
+    let path = named(alloc, path_from_end(alloc), "Column3 #")?;
     let step = named(alloc, step(alloc), "Column3 #")?;
     let window = named(alloc, window(alloc), "Column3 #")?;
     let call = named(alloc, binned(alloc, ArithmeticFunc::BinaryAnd), "Column3 #")?;
     let bin = named(alloc, binned_sum(alloc), "Column3 #")?;
     assert_eq!(rt; [literal, sum, path, step, window, call, bin], [true; 7]);
+    Ok(())
+}
+
+#[test]
+fn paths(rt: HostRuntime) -> Result<(), Fail> {
+    let alloc = rt.alloc();
+    let place = named(alloc, path(alloc), "x_5 ")?;
+    let keys = named(alloc, deep_path(alloc), "x_a b_5 ")?;
+    let column = named(alloc, path_by_column(alloc), "Column3 #")?;
+    let call = named(alloc, path_into_call(alloc), "Column3 #")?;
+    assert_eq!(rt; [place, keys, column, call], [true; 4]);
+    Ok(())
+}
+
+// Whether a conversion of a path has the path's name, and that of a column and of a path without a name none.
+fn is_conversion_named(alloc: Global, f: ConversionFunc) -> Made<bool> {
+    Ok(
+        named(alloc, converted(alloc, f, deep_path(alloc)), "x_a b_5 ")?
+            && named(alloc, converted(alloc, f, column(alloc, "x")), "Column3 #")?
+            && named(alloc, converted(alloc, f, path_from_end(alloc)), "Column3 #")?,
+    )
+}
+
+#[test]
+fn conversions_of_paths(rt: HostRuntime) -> Result<(), Fail> {
+    let alloc = rt.alloc();
+    let long = is_conversion_named(alloc, ConversionFunc::ToLong)?;
+    let text = is_conversion_named(alloc, ConversionFunc::ToText)?;
+    let truth = is_conversion_named(alloc, ConversionFunc::ToBool)?;
+    let moment = is_conversion_named(alloc, ConversionFunc::ToMoment)?;
+    let span = is_conversion_named(alloc, ConversionFunc::ToSpan)?;
+    assert_eq!(rt; [long, text, truth, moment, span], [true; 5]);
     Ok(())
 }
 
@@ -247,6 +333,11 @@ fn of_bins(alloc: Global, f: Aggregate) -> Made<BExpr> {
     )
 }
 
+// f(x[5], b)
+fn of_path(alloc: Global, f: Aggregate) -> Made<BExpr> {
+    aggregate(f, two(alloc, path(alloc), column(alloc, "b")))
+}
+
 #[test]
 fn aggregates_of_several_columns(rt: HostRuntime) -> Result<(), Fail> {
     let alloc = rt.alloc();
@@ -255,11 +346,13 @@ fn aggregates_of_several_columns(rt: HostRuntime) -> Result<(), Fail> {
     let alone = named(alloc, over(alloc, Aggregate::ArgMax), "x ")?;
     let first = named(alloc, over_two(alloc, Aggregate::TakeAny), "x b ")?;
     let binned = named(alloc, of_bins(alloc, Aggregate::ArgMax), "x b ")?;
+    let path = named(alloc, of_path(alloc, Aggregate::ArgMax), "x_5 b ")?;
+    let total = named(alloc, of_path(alloc, Aggregate::Sum), "sum_ ")?;
     let sum = named(alloc, of_bins(alloc, Aggregate::Sum), "sum_ ")?;
     let count = named(alloc, of_nothing(alloc), "count_ ")?;
     assert_eq!(rt;
-        [greatest, least, alone, first, binned, sum, count],
-        [true; 7]
+        [greatest, least, alone, first, binned, path, total, sum, count],
+        [true; 9]
     );
     Ok(())
 }

@@ -1,7 +1,6 @@
 -- Datetimes that are read, made and moved are in range.
-use Rattle.std.proofs.Common.{◌≡◌, ℕ, zero, suc, ◌+◌, ◌-◌, ◌*◌, ◌/◌, ◌%◌, ◌<◌, ◌≤◌, Bool, true, false, ◌&&◌, List, [], ◌∷◌, take, drop, refl, arith, inl, inr}
-use Rattle.std.specs.Prelude.{ℤ, pos, negsuc, nat_le, nat_lt, ◌==◌, Option, None, Some, IfSome, option_and_then, option_map, if◌then◌else◌, slice_range}
-use Rattle.std.specs.Char.{is_ascii_digit}
+use Rattle.std.proofs.Common.{◌≡◌, ℕ, zero, suc, ◌+◌, ◌*◌, ◌/◌, ◌%◌, ◌<◌, ◌≤◌, Bool, true, false, ◌&&◌, List, take, drop, refl, arith, inl, inr}
+use Rattle.std.specs.Prelude.{ℤ, pos, negsuc, nat_le, nat_lt, Option, None, Some, IfSome, option_and_then, option_map, if◌then◌else◌}
 use Rattle.std.proofs.lemmas.Bool.{cases_Bool, and_parts, and_from}
 use Rattle.std.proofs.lemmas.Bool.Decides.{nat_tests}
 use Rattle.std.proofs.lemmas.Int.{ints}
@@ -9,13 +8,11 @@ use Rattle.kql_cells.specs.Values.{IsMoment}
 use Rattle.kql_ticks.specs.declared.part.Part.{Part}
 use Rattle.kql_ticks.specs.declared.part.Part.TheVariants as part
 use Rattle.kql_ticks.specs.Days.{IsDateOn, date_number, day_on, last_begun, month_on, year_on}
-use Rattle.kql_ticks.specs.Forms.{before_z, date_in, day_of_date, fraction_in, is_date, minutes_in, moment_at, moment_in, moment_of, seconds_in, size_of, time_in, time_of_day_in}
+use Rattle.kql_ticks.specs.Forms.{date_in, day_of_date, is_date, moment_at, moment_in, moment_of, size_of, ticks_in_range, time_of_day_in}
 use Rattle.kql_ticks.specs.Moves.{add_part, day_within, in_month, to_month}
-use Rattle.kql_ticks.specs.Numbers.{number, share}
 use Rattle.kql_ticks.specs.Periods.{day_at}
 use Rattle.kql_ticks.specs.Ranges.{fit_moment}
 use Rattle.kql_ticks.proofs.DayLaws.{day_count-first, day_count-low, month_first, month_next_bound}
-use Rattle.kql_ticks.proofs.NumberLaws.{shared, shared-is, tenth}
 use Rattle.kql_ticks.proofs.RangeLaws.{fit_moment_gives}
 
 -- What a step gives has a property where what it is made of has one.
@@ -35,10 +32,6 @@ any (Some a) = tt
 if-some : {A : Type 0} (b : Bool) (a : A) (P : A → Type 0) → (b ≡ true → P a) → IfSome (if b then Some a else None) P
 if-some true a P h = h refl
 if-some false a P h = tt
-
-if-step : {A : Type 0} (b : Bool) (o : Option A) (P : A → Type 0) → (b ≡ true → IfSome o P) → IfSome (if b then o else None) P
-if-step true o P h = h refl
-if-step false o P h = tt
 
 -- The numbers of ticks of datetimes.
 abbrev IsTick : ℕ → Type 0
@@ -88,72 +81,22 @@ day-of-date : (y m d : ℕ) → IfSome (day_of_date y m d) IsDay
 unfolding day_of_date
 day-of-date y m d = if-some (is_date y m d) (date_number y m d) IsDay (is_date-day y m d)
 
-date-in : (t : List ℕ) → IfSome (date_in t) IsDay
-unfolding date_in
-date-in t =
-    if-step _ _ IsDay (λ e. after anything IsDay (number (slice_range t 0 4)) _ (any _)
-    (λ y _. after anything IsDay (number (slice_range t 5 7)) _ (any _) (λ m _. after anything IsDay (number (slice_range t 8 10)) _ (any _) (λ d _. day-of-date y m d))))
-
--- Times of day.
-
-digit-most : (b : ℕ) → is_ascii_digit b ≡ true → b ≤ 57
-digit-most b e = grind (arith, nat_tests)
-
-tenth-below : (n : ℕ) → n < 100000000 → IfSome (tenth n) (λ q. q < 10000000)
-tenth-below n h = if-some (n % 10 == 0) (n / 10) (λ q. q < 10000000) (λ e. omega arith)
-
-shared-below : (bs : List ℕ) → IfSome (shared 10000000 bs) (λ n. n < 10000000)
-unfolding shared
-shared-below [] = omega arith
-shared-below (b ∷ bs) =
-    if-step (is_ascii_digit b) _ (λ n. n < 10000000) (λ e.
-    after (λ n. n < 10000000) (λ n. n < 10000000) (shared 10000000 bs) _ (shared-below bs) (λ n h. tenth-below ((b - 48) * 10000000 + n) (omega (arith, digit-most b e))))
-
-share-below : (bs : List ℕ) → IfSome (share 10000000 bs) (λ n. n < 10000000)
-share-below bs = rw (shared-is 10000000 bs) at (shared-below bs)
-
-fraction-below : (t : List ℕ) → IfSome (fraction_in t) (λ n. n < 10000000)
-unfolding fraction_in
-fraction-below [] = omega arith
-fraction-below (b ∷ bs) = if-step _ (share 10000000 bs) (λ n. n < 10000000) (λ e. share-below bs)
-
-seconds-below : (t : List ℕ) → IfSome (seconds_in t) (λ n. n < 600000000)
-unfolding seconds_in
-seconds-below [] = omega arith
-seconds-below (b ∷ bs) =
-    if-step _ _ (λ n. n < 600000000) (λ e. after anything (λ n. n < 600000000) (number (slice_range bs 0 2)) _ (any _)
-    (λ s _. after (λ n. n < 10000000) (λ n. n < 600000000) (fraction_in (drop 2 bs)) _ (fraction-below (drop 2 bs))
-    (λ f h. if-some (nat_lt s 60) (10000000 * s + f) (λ n. n < 600000000) (λ l. omega (arith, lt-from s 60 l)))))
-
-minutes-below : (t : List ℕ) → IfSome (minutes_in t) (λ n. n ≤ 863400000000)
-unfolding minutes_in
-minutes-below t =
-    if-step _ _ (λ n. n ≤ 863400000000) (λ e. after anything (λ n. n ≤ 863400000000) (number (slice_range t 0 2)) _ (any _)
-    (λ h _. after anything (λ n. n ≤ 863400000000) (number (slice_range t 3 5)) _ (any _)
-    (λ m _. if-some (nat_lt h 24 && nat_lt m 60) (36000000000 * h + 600000000 * m) (λ n. n ≤ 863400000000) (λ l.
-    let p = and_parts (nat_lt h 24) (nat_lt m 60) l in
-    omega (arith, lt-from h 24 p.0, lt-from m 60 p.1)))))
-
-time-below : (t : List ℕ) → IfSome (time_in t) IsTimeOfDay
-unfolding time_in
-time-below t =
-    after (λ n. n ≤ 863400000000) IsTimeOfDay (minutes_in (take 5 t)) _ (minutes-below (take 5 t))
-    (λ m h. after (λ n. n < 600000000) IsTimeOfDay (seconds_in (drop 5 t)) _ (seconds-below (drop 5 t)) (λ s k. omega arith))
-
-time-of-day-below : (t : List ℕ) → IfSome (time_of_day_in t) IsTimeOfDay
-unfolding time_of_day_in
-time-of-day-below [] = omega arith
-time-of-day-below (b ∷ bs) = if-step _ (time_in (before_z bs)) IsTimeOfDay (λ e. time-below (before_z bs))
-
 -- A datetime that a text is, and one of its fields.
 tick-of : (d c : ℕ) → IsDay d → IsTimeOfDay c → IsTick (864000000000 * d + c)
 tick-of d c h k = omega arith
 
+ticks-in : (x : ℤ) → IfSome (ticks_in_range x) IsTick
+unfolding ticks_in_range fit_moment
+ticks-in (pos n) = elim (cases_Bool (nat_le n 3155378975999999999)) [
+  | inl t ↦ rw t (le-from n 3155378975999999999 t)
+  | inr e ↦ rw e tt
+]
+ticks-in (negsuc n) = tt
+
 moment-read : (t : List ℕ) → IfSome (moment_in t) IsTick
 unfolding moment_in
 moment-read t =
-    after IsDay IsTick (date_in (take 10 t)) _ (date-in (take 10 t))
-    (λ d h. after IsTimeOfDay IsTick (time_of_day_in (drop 10 t)) _ (time-of-day-below (drop 10 t)) (λ c k. tick-of d c h k))
+    after anything IsTick (date_in (take 10 t)) _ (any _) (λ d _. after anything IsTick (time_of_day_in (drop 10 t)) _ (any _) (λ c _. ticks-in _))
 
 pub moment_in-range : (t : List ℕ) → IfSome (option_map pos (moment_in t)) IsMoment
 moment_in-range t = tick-moments (moment_in t) (moment-read t)

@@ -9,3 +9,4 @@ pub mod PeriodLemmas
 pub mod RangeLaws
 pub mod SpanLemmas
 pub mod TextLemmas
+pub mod ZoneLaws

@@ -1,13 +1,13 @@
 -- Which texts are datetimes and timespans, and of how many ticks.
-use Rattle.std.specs.Prelude.{ℕ, ◌+◌, ◌-◌, ◌*◌, nat_le, nat_lt, ◌==◌, Bool, not, ◌&&◌, ◌||◌, if◌then◌else◌, List, [], ◌∷◌, length, take, drop, slice_index, slice_range, Option, Some, None, ℤ, pos, negsuc, neg_ℤ, codes}
+use Rattle.std.specs.Prelude.{ℕ, ◌+◌, ◌-◌, ◌*◌, nat_le, nat_lt, ◌==◌, Bool, not, ◌&&◌, ◌||◌, if◌then◌else◌, List, [], ◌∷◌, length, take, drop, slice_index, slice_range, Option, Some, None, option_map, ℤ, pos, negsuc, neg_ℤ, ◌+ℤ◌, ◌-ℤ◌, codes}
 use Rattle.std.specs.Char.{is_ascii_digit}
-use Rattle.std.specs.List.{position}
+use Rattle.std.specs.List.{list_all, position}
 use Rattle.std.specs.Str.{bytes_eq}
 use Rattle.jiff_core.specs.Calendar.{days_in_month}
 use Rattle.kql_ticks.specs.Days.{date_number}
 use Rattle.kql_ticks.specs.Numbers.{◌>>=◌, number, share}
-use Rattle.kql_ticks.specs.Ranges.{fit}
-use Rattle.kql_ticks.specs.Texts.{dash, dot, colon, letter_t, letter_z, space}
+use Rattle.kql_ticks.specs.Ranges.{fit, fit_moment}
+use Rattle.kql_ticks.specs.Texts.{dash, dot, colon, letter_t, plus, space}
 
 -- the calendar has this date
 abbrev pub is_date : ℕ → ℕ → ℕ → Bool
@@ -52,18 +52,52 @@ seconds_in (b ∷ bs) =
 unfoldable pub time_in : List ℕ → Option ℕ
 time_in t = minutes_in (take 5 t) >>= (λ m. seconds_in (drop 5 t) >>= (λ s. Some (m + s)))
 
--- the text before a last `Z`, or the whole text
-unfoldable pub before_z : List ℕ → List ℕ
-before_z t = if slice_index t (length t - 1) == letter_z then take (length t - 1) t else t
+-- a time whose fraction may have nine digits: those behind the seventh, which ends at 16, are cut off
+unfoldable pub long_time_in : List ℕ → Option ℕ
+long_time_in t =
+    if nat_le (length t) 16 then time_in t else (
+    if nat_le (length t) 18 && list_all is_ascii_digit (drop 16 t) then time_in (take 16 t) else None)
 
--- `T` or a space, a time, and maybe `Z`; or nothing
-unfoldable pub time_of_day_in : List ℕ → Option ℕ
-time_of_day_in [] = Some 0
-time_of_day_in (b ∷ bs) = if (b == letter_t) || (b == space) then time_in (before_z bs) else None
+-- hh:mm or hhmm
+unfoldable pub offset_in : List ℕ → Option ℕ
+offset_in (a ∷ b ∷ c ∷ d ∷ []) = minutes_in (a ∷ b ∷ colon ∷ c ∷ d ∷ [])
+offset_in t = minutes_in t
+
+-- `Z`, ` UTC`, or a sign and an offset: so far is a time ahead of UTC
+unfoldable pub zone_in : List ℕ → Option ℤ
+zone_in [] = None
+zone_in (b ∷ bs) =
+    if bytes_eq (b ∷ bs) (codes "Z") || bytes_eq (b ∷ bs) (codes " UTC") then Some (pos 0) else (
+    if b == plus then option_map pos (offset_in bs) else (
+    if b == dash then option_map (λ n. neg_ℤ (pos n)) (offset_in bs) else None))
+
+-- the bytes of a time without its zone
+abbrev pub is_of_clock : ℕ → Bool
+is_of_clock b = is_ascii_digit b || (b == dot) || (b == colon)
+
+-- a time and maybe its zone, which begins at i: in UTC, where the day before may have begun or the day be over
+unfoldable pub zoned_in : Option ℕ → List ℕ → Option ℤ
+zoned_in None t = option_map pos (long_time_in t)
+zoned_in (Some i) t = long_time_in (take i t) >>= (λ c. zone_in (drop i t) >>= (λ z. Some (pos c -ℤ z)))
+
+-- `T` or a space, a time and maybe its zone; or nothing
+unfoldable pub time_of_day_in : List ℕ → Option ℤ
+time_of_day_in [] = Some (pos 0)
+time_of_day_in (b ∷ bs) =
+    if (b == letter_t) || (b == space) then zoned_in (position (λ b. not (is_of_clock b)) bs) bs else None
+
+-- the size of a number that is not negative
+abbrev pub size_of : ℤ → Option ℕ
+size_of (pos n) = Some n
+size_of (negsuc n) = None
+
+-- the ticks of a datetime, where they are in range
+unfoldable pub ticks_in_range : ℤ → Option ℕ
+ticks_in_range x = fit_moment x >>= size_of
 
 -- a datetime
 unfoldable pub moment_in : List ℕ → Option ℕ
-moment_in t = date_in (take 10 t) >>= (λ d. time_of_day_in (drop 10 t) >>= (λ c. Some (864000000000 * d + c)))
+moment_in t = date_in (take 10 t) >>= (λ d. time_of_day_in (drop 10 t) >>= (λ c. ticks_in_range (pos (864000000000 * d) +ℤ c)))
 
 -- the days of a timespan and their `.`, or nothing
 unfoldable pub days_in : List ℕ → Option ℕ
@@ -123,11 +157,6 @@ unfoldable pub span_in : List ℕ → Option ℤ
 span_in [] = None
 span_in (b ∷ bs) =
     if b == dash then length_in bs >>= (λ n. fit (neg_ℤ (pos n))) else length_in (b ∷ bs) >>= (λ n. fit (pos n))
-
--- the size of a number that is not negative
-abbrev pub size_of : ℤ → Option ℕ
-size_of (pos n) = Some n
-size_of (negsuc n) = None
 
 -- the datetime of these fields
 unfoldable pub moment_of : ℕ → ℕ → ℕ → ℕ → ℕ → Option ℕ

@@ -9,7 +9,10 @@ unfoldable pub digits : ℕ → ℕ → List ℕ
 digits zero n = []
 digits (suc w) n = digits w (n / 10) ++ (48 + n % 10) ∷ []
 
--- the bytes `-`, `.`, `:`, `T`, `Z` and a space
+-- the bytes `+`, `-`, `.`, `:`, `T`, `Z` and a space
+abbrev pub plus : ℕ
+plus = 43
+
 abbrev pub dash : ℕ
 dash = 45
 

@@ -1,16 +1,24 @@
-ghost use Rattle.std.specs.Prelude.{◌≡◌, ◌+◌, ◌<◌, ◌≤◌, pos, length, option_map, IfSome};
-ghost use Rattle.kql_ticks.specs.Forms.{before_z, date_in, day_of_date, fraction_in, minutes_in, moment_at, moment_in, moment_of, seconds_in, size_of, time_in, time_of_day_in};
+ghost use Rattle.std.specs.Prelude.{◌≡◌, ◌+◌, ◌*◌, ◌<◌, ◌≤◌, ◌==◌, ◌||◌, ◌+ℤ◌, ◌≤ℤ◌, not, negsuc, pos, length, option_map, IfSome};
+ghost use Rattle.std.specs.Char.{is_ascii_digit};
+ghost use Rattle.std.specs.List.{list_all, position};
+ghost use Rattle.kql_ticks.specs.Forms.{date_in, day_of_date, fraction_in, is_of_clock, long_time_in, minutes_in, moment_at, moment_in, moment_of, offset_in, seconds_in, size_of, ticks_in_range, time_in, time_of_day_in, zone_in, zoned_in};
 ghost use Rattle.kql_cells.specs.Values.{IsMoment};
 
 use crate::days::day_number;
 use crate::numbers::{number, share};
 use crate::periods::{DAY, HOUR, MINUTE, SECOND};
+use crate::ranges::fit_moment;
 use jiff_core::civil::{Date, days_in_month};
+
+// The length of a time with seven digits of a fraction.
+const LONGEST: usize = 16;
 
 /// The datetime that a text is, or none.
 ///
 /// A datetime is `yyyy-mm-dd`, alone or followed by `T` or one space and `hh:mm`, `hh:mm:ss` or `hh:mm:ss.f` with one to
-/// seven digits, and there maybe `Z`. The date is one that the calendar has, from 0001-01-01 to 9999-12-31.
+/// nine digits, of which those behind the seventh are cut off. The date is one that the calendar has, from 0001-01-01 to
+/// 9999-12-31. Directly behind a time its zone may stand: `Z`, `+hh:mm`, `-hh:mm`, `+hhmm`, `-hhmm` or ` UTC`. The
+/// datetime is that moment in UTC, in the same range of dates.
 #[tactic(auto, unfolding(crate::specs::Forms::moment_in))]
 pub fn read_moment(t: &str) -> Option<i64>
     ensures value { result ≡ option_map pos (moment_in t.now) }
@@ -20,7 +28,16 @@ pub fn read_moment(t: &str) -> Option<i64>
     let split = t.len().min(10);
     let day = read_date(&t[..split])?;
     let ticks = read_time_of_day(&t[split..])?;
-    Some((DAY * day as u64 + ticks) as i64)
+    on_day(day, ticks)
+}
+
+// So many ticks from the start of a day, as a datetime.
+fn on_day(day: u32, ticks: i64) -> Option<i64>
+    requires { day < 3652059 }
+    ensures value { result ≡ option_map pos (ticks_in_range (pos (864000000000 * day) +ℤ ticks)) }
+    ensures range { IfSome result IsMoment }
+{
+    fit_moment((DAY * day as u64) as i128 + ticks as i128)
 }
 
 /// The datetime of a year, month, day, hour and minute, or none where there is none.
@@ -88,11 +105,10 @@ fn day_of_date(year: u64, month: u64, day: u64) -> Option<u32>
     Some(day_number(Date::constrain(year as i16, month as u8, day as u8)))
 }
 
-// `T` or a space, a time and maybe `Z`; or nothing.
+// `T` or a space, a time and maybe its zone; or nothing.
 #[tactic(auto, unfolding(crate::specs::Forms::time_of_day_in))]
-fn read_time_of_day(t: &[u8]) -> Option<u64>
+fn read_time_of_day(t: &[u8]) -> Option<i64>
     ensures value { result ≡ time_of_day_in t.now }
-    ensures bound { IfSome result (λ n. n < 864000000000) }
 {
     match t {
         [] => Some(0),
@@ -100,20 +116,81 @@ fn read_time_of_day(t: &[u8]) -> Option<u64>
             if *b != b'T' && *b != b' ' {
                 return None;
             }
-            read_time(before_z(rest))
+            read_zoned(rest)
         }
     }
 }
 
-// The text before a last `Z`, or the whole text.
-#[tactic(auto, unfolding(crate::specs::Forms::before_z))]
-fn before_z(t: &[u8]) -> &[u8]
-    ensures { result.now ≡ before_z t.now }
+// A time and maybe its zone, in UTC.
+#[tactic(auto, unfolding(crate::specs::Forms::zoned_in))]
+fn read_zoned(t: &[u8]) -> Option<i64>
+    ensures value { result ≡ zoned_in (position (λ b. not (is_of_clock b)) t.now) t.now }
 {
-    if t.is_empty() || t[t.len() - 1] != b'Z' {
-        return t;
+    match zone_start(t) {
+        Some(at) => {
+            let time = read_long_time(&t[..at])?;
+            let ahead = read_zone(&t[at..])?;
+            Some(time as i64 - ahead)
+        }
+        None => Some(read_long_time(t)? as i64),
     }
-    &t[..t.len() - 1]
+}
+
+// The place of the first byte that is not of a time.
+fn zone_start(t: &[u8]) -> Option<usize>
+    ensures value { result ≡ position (λ b. not (is_of_clock b)) t.now }
+    ensures bound { IfSome result (λ i. i < length t.now) }
+{
+    t.iter()
+        .position(|b| !(b.is_ascii_digit() || *b == b'.' || *b == b':'))
+}
+
+// The ticks that a zone is ahead of UTC.
+#[tactic(auto, unfolding(crate::specs::Forms::zone_in))]
+fn read_zone(t: &[u8]) -> Option<i64>
+    ensures value { result ≡ zone_in t.now }
+    ensures low { IfSome result (λ z. negsuc 863400000000 ≤ℤ z) }
+    ensures high { IfSome result (λ z. z ≤ℤ pos 863400000000) }
+{
+    match t {
+        b"Z" | b" UTC" => Some(0),
+        [b'+', rest @ ..] => Some(read_offset(rest)? as i64),
+        [b'-', rest @ ..] => Some(-(read_offset(rest)? as i64)),
+        _ => None,
+    }
+}
+
+// hh:mm or hhmm
+#[tactic(auto, unfolding(crate::specs::Forms::offset_in))]
+fn read_offset(t: &[u8]) -> Option<u64>
+    ensures value { result ≡ offset_in t.now }
+    ensures bound { IfSome result (λ n. n ≤ 863400000000) }
+{
+    match t {
+        [a, b, c, d] => read_minutes(&[*a, *b, b':', *c, *d]),
+        t => read_minutes(t),
+    }
+}
+
+// A time whose fraction may have nine digits: those behind the seventh are cut off.
+#[tactic(auto, unfolding(crate::specs::Forms::long_time_in))]
+fn read_long_time(t: &[u8]) -> Option<u64>
+    ensures value { result ≡ long_time_in t.now }
+    ensures bound { IfSome result (λ n. n < 864000000000) }
+{
+    if t.len() <= LONGEST {
+        return read_time(t);
+    }
+    if t.len() > LONGEST + 2 || !are_digits(&t[LONGEST..]) {
+        return None;
+    }
+    read_time(&t[..LONGEST])
+}
+
+fn are_digits(t: &[u8]) -> bool
+    ensures { result ≡ list_all is_ascii_digit t.now }
+{
+    t.iter().all(|b| b.is_ascii_digit())
 }
 
 // hh:mm, hh:mm:ss, or hh:mm:ss and a fraction.

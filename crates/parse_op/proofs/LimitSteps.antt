@@ -1,6 +1,6 @@
 -- How long a piece is that reads as a value of a type.
-use Rattle.std.proofs.Common.{◌≡◌, ◌<◌, ◌≤◌, ◌+◌, ◌-◌, ◌*◌, ◌^◌, ◌&&◌, ◌||◌, ◌==◌, ℕ, zero, suc, Bool, true, false, List, [], ◌∷◌, length, take, drop, refl, sym, ap, ◌∙◌, arith, inl, inr, subst, length-drop, length-take-le}
-use Rattle.std.specs.Prelude.{if◌then◌else◌, None, Option, Some, bytes_eq, codes, is_some, min, nat_le, nat_lt, not, option_and_then, option_map, pos, neg_ℤ, slice_index, slice_range}
+use Rattle.std.proofs.Common.{◌≡◌, ◌<◌, ◌≤◌, ◌+◌, ◌-◌, ◌*◌, ◌^◌, ◌&&◌, ◌||◌, ◌==◌, ℕ, zero, suc, Bool, true, false, List, [], ◌∷◌, length, take, drop, refl, sym, ap, ◌∙◌, arith, inl, inr, subst, length-drop, length-take, length-take-le}
+use Rattle.std.specs.Prelude.{if◌then◌else◌, None, Option, Some, bytes_eq, codes, is_some, min, nat_le, nat_lt, not, option_and_then, option_map, ℤ, pos, neg_ℤ, ◌+ℤ◌, ◌-ℤ◌, slice_index, slice_range}
 use Rattle.std.specs.Char.{digit_value, is_ascii_digit, to_ascii_lowercase}
 use Rattle.std.specs.List.{position, position_or_len, prefix_len}
 use Rattle.std.specs.Str.{all_ascii_digits, str_eq_ignore_ascii_case, str_to_ascii_lowercase}
@@ -10,10 +10,10 @@ use Rattle.std.proofs.lemmas.List.{length-map}
 use Rattle.std.proofs.lemmas.Slice.Eq.{bytes_eq-Decides}
 use Rattle.std.proofs.Math.Nat.{pow-le-pow_right, pow-suc}
 use Rattle.std.proofs.Math.Seq.{take-take}
-use Rattle.kql_ticks.specs.Forms.{amount_in, before_z, clock_in, date_in, days_in, fraction_in, is_of_number, length_from, length_in, minutes_in, moment_in, quantity_in, seconds_in, span_in, time_in, time_of_day_in, unit_in}
+use Rattle.kql_ticks.specs.Forms.{amount_in, clock_in, date_in, days_in, fraction_in, is_of_clock, is_of_number, length_from, length_in, long_time_in, minutes_in, moment_in, offset_in, quantity_in, seconds_in, span_in, ticks_in_range, time_in, time_of_day_in, unit_in, zone_in, zoned_in}
 use Rattle.kql_ticks.specs.Ranges.{fit}
 use Rattle.kql_ticks.specs.Numbers.{◌>>=◌, number}
-use Rattle.kql_ticks.specs.Texts.{colon, dash, dot, letter_t, letter_z, space}
+use Rattle.kql_ticks.specs.Texts.{colon, dash, dot, letter_t, plus, space}
 use Rattle.kql_cells.specs.Readings.{bool_written, is_whole, long_written}
 use Rattle.kql_cells.specs.declared.value.Kind.{Kind}
 use Rattle.kql_cells.specs.declared.value.Kind.TheVariants as kind
@@ -89,28 +89,81 @@ time-short t h =
     second-some (length t ≤ 16) (λ (m : ℕ). seconds_in (drop 5 t) >>= (λ (s : ℕ). Some (m + s))) (minutes_in (take 5 t))
     (λ m more. omega (arith, seconds-short (drop 5 t) (first-some (λ (s : ℕ). Some (m + s)) (seconds_in (drop 5 t)) more), length-drop 5 t)) h
 
-before-short : (t : List ℕ) → length t ≤ length (before_z t) + 1
-unfolding before_z
-before-short t = elim (cases_Bool (slice_index t (length t - 1) == letter_z)) [
-  | inl z ↦ rw z (let cut = length-take-le (length t - 1) t (omega arith) in omega (arith, cut))
-  | inr other ↦ rw other (omega arith)
+long-time-short : (t : List ℕ) → is_some (long_time_in t) ≡ true → length t ≤ 18
+unfolding long_time_in
+long-time-short t h = elim (cases_Bool (nat_le (length t) 18)) [
+  | inl le ↦ leb-true (length t) 18 le
+  | inr gt ↦ elim (cases_Bool (nat_le (length t) 16)) [
+    | inl few ↦ omega (arith, leb-true (length t) 16 few)
+    | inr many ↦ let clash : false ≡ true = rw (many, gt) at h in cc
+  ]
 ]
 
-day-short : (t : List ℕ) → is_some (time_of_day_in t) ≡ true → length t ≤ 18
+minutes-short : (t : List ℕ) → is_some (minutes_in t) ≡ true → length t ≤ 5
+unfolding minutes_in
+minutes-short t h = elim (cases_Bool (length t == 5)) [
+  | inl five ↦ omega (arith, eqb-true (length t) 5 five)
+  | inr other ↦ let clash : false ≡ true = rw other at h in cc
+]
+
+offset-short : (t : List ℕ) → is_some (offset_in t) ≡ true → length t ≤ 5
+unfolding offset_in
+offset-short [] h = omega arith
+offset-short (a ∷ []) h = omega arith
+offset-short (a ∷ b ∷ []) h = omega arith
+offset-short (a ∷ b ∷ c ∷ []) h = omega arith
+offset-short (a ∷ b ∷ c ∷ d ∷ []) h = omega arith
+offset-short (a ∷ b ∷ c ∷ d ∷ e ∷ t) h = minutes-short (a ∷ b ∷ c ∷ d ∷ e ∷ t) h
+
+word-short : (t w : List ℕ) → bytes_eq t w ≡ true → length t ≡ length w
+word-short t w h = ap (λ (xs : List ℕ). length xs) ((bytes_eq-Decides t w).0 h)
+
+zone-short : (t : List ℕ) → is_some (zone_in t) ≡ true → length t ≤ 6
+unfolding zone_in
+zone-short [] h = omega arith
+zone-short (b ∷ bs) h = elim (cases_Bool (bytes_eq (b ∷ bs) (codes "Z"))) [
+  | inl z ↦ omega (arith, word-short (b ∷ bs) (codes "Z") z)
+  | inr not-z ↦ elim (cases_Bool (bytes_eq (b ∷ bs) (codes " UTC"))) [
+    | inl utc ↦ omega (arith, word-short (b ∷ bs) (codes " UTC") utc)
+    | inr not-utc ↦ elim (cases_Bool (b == plus)) [
+      | inl ahead ↦
+          let offset : is_some (option_map pos (offset_in bs)) ≡ true = rw (not-z, not-utc, ahead) at h in
+          omega (arith, offset-short bs (map-some pos (offset_in bs) offset))
+      | inr not-ahead ↦ elim (cases_Bool (b == dash)) [
+        | inl behind ↦
+            let offset : is_some (option_map (λ n. neg_ℤ (pos n)) (offset_in bs)) ≡ true = rw (not-z, not-utc, not-ahead, behind) at h in
+            omega (arith, offset-short bs (map-some (λ n. neg_ℤ (pos n)) (offset_in bs) offset))
+        | inr none ↦ let clash : false ≡ true = rw (not-z, not-utc, not-ahead, none) at h in cc
+      ]
+    ]
+  ]
+]
+
+zoned-short : (o : Option ℕ) (t : List ℕ) → is_some (zoned_in o t) ≡ true → length t ≤ 24
+unfolding zoned_in
+zoned-short None t h = omega (arith, long-time-short t (map-some pos (long_time_in t) h))
+zoned-short (Some i) t h =
+    let parts : length (take i t) + length (drop i t) ≡ length t = omega (arith, length-take i t, length-drop i t) in
+    let time = long-time-short (take i t) (first-some (λ (c : ℕ). zone_in (drop i t) >>= (λ z. Some (pos c -ℤ z))) (long_time_in (take i t)) h) in
+    let zone = second-some (length (drop i t) ≤ 6) (λ (c : ℕ). zone_in (drop i t) >>= (λ z. Some (pos c -ℤ z))) (long_time_in (take i t))
+    (λ c more. zone-short (drop i t) (first-some (λ z. Some (pos c -ℤ z)) (zone_in (drop i t)) more)) h in
+    omega (arith, parts, time, zone)
+
+day-short : (t : List ℕ) → is_some (time_of_day_in t) ≡ true → length t ≤ 25
 unfolding time_of_day_in
 day-short [] h = omega arith
 day-short (b ∷ bs) h = elim (cases_Bool ((b == letter_t) || (b == space))) [
   | inl either ↦
-      let steps : is_some (time_in (before_z bs)) ≡ true = rw either at h in
-      omega (arith, time-short (before_z bs) steps, before-short bs)
+      let steps : is_some (zoned_in (position (λ c. not (is_of_clock c)) bs) bs) ≡ true = rw either at h in
+      omega (arith, zoned-short (position (λ c. not (is_of_clock c)) bs) bs steps)
   | inr other ↦ let clash : false ≡ true = rw other at h in cc
 ]
 
-moment-short : (t : List ℕ) → is_some (moment_written t) ≡ true → length t ≤ 28
+moment-short : (t : List ℕ) → is_some (moment_written t) ≡ true → length t ≤ 35
 unfolding moment_written moment_in
 moment-short t h =
-    second-some (length t ≤ 28) (λ (d : ℕ). time_of_day_in (drop 10 t) >>= (λ (c : ℕ). Some (864000000000 * d + c))) (date_in (take 10 t))
-    (λ d more. omega (arith, day-short (drop 10 t) (first-some (λ (c : ℕ). Some (864000000000 * d + c)) (time_of_day_in (drop 10 t)) more), length-drop 10 t))
+    second-some (length t ≤ 35) (λ (d : ℕ). time_of_day_in (drop 10 t) >>= (λ (c : ℤ). ticks_in_range (pos (864000000000 * d) +ℤ c))) (date_in (take 10 t))
+    (λ d more. omega (arith, day-short (drop 10 t) (first-some (λ (c : ℤ). ticks_in_range (pos (864000000000 * d) +ℤ c)) (time_of_day_in (drop 10 t)) more), length-drop 10 t))
     (map-some pos (moment_in t) h)
 
 -- Longs.
@@ -479,10 +532,10 @@ long-limit rest m limit n most cut is = λ i low h.
 pub of-long : (k : Kind) (rest : List ℕ) (n : ℕ) → k ≡ kind.Long → LimitsPieces kind.Long rest n → LimitsPieces k rest n
 of-long k rest n is h = subst (λ x. LimitsPieces x rest n) (sym is) h
 
-pub moment-limit : (k : Kind) (rest : List ℕ) → k ≡ kind.Moment → LimitsPieces k rest 28
+pub moment-limit : (k : Kind) (rest : List ℕ) → k ≡ kind.Moment → LimitsPieces k rest 35
 unfolding LimitsPieces
 moment-limit k rest is =
-    subst (λ x. (m : ℕ) → m ≤ length rest → is_some (piece_read x (take m rest)) ≡ true → m ≤ 28) (sym is)
+    subst (λ x. (m : ℕ) → m ≤ length rest → is_some (piece_read x (take m rest)) ≡ true → m ≤ 35) (sym is)
     (λ m low h. omega (arith, moment-short (take m rest) (moment-piece (take m rest) h), length-take-le m rest low))
 
 pub span-limit : (k : Kind) (rest : List ℕ) (n : ℕ) → k ≡ kind.Span → n ≡ span_number rest → LimitsPieces k rest (n + 17)

@@ -167,7 +167,7 @@ fn piece_sizes(kind: Kind, text: &[u8]) -> (usize, usize)
     match kind {
         Kind::Bool => (0, 5),
         Kind::Long => (0, longest_long(text)),
-        Kind::Moment => (0, 28),
+        Kind::Moment => (0, 35),
         Kind::Span => {
             let size = span_number(text);
             (size + 1, size + 17)

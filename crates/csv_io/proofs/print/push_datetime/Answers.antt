@@ -19,4 +19,4 @@ returns-clause-back c =
     let text = moment_text (unsigned_abs c.args.x) in
     let bytes = simp to_z-of_z at c.push_moment.ensures.bytes in
     let back = simp to_z-of_z at c.push_moment.ensures.read_back in
-    along c.push_moment.result _ _ (moment-back c.args.x text (time-utf8 text bytes) refl) back
+    along c.push_moment.result _ _ (moment-back c.args.x text (time-utf8 text bytes) bytes refl) back

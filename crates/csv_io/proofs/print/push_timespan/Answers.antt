@@ -18,4 +18,4 @@ returns-clause-back c =
     let text = span_text c.args.x in
     let bytes = simp to_z-of_z at c.push_span.ensures.bytes in
     let back = simp to_z-of_z at c.push_span.ensures.read_back in
-    always c.push_span.result _ (span-back c.args.x text (time-utf8 text bytes) refl back)
+    always c.push_span.result _ (span-back c.args.x text (time-utf8 text bytes) bytes refl back)
