@@ -94,10 +94,23 @@ unfoldable pub two_ordered : List Kind → Option Kind
 two_ordered (a ∷ b ∷ []) = if same_kind a b && has_order a then Some kind.Bool else None
 two_ordered _ = None
 
--- for a value and one or more to compare it with, of one type that has ==
+-- of this type, or dynamic
+abbrev pub is_listed : Kind → Kind → Bool
+is_listed k kind.Dynamic = true
+is_listed k l = same_kind k l
+
+unfoldable pub all_listed : Kind → List Kind → Bool
+all_listed k ks = list_all (is_listed k) ks
+
+-- for a value and a list of one or more in which it is looked for: its type has ==, and theirs are the same or dynamic
 unfoldable pub one_among : List Kind → Option Kind
-one_among (a ∷ b ∷ more) = if all_same a (b ∷ more) && (if is_dynamic a then false else true) then Some kind.Bool else None
+one_among (a ∷ b ∷ more) = if all_listed a (b ∷ more) && (if is_dynamic a then false else true) then Some kind.Bool else None
 one_among _ = None
+
+-- the same for a text
+unfoldable pub text_among : List Kind → Option Kind
+text_among (a ∷ b ∷ more) = if all_listed kind.Text (b ∷ more) && same_kind a kind.Text then Some kind.Bool else None
+text_among _ = None
 
 -- for so many or more of one type
 unfoldable pub several_of : ℕ → Kind → Kind → List Kind → Option Kind
@@ -210,8 +223,8 @@ comparison_kind comparison.EqualText ks = row ks (kind.Text ∷ kind.Text ∷ []
 comparison_kind comparison.NotEqualText ks = row ks (kind.Text ∷ kind.Text ∷ []) kind.Bool
 comparison_kind comparison.In ks = one_among ks
 comparison_kind comparison.NotIn ks = one_among ks
-comparison_kind comparison.InTexts ks = several_of 2 kind.Text kind.Bool ks
-comparison_kind comparison.NotInTexts ks = several_of 2 kind.Text kind.Bool ks
+comparison_kind comparison.InTexts ks = text_among ks
+comparison_kind comparison.NotInTexts ks = text_among ks
 comparison_kind comparison.Between ks = rows ks (
     (kind.Long ∷ kind.Long ∷ kind.Long ∷ [], kind.Bool) ∷
     (kind.Moment ∷ kind.Moment ∷ kind.Moment ∷ [], kind.Bool) ∷

@@ -7,13 +7,15 @@ use crate::func::{
 };
 use crate::shapes::{
     behind_text, beside_dynamic, one_among, one_of_any, one_of_cases, one_of_pairs, one_of_two,
-    row, rows, several, several_of, two_equal, two_or_more, two_or_more_ordered, two_ordered,
+    row, rows, several, several_of, text_among, two_equal, two_or_more, two_or_more_ordered,
+    two_ordered,
 };
 use kql_cells::Kind;
 
 /// The type that a function gives for arguments of these types, or none where it does not take them.
 ///
-/// A dynamic operand beside another type is converted before: it has no row of its own.
+/// A dynamic operand beside another type is converted before: it has no row of its own. In the list of `in` and its like
+/// it stays, where the value that is looked for is not dynamic.
 #[tactic(auto, unfolding(crate::specs::Kinds::result_kind))]
 pub fn result_kind(f: Func, kinds: &[Kind]) -> Option<Kind>
     ensures value { result ≡ result_kind f kinds.now }
@@ -126,8 +128,8 @@ fn comparison_kind(f: ComparisonFunc, kinds: &[Kind]) -> Option<Kind>
         ComparisonFunc::NotEqualText => row(kinds, &[Kind::Text, Kind::Text], Kind::Bool),
         ComparisonFunc::In => one_among(kinds),
         ComparisonFunc::NotIn => one_among(kinds),
-        ComparisonFunc::InTexts => several_of(2, Kind::Text, Kind::Bool, kinds),
-        ComparisonFunc::NotInTexts => several_of(2, Kind::Text, Kind::Bool, kinds),
+        ComparisonFunc::InTexts => text_among(kinds),
+        ComparisonFunc::NotInTexts => text_among(kinds),
         ComparisonFunc::Between => rows(
             kinds,
             &[

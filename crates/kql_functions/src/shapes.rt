@@ -1,6 +1,6 @@
 //! The forms that the types of arguments take: rows of a table, one type throughout, and what belongs in turn.
 ghost use Rattle.std.specs.Prelude.{◌≡◌, map};
-ghost use Rattle.kql_functions.specs.Kinds.{all_same, are_pairs, behind_text, beside_dynamic, cases_of, has_order, is_dynamic, one_among, one_of_any, one_of_cases, one_of_pairs, one_of_two, read_row, row, rows, same_kind, same_kinds, several, several_of, two_equal, two_or_more, two_or_more_ordered, two_ordered};
+ghost use Rattle.kql_functions.specs.Kinds.{all_listed, all_same, are_pairs, behind_text, beside_dynamic, cases_of, has_order, is_dynamic, is_listed, one_among, one_of_any, one_of_cases, one_of_pairs, one_of_two, read_row, row, rows, same_kind, same_kinds, several, several_of, text_among, two_equal, two_or_more, two_or_more_ordered, two_ordered};
 
 use kql_cells::Kind;
 
@@ -80,6 +80,30 @@ fn all_same(kind: Kind, kinds: &[Kind]) -> bool
     true
 }
 
+// Of this type, or dynamic.
+fn is_listed(kind: Kind, other: Kind) -> bool
+    ensures { result ≡ is_listed kind other }
+{
+    match other {
+        Kind::Dynamic => true,
+        _ => same_kind(kind, other),
+    }
+}
+
+#[tactic(auto, unfolding(crate::specs::Kinds::all_listed))]
+fn all_listed(kind: Kind, kinds: &[Kind]) -> bool
+    ensures { result ≡ all_listed kind kinds.now }
+{
+    let mut left = kinds;
+    'kinds: while let [next, more @ ..] = left {
+        if !is_listed(kind, *next) {
+            return false;
+        }
+        left = more;
+    }
+    true
+}
+
 fn is_dynamic(kind: Kind) -> bool
     ensures { result ≡ is_dynamic kind }
 {
@@ -147,7 +171,18 @@ pub(crate) fn two_ordered(kinds: &[Kind]) -> Option<Kind>
 pub(crate) fn one_among(kinds: &[Kind]) -> Option<Kind>
     ensures { result ≡ one_among kinds.now }
 {
-    if kinds.len() >= 2 && all_same(kinds[0], &kinds[1..]) && !is_dynamic(kinds[0]) {
+    if kinds.len() >= 2 && all_listed(kinds[0], &kinds[1..]) && !is_dynamic(kinds[0]) {
+        Some(Kind::Bool)
+    } else {
+        None
+    }
+}
+
+#[tactic(auto, unfolding(crate::specs::Kinds::text_among))]
+pub(crate) fn text_among(kinds: &[Kind]) -> Option<Kind>
+    ensures { result ≡ text_among kinds.now }
+{
+    if kinds.len() >= 2 && all_listed(Kind::Text, &kinds[1..]) && same_kind(kinds[0], Kind::Text) {
         Some(Kind::Bool)
     } else {
         None

@@ -52,14 +52,14 @@ const COUNTS: &str =
 1 array_reverse bag_keys bag_has_key set_union set_intersect set_difference % =~ !~ contains !contains
 1 contains_cs !contains_cs startswith !startswith startswith_cs !startswith_cs endswith !endswith endswith_cs
 1 !endswith_cs has !has has_cs !has_cs
-2 abs substring now parse_json todynamic bag_merge neg in~ !in~ and or at
+2 abs substring now parse_json todynamic bag_merge neg and or at
 3 bin floor bin_at todatetime totimespan array_concat * / < <= > >=
 4 tobool + - between !between
 5 == !=
 6 isnull isnotnull isempty isnotempty iff case min_of max_of tolong tostring array_index_of bag_pack
-6 set_has_element
-10 in !in
+6 set_has_element in~ !in~
 12 coalesce
+30 in !in
 42 strcat_delim
 258 strcat pack_array";
 
@@ -88,10 +88,10 @@ binary_not L:L
 >= LL:B MM:B SS:B TT:-
 =~ TT:B TD:-
 !~ TT:B
-in LL:B LLLL:B TTT:B L:- LLT:- DDD:-
-!in MM:B SSS:B BB:B
-in~ TT:B TTTT:B LL:-
-!in~ TTT:B
+in LL:B LLLL:B TTT:B LD:B MMDM:B BDD:B L:- LLT:- LDT:- DDD:- DLL:-
+!in MM:B SSS:B BB:B SDS:B DL:-
+in~ TT:B TTTT:B TD:B TDTD:B LL:- LD:- DT:- T:- TL:-
+!in~ TTT:B TTD:B
 between LLL:B MMM:B SSS:B MMS:B TTT:- SMM:-
 !between LLL:B MMM:B SSS:B MMS:B
 contains TT:B TD:-

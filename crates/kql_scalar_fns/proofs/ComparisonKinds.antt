@@ -8,7 +8,7 @@ use Rattle.kql_functions.specs.declared.func.ComparisonFunc.TheVariants as func
 use Rattle.kql_functions.specs.Kinds.{comparison_kind}
 use Rattle.kql_scalar_fns.specs.Comparison.{comparison}
 use Rattle.kql_scalar_fns.proofs.KindLaws.{Gives, bool-kind, either-gives, row-any}
-use Rattle.kql_scalar_fns.proofs.ShapeKinds.{one_among-any, several_of-any, two_equal-any, two_ordered-any}
+use Rattle.kql_scalar_fns.proofs.ShapeKinds.{one_among-any, text_among-any, two_equal-any, two_ordered-any}
 
 pub comparison_gives : (f : ComparisonFunc) (ks : List Kind) (vs : List Value) → Gives (comparison_kind f ks) (comparison f vs)
 unfolding comparison comparison_kind
@@ -22,7 +22,7 @@ comparison_gives func.EqualText ks vs = row-any ks (kind.Text ∷ kind.Text ∷ 
 comparison_gives func.NotEqualText ks vs = row-any ks (kind.Text ∷ kind.Text ∷ []) kind.Bool _ (bool-kind _)
 comparison_gives func.In ks vs = one_among-any ks _ (tt)
 comparison_gives func.NotIn ks vs = one_among-any ks _ (tt)
-comparison_gives func.InTexts ks vs = several_of-any 2 kind.Text kind.Bool ks _ (tt)
-comparison_gives func.NotInTexts ks vs = several_of-any 2 kind.Text kind.Bool ks _ (tt)
+comparison_gives func.InTexts ks vs = text_among-any ks _ (tt)
+comparison_gives func.NotInTexts ks vs = text_among-any ks _ (tt)
 comparison_gives func.Between ks vs = either-gives _ _ _ (row-any ks (kind.Long ∷ kind.Long ∷ kind.Long ∷ []) kind.Bool _ (bool-kind _)) (either-gives _ _ _ (row-any ks (kind.Moment ∷ kind.Moment ∷ kind.Moment ∷ []) kind.Bool _ (bool-kind _)) (either-gives _ _ _ (row-any ks (kind.Span ∷ kind.Span ∷ kind.Span ∷ []) kind.Bool _ (bool-kind _)) (row-any ks (kind.Moment ∷ kind.Moment ∷ kind.Span ∷ []) kind.Bool _ (bool-kind _))))
 comparison_gives func.NotBetween ks vs = either-gives _ _ _ (row-any ks (kind.Long ∷ kind.Long ∷ kind.Long ∷ []) kind.Bool _ (bool-kind _)) (either-gives _ _ _ (row-any ks (kind.Moment ∷ kind.Moment ∷ kind.Moment ∷ []) kind.Bool _ (bool-kind _)) (either-gives _ _ _ (row-any ks (kind.Span ∷ kind.Span ∷ kind.Span ∷ []) kind.Bool _ (bool-kind _)) (row-any ks (kind.Moment ∷ kind.Moment ∷ kind.Span ∷ []) kind.Bool _ (bool-kind _))))

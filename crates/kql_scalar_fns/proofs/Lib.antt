@@ -13,6 +13,8 @@ pub mod KindLaws
 pub mod ListFacts
 pub mod LogicKinds
 pub mod LogicLaws
+pub mod MemberFacts
+pub mod MemberLaws
 pub mod PieceLaws
 pub mod RangeFacts
 pub mod RemainderLaws

@@ -5,7 +5,7 @@ use Rattle.kql_cells.specs.Values.{IsOfKind}
 use Rattle.kql_cells.specs.declared.value.Kind.{Kind}
 use Rattle.kql_cells.specs.declared.value.Kind.TheVariants as kind
 use Rattle.kql_cells.specs.declared.value.Value.{Value}
-use Rattle.kql_functions.specs.Kinds.{all_same, are_pairs, behind_text, beside_dynamic, has_order, is_dynamic, one_among, one_of_any, one_of_pairs, same_kind, several, several_of, two_equal, two_ordered}
+use Rattle.kql_functions.specs.Kinds.{all_listed, all_same, are_pairs, behind_text, beside_dynamic, has_order, is_dynamic, one_among, one_of_any, one_of_pairs, same_kind, several, several_of, text_among, two_equal, two_ordered}
 use Rattle.kql_scalar_fns.proofs.KindLaws.{Gives, test-gives}
 
 pub one_of_any-any : (k : Kind) (ks : List Kind) (v : Value) → IsOfKind k v → Gives (one_of_any k ks) v
@@ -32,7 +32,13 @@ pub one_among-any : (ks : List Kind) (v : Value) → IsOfKind kind.Bool v → Gi
 unfolding one_among
 one_among-any [] v h = tt
 one_among-any (a ∷ []) v h = tt
-one_among-any (a ∷ b ∷ ks) v h = test-gives (all_same a (b ∷ ks) && (if is_dynamic a then false else true)) kind.Bool v (λ e. h)
+one_among-any (a ∷ b ∷ ks) v h = test-gives (all_listed a (b ∷ ks) && (if is_dynamic a then false else true)) kind.Bool v (λ e. h)
+
+pub text_among-any : (ks : List Kind) (v : Value) → IsOfKind kind.Bool v → Gives (text_among ks) v
+unfolding text_among
+text_among-any [] v h = tt
+text_among-any (a ∷ []) v h = tt
+text_among-any (a ∷ b ∷ ks) v h = test-gives (all_listed kind.Text (b ∷ ks) && same_kind a kind.Text) kind.Bool v (λ e. h)
 
 pub several_of-any : (n : ℕ) (taken k : Kind) (ks : List Kind) (v : Value) → IsOfKind k v → Gives (several_of n taken k ks) v
 unfolding several_of

@@ -1,6 +1,10 @@
 -- What operators and functions promise of their arguments, apart from how they are defined.
 use Rattle.std.specs.Prelude.{◌≡◌, ◌≢◌, ◌⊎◌, ◌↔◌, Bool, true, false, ℤ, pos, unsigned_abs, ◌+ℤ◌, ◌*ℤ◌, ◌≤ℤ◌, ◌<ℤ◌, List, [], ◌∷◌, ◌++◌, All, Contains}
-use Rattle.kql_functions.specs.Kinds.{has_order}
+use Rattle.std.specs.List.{list_any}
+use Rattle.kql_functions.specs.Kinds.{has_order, is_dynamic}
+use Rattle.kql_texts.specs.declared.folding.Fold.{Fold}
+use Rattle.kql_texts.specs.declared.folding.Fold.TheVariants.{Exact}
+use Rattle.kql_cells.specs.Keys.{is_null, same_key}
 use Rattle.kql_functions.specs.declared.func.ArithmeticFunc.TheVariants as arithmetic
 use Rattle.kql_functions.specs.declared.func.ChoiceFunc.TheVariants as choice
 use Rattle.kql_functions.specs.declared.func.LogicFunc.TheVariants as logic
@@ -10,6 +14,7 @@ use Rattle.kql_cells.specs.declared.value.Kind.{Kind}
 use Rattle.kql_cells.specs.declared.value.Value.{Value}
 use Rattle.kql_cells.specs.declared.value.Value.TheVariants as value
 use Rattle.kql_scalar_fns.specs.Applied.{applied}
+use Rattle.kql_scalar_fns.specs.Comparison.{is_among, values_in}
 
 abbrev pub and_all : List Value → Value
 and_all vs = applied (func.Logic logic.And) vs
@@ -90,3 +95,11 @@ RemainderIsTaken = (n d : ℤ) → d ≢ pos 0 → (r : ℤ) × (modulo n d ≡ 
 
 abbrev pub ZeroHasNoRemainder : Type 0
 ZeroHasNoRemainder = (n : ℤ) → modulo n (pos 0) ≡ value.Null
+
+-- a value of a type is in a list where it is one of the values of the list in that type
+abbrev pub ListHasKeys : Type 0
+ListHasKeys = (k : Kind) (x : Value) (operands : List Value) → is_dynamic k ≡ false → is_null x ≡ false → IsOfKind k x → is_among Exact x operands ≡ list_any (same_key x) (values_in k operands)
+
+-- a null is in no list
+abbrev pub NullIsInNoList : Type 0
+NullIsInNoList = (fold : Fold) (operands : List Value) → is_among fold value.Null operands ≡ false

@@ -3,11 +3,13 @@ ghost use Rattle.std.specs.Ordering.{int_eq, is_ge, is_gt, is_le, is_lt};
 ghost use Rattle.kql_texts.specs.Texts.{same};
 ghost use Rattle.kql_cells.specs.Seen.{seen};
 ghost use Rattle.kql_cells.specs.Values.{IsWellFormed};
-ghost use Rattle.kql_scalar_fns.specs.Comparison.{comparison, equality, is_among, is_between, is_text_among, order, same_bools, text_equality, upper_end};
+ghost use Rattle.kql_scalar_fns.specs.Arguments.{AreWellFormed};
+ghost use Rattle.kql_scalar_fns.specs.Comparison.{comparison, equality, is_between, order, same_bools, text_equality, upper_end};
 
 use crate::arguments::{argument, bool_or_null, others};
 use crate::arithmetic::sum;
-use crate::logic::{both, is_true, opposite};
+use crate::logic::{both, opposite};
+use crate::membership::is_among;
 use kql_cells::{CellRef, Value};
 use kql_functions::ComparisonFunc;
 use kql_texts::{Fold, same};
@@ -20,6 +22,7 @@ pub(crate) fn apply_comparison(
     f: ComparisonFunc,
     args: &[CellRef<'_>],
 ) -> Result<Value, AllocError>
+    requires { AreWellFormed (map seen args.now) }
     ensures value { IfOk result (λ v. v ≡ comparison f (map seen args.now)) }
     ensures form { IfOk result IsWellFormed }
 {
@@ -34,10 +37,14 @@ pub(crate) fn apply_comparison(
         ComparisonFunc::AtLeast => Ok(bool_or_null(is_at_least(order(a, b)))),
         ComparisonFunc::EqualText => Ok(bool_or_null(text_equality(alloc, a, b)?)),
         ComparisonFunc::NotEqualText => Ok(bool_or_null(opposite(text_equality(alloc, a, b)?))),
-        ComparisonFunc::In => Ok(Value::Bool(is_among(a, others(args)))),
-        ComparisonFunc::NotIn => Ok(Value::Bool(!is_among(a, others(args)))),
-        ComparisonFunc::InTexts => Ok(Value::Bool(is_text_among(alloc, a, others(args))?)),
-        ComparisonFunc::NotInTexts => Ok(Value::Bool(!is_text_among(alloc, a, others(args))?)),
+        ComparisonFunc::In => Ok(Value::Bool(is_among(alloc, Fold::Exact, a, others(args))?)),
+        ComparisonFunc::NotIn => Ok(Value::Bool(!is_among(alloc, Fold::Exact, a, others(args))?)),
+        ComparisonFunc::InTexts => {
+            Ok(Value::Bool(is_among(alloc, Fold::Caseless, a, others(args))?))
+        }
+        ComparisonFunc::NotInTexts => {
+            Ok(Value::Bool(!is_among(alloc, Fold::Caseless, a, others(args))?))
+        }
         ComparisonFunc::Between => Ok(bool_or_null(is_between(a, b, argument(args, 2)))),
         ComparisonFunc::NotBetween => {
             Ok(bool_or_null(opposite(is_between(a, b, argument(args, 2)))))
@@ -47,7 +54,7 @@ pub(crate) fn apply_comparison(
 
 // Whether two values are the same: not known of two nulls.
 #[tactic(auto, unfolding(crate::specs::Comparison::equality))]
-fn equality(a: CellRef<'_>, b: CellRef<'_>) -> Option<bool>
+pub(crate) fn equality(a: CellRef<'_>, b: CellRef<'_>) -> Option<bool>
     ensures { result ≡ equality (seen a.entry) (seen b.entry) }
 {
     match (a, b) {
@@ -131,42 +138,17 @@ fn is_at_least(order: Option<Ordering>) -> Option<bool>
 
 // Whether two texts are the same without case.
 #[tactic(auto, unfolding(crate::specs::Comparison::text_equality))]
-fn text_equality(alloc: Global, a: CellRef<'_>, b: CellRef<'_>) -> Result<Option<bool>, AllocError>
+pub(crate) fn text_equality(
+    alloc: Global,
+    a: CellRef<'_>,
+    b: CellRef<'_>,
+) -> Result<Option<bool>, AllocError>
     ensures { IfOk result (λ r. r ≡ text_equality (seen a.entry) (seen b.entry)) }
 {
     match (a, b) {
         (CellRef::Text(a), CellRef::Text(b)) => Ok(Some(same(alloc, a, b, Fold::Caseless)?)),
         _ => Ok(None),
     }
-}
-
-// Whether one of these is the same.
-#[tactic(auto, unfolding(crate::specs::Comparison::is_among))]
-fn is_among(a: CellRef<'_>, others: &[CellRef<'_>]) -> bool
-    ensures { result ≡ is_among (seen a.entry) (map seen others.now) }
-{
-    let mut left = others;
-    'others: while let [other, more @ ..] = left {
-        if is_true(equality(a, *other)) {
-            return true;
-        }
-        left = more;
-    }
-    false
-}
-
-#[tactic(auto, unfolding(crate::specs::Comparison::is_text_among))]
-fn is_text_among(alloc: Global, a: CellRef<'_>, others: &[CellRef<'_>]) -> Result<bool, AllocError>
-    ensures { IfOk result (λ r. r ≡ is_text_among (seen a.entry) (map seen others.now)) }
-{
-    let mut left = others;
-    'others: while let [other, more @ ..] = left {
-        if is_true(text_equality(alloc, a, *other)?) {
-            return Ok(true);
-        }
-        left = more;
-    }
-    Ok(false)
 }
 
 // Whether a <= x and x <= b.

@@ -73,7 +73,7 @@ fn bool_held(d: &Dyn) -> Option<bool>
 }
 
 #[tactic(auto, unfolding(crate::specs::Conversion::to_long))]
-fn to_long(a: CellRef<'_>) -> Value
+pub(crate) fn to_long(a: CellRef<'_>) -> Value
     ensures value { result ≡ to_long (seen a.entry) }
     ensures form { IsWellFormed result }
 {
@@ -89,7 +89,7 @@ fn to_long(a: CellRef<'_>) -> Value
 }
 
 #[tactic(auto, unfolding(crate::specs::Conversion::to_bool))]
-fn to_bool(a: CellRef<'_>) -> Value
+pub(crate) fn to_bool(a: CellRef<'_>) -> Value
     ensures value { result ≡ to_bool (seen a.entry) }
     ensures form { IsWellFormed result }
 {
@@ -132,7 +132,7 @@ fn span_held(d: &Dyn) -> Option<i64>
 }
 
 #[tactic(auto, unfolding(crate::specs::Conversion::to_moment))]
-fn to_moment(a: CellRef<'_>) -> Value
+pub(crate) fn to_moment(a: CellRef<'_>) -> Value
     requires { IsWellFormed (seen a) }
     ensures value { result ≡ to_moment (seen a.entry) }
     ensures form { IsWellFormed result }
@@ -146,7 +146,7 @@ fn to_moment(a: CellRef<'_>) -> Value
 }
 
 #[tactic(auto, unfolding(crate::specs::Conversion::to_span))]
-fn to_span(a: CellRef<'_>) -> Value
+pub(crate) fn to_span(a: CellRef<'_>) -> Value
     ensures value { result ≡ to_span (seen a.entry) }
     ensures form { IsWellFormed result }
 {

@@ -1,4 +1,4 @@
-ghost use Rattle.kql_scalar_fns.specs.Laws.{AndIsThreeValued, FirstIsTaken, GreatestIsTaken, LastIsTaken, LeastIsTaken, OrIsThreeValued, RemainderIsTaken, ZeroHasNoRemainder};
+ghost use Rattle.kql_scalar_fns.specs.Laws.{AndIsThreeValued, FirstIsTaken, GreatestIsTaken, LastIsTaken, LeastIsTaken, ListHasKeys, NullIsInNoList, OrIsThreeValued, RemainderIsTaken, ZeroHasNoRemainder};
 
 /// `and` is false where one of its arguments is false, true where all are true, and else null; `or` is true where one is
 /// true, false where all are false, and else null. So the order of the arguments does not matter.
@@ -24,4 +24,11 @@ pub fn least_and_greatest()
 pub fn remainders()
     ensures remainder { RemainderIsTaken }
     ensures zero { ZeroHasNoRemainder }
+{}
+
+/// `in` by keys: a value of a type is in a list where it is one of the values that the list has in that type, as `values_in` gives
+/// them, and a null is in no list.
+pub fn lists_by_keys()
+    ensures keys { ListHasKeys }
+    ensures null { NullIsInNoList }
 {}

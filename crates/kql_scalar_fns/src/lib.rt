@@ -11,6 +11,7 @@ mod conversion;
 mod dynamic;
 mod laws;
 mod logic;
+mod membership;
 mod readings;
 mod search;
 mod text;
@@ -24,6 +25,9 @@ pub use kql_functions::{
     Func, LogicFunc, SearchFunc, SearchPlace, TextFunc, TimeFunc, Window, aggregates, find,
     functions, operators, result_kind, windows,
 };
-pub use laws::{first_that_is_given, least_and_greatest, remainders, three_valued_logic};
+pub use laws::{
+    first_that_is_given, least_and_greatest, lists_by_keys, remainders, three_valued_logic,
+};
+pub use membership::values_in;
 pub use time::{field_named, period_named};
 pub use well_formed::are_well_formed;

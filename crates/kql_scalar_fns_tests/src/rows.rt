@@ -153,6 +153,49 @@ in | null; null; 2 | false
 in | 'a; 'A; 'b | false
 in~ | 'a; 'A; 'b | true
 !in~ | 'a; 'A; 'b | false
+in | 2; [1,2] | true
+in | 2; [1,"2"] | true
+in | 3; [1,"2"] | false
+!in | 3; [1,"2"] | true
+in | 5; 6; [7,5] | true
+in | 5; [6]; [7,5] | true
+in | 5; =5 | true
+in | 5; ="5" | true
+in | 5; [] | false
+!in | 5; [] | true
+in | 5; [null] | false
+in | 1; [true] | true
+in | 2; [[2]] | false
+in | null; [null,1] | false
+!in | null; [null,1] | true
+in | true; ["no",false,1] | true
+in | false; ["no",true,0] | true
+in | false; ["no",true,null] | false
+in | 'a; ["b","a"] | true
+in | 'A; ["b","a"] | false
+in | '["a"]; ["a"] | false
+in | '2; [2] | true
+in | 'true; [true] | true
+in | '[1]; [[1]] | true
+in | '{"k":[1]}; [{"k":[1]}] | true
+in | '{"k":1}; {"k":1} | true
+in | 'k; {"k":1} | false
+in | 'a; ="a" | true
+in | '; [null] | true
+in | '; null | true
+in | '; [] | false
+in | 'null; [null] | false
+in~ | 'A; ["b","a"] | true
+!in~ | 'A; ["b","a"] | false
+in~ | 'STRASSE; 'x; ["Straße"] | true
+in~ | 'TRUE; [true] | true
+!in~ | 'a; [] | true
+in | @0; ["0001-01-01"] | true
+in | @864000000000; ["x",1,"0001-01-02"] | true
+in | @5; [5] | false
+in | ~36000000000; ["1h"] | true
+in | ~36000000000; ["01:00"] | false
+!in | ~-1; [-1,"-1tick"] | false
 between | 5; 5; 5 | true
 between | 4; 5; 9 | false
 between | @12; @10; ~2 | true
