@@ -396,7 +396,7 @@ read-Name : (n : Name) → term_read (TermV.Name n) ≡ record { name = Some (te
 unfolding expr_bound and_bound cmp_bound sum_bound prod_bound sign_bound post_bound access_read term_read arg_bound
 read-Name n = ap term_read (sym (TermV.rolls-Name n)) ∙ fold-roll-Term Look Takes Binds Binds Named Binds Binds Binds Binds Binds access_step arg_step cmp_step sign_step term_step and_step expr_step post_step prod_step sum_step (Term-F.Name n)
 
-read-Group : (place : Place) (e : Expr) → term_read (TermV.Group place e) ≡ record { name = None; bound = λ scope spot. expr_bound e scope (inside spot.position) }
+read-Group : (place : Place) (e : Expr) → term_read (TermV.Group place e) ≡ record { name = None; bound = λ scope spot. expr_bound e scope spot }
 unfolding expr_bound and_bound cmp_bound sum_bound prod_bound sign_bound post_bound access_read term_read arg_bound
 read-Group place e = ap term_read (sym (TermV.rolls-Group place e)) ∙ fold-roll-Term Look Takes Binds Binds Named Binds Binds Binds Binds Binds access_step arg_step cmp_step sign_step term_step and_step expr_step post_step prod_step sum_step (Term-F.Group place e)
 
@@ -420,7 +420,7 @@ pub name-Name : (n : Name) → term_name (TermV.Name n) ≡ Some (text_of n)
 unfolding term_name
 name-Name n = ap (λ (t : Named). t.name) (read-Name n)
 
-pub term-Group : (place : Place) (e : Expr) (scope : Scope) (spot : Spot) → term_bound (TermV.Group place e) scope spot ≡ expr_bound e scope (inside spot.position)
+pub term-Group : (place : Place) (e : Expr) (scope : Scope) (spot : Spot) → term_bound (TermV.Group place e) scope spot ≡ expr_bound e scope spot
 unfolding term_bound
 term-Group place e scope spot = ap (λ (t : Named). t.bound scope spot) (read-Group place e)
 
@@ -436,9 +436,8 @@ pub name-Call : (w : Word) (args : List Arg) → term_name (TermV.Call w args) �
 unfolding term_name
 name-Call w args = ap (λ (t : Named). t.name) (read-Call w args)
 
-pub group-answers : (e : Term) (place : Place) (x : Expr) (scope : Scope) (spot inner : Spot) (result : Outcome Typed) → e ≡ TermV.Group place x → inner ≡ inside spot.position → Answers result (expr_bound x scope inner) → Answers result (term_bound e scope spot)
-group-answers e place x scope spot inner result is where_inner h = answers-along result (expr_bound x scope inner) (term_bound e scope spot) h
-    (ap (λ (s : Spot). expr_bound x scope s) where_inner ∙ (sym (term-Group place x scope spot) ∙ ap (λ (t : Term). term_bound t scope spot) (sym is)))
+pub group-answers : (e : Term) (place : Place) (x : Expr) (scope : Scope) (spot : Spot) (result : Outcome Typed) → e ≡ TermV.Group place x → Answers result (expr_bound x scope spot) → Answers result (term_bound e scope spot)
+group-answers e place x scope spot result is h = answers-along result (expr_bound x scope spot) (term_bound e scope spot) h (sym (term-Group place x scope spot) ∙ ap (λ (t : Term). term_bound t scope spot) (sym is))
 
 -- Which step a term names.
 

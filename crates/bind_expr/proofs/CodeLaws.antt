@@ -47,11 +47,11 @@ use Rattle.kql_syntax.specs.declared.tree.SumSign.{SumSign}
 use Rattle.kql_syntax.specs.declared.tree.Word.{Word}
 use Rattle.bind_expr.specs.AggregateCalls.{aggregate_call, aggregate_given, aggregate_stands, aggregate_taken, aggregate_typed}
 use Rattle.bind_expr.specs.Arguments.{arg_link, first_slot, next_slot, no_args, plain_arg, taken}
-use Rattle.bind_expr.specs.Bound.{Binds, Look, Named, Takes, access_read, access_step, and_bound, and_step, arg_bound, arg_step, args_taken, bound_expr, bound_single, call_bound, cmp_bound, cmp_step, entry_key, expr_bound, expr_step, first_spot, found_call, inside, negated, operand_link, path_from, path_of, post_bound, post_of, post_step, prod_bound, prod_sign, prod_step, sign_bound, sign_step, sum_bound, sum_sign, sum_step, term_read, term_step}
+use Rattle.bind_expr.specs.Bound.{Binds, Look, Named, Takes, access_read, access_step, and_bound, and_step, arg_bound, arg_step, args_taken, bound_expr, call_bound, cmp_bound, cmp_step, entry_key, expr_bound, expr_step, first_spot, found_call, inside, negated, operand_link, path_from, path_of, post_bound, post_of, post_step, prod_bound, prod_sign, prod_step, sign_bound, sign_step, sum_bound, sum_sign, sum_step, term_read, term_step}
 use Rattle.bind_expr.specs.Calls.{from_moment, moment_call, moment_call_as, moment_sign, plain_call, plain_call_as, scalar_call, scalar_call_as, takes_args}
 use Rattle.bind_expr.specs.Chains.{chain_whole, chained_from, closed, linked, linked_as, opened}
 use Rattle.bind_expr.specs.Comparisons.{among_func, among_kind, between_func, bounded, compare_func, compared, compared_as, in_node, is_of_any_type, listed}
-use Rattle.bind_expr.specs.Laws.{EachIsTold, EachSingleIsTold, Tells, is_bind_code, tells}
+use Rattle.bind_expr.specs.Laws.{EachIsTold, Tells, is_bind_code, tells}
 use Rattle.bind_expr.specs.Literals.{literal_bound, read_or_fault, typed_literal, typed_of_kind}
 use Rattle.typed_literals.specs.Reading.{kind_of_word, trimmed, value_or_null}
 use Rattle.bind_expr.specs.Logic.{joined_as, joined_from, terms_closed, terms_opened, terms_whole, with_term}
@@ -532,7 +532,7 @@ unfolding expr_bound and_bound cmp_bound sum_bound prod_bound sign_bound post_bo
 of-term (Term-F.Literal l) scope spot = subst (λ (r : Outcome Typed). Tells r) (sym (ap (λ (n : Named). n.bound scope spot) (fold-roll-Term Look Takes Binds Binds Named Binds Binds Binds Binds Binds access_step arg_step cmp_step sign_step term_step and_step expr_step post_step prod_step sum_step (Term-F.Literal l)))) (told-literal l)
 of-term (Term-F.Name n) scope spot = subst (λ (r : Outcome Typed). Tells r) (sym (ap (λ (n : Named). n.bound scope spot) (fold-roll-Term Look Takes Binds Binds Named Binds Binds Binds Binds Binds access_step arg_step cmp_step sign_step term_step and_step expr_step post_step prod_step sum_step (Term-F.Name n)))) (told-name n scope)
 of-term (Term-F.Call w args) scope spot = subst (λ (r : Outcome Typed). Tells r) (sym (ap (λ (n : Named). n.bound scope spot) (fold-roll-Term Look Takes Binds Binds Named Binds Binds Binds Binds Binds access_step arg_step cmp_step sign_step term_step and_step expr_step post_step prod_step sum_step (Term-F.Call w (map bare_arg args))))) (told-call-bound w args scope spot)
-of-term (Term-F.Group place e) scope spot = subst (λ (r : Outcome Typed). Tells r) (sym (ap (λ (n : Named). n.bound scope spot) (fold-roll-Term Look Takes Binds Binds Named Binds Binds Binds Binds Binds access_step arg_step cmp_step sign_step term_step and_step expr_step post_step prod_step sum_step (Term-F.Group place e.0)))) (e.1 scope (inside spot.position))
+of-term (Term-F.Group place e) scope spot = subst (λ (r : Outcome Typed). Tells r) (sym (ap (λ (n : Named). n.bound scope spot) (fold-roll-Term Look Takes Binds Binds Named Binds Binds Binds Binds Binds access_step arg_step cmp_step sign_step term_step and_step expr_step post_step prod_step sum_step (Term-F.Group place e.0)))) (e.1 scope spot)
 
 told-path : (scope : Scope) (at : Position) (first : Outcome Typed) → Tells first → (ls : List Look) → Each (λ (l : Look). l.key scope at) ls → Tells (path_of scope at first ls)
 unfolding path_opened path_closed
@@ -576,10 +576,6 @@ pub each-told : EachIsTold
 unfolding bound_expr
 each-told e scope = every-expr e scope (record { position = scope.position; alone = true })
 
-pub each-single-told : EachSingleIsTold
-unfolding bound_single
-each-single-told e scope = every-expr e scope (inside scope.position)
-
 -- What an answer says, its definition tells.
 told-answer : (d r : Outcome Typed) (code : ℕ) (place : Place) → Tells d → Answers r d → r ≡ Err (fault.Refused code place) → is_bind_code code ≡ true
 told-answer d r code place h a is =
@@ -592,4 +588,4 @@ code-told e scope spot r a code place is = told-answer (expr_bound e scope spot)
 
 pub ruleset code_laws = (code-told)
 
-pub ruleset told_laws = (each-told, each-single-told)
+pub ruleset told_laws = (each-told)

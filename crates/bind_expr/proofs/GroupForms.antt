@@ -1,16 +1,17 @@
 -- What `summarize` asks of the form of an item, one equation for each variant of an expression.
-use Rattle.std.proofs.Common.{◌≡◌, ◌||◌, ℕ, Bool, true, false, List, [], ◌∷◌, map, refl, sym, ap, ◌∙◌}
+use Rattle.std.proofs.Common.{◌≡◌, ◌||◌, not, ℕ, Bool, true, false, List, [], ◌∷◌, map, refl, sym, ap, ◌∙◌}
 use Rattle.std.specs.List.{list_any}
 use Rattle.kql_functions.specs.declared.aggregate.Aggregate.{Aggregate}
 use Rattle.kql_functions.specs.declared.func.Func.{Func}
 use Rattle.kql_functions.specs.declared.window.Window.{Window}
-use Rattle.kql_bound.specs.declared.expr.BExpr.{BExpr, fold-roll-BExpr, para-roll-BExpr}
+use Rattle.kql_bound.specs.declared.expr.BExpr.{BExpr, fold-roll-BExpr, out-BExpr, out-roll-BExpr, para-roll-BExpr}
 use Rattle.kql_bound.specs.declared.expr.BExpr.TheOpen.{BExpr-F}
 use Rattle.kql_bound.specs.declared.expr.BExpr.TheVariants as V
 use Rattle.kql_bound.specs.declared.expr.ChainSign.{ChainSign}
 use Rattle.kql_bound.specs.declared.expr.StepColumn.{StepColumn}
 use Rattle.kql_bound.specs.declared.literal.Lit.{Lit}
-use Rattle.bind_expr.specs.GroupForms.{Looked, any_looked, bad_count_step, bare_column_step, counts_badly, has_bad_count, has_bare_column}
+use Rattle.kql_meaning.specs.Results.{has_one_result}
+use Rattle.bind_expr.specs.GroupForms.{Looked, any_looked, bad_count_step, bare_column_step, counts_badly, has_bad_count, has_bare_column, has_several_results, several_step}
 
 any-map : {X Y : Type 0} (p : Y → Bool) (f : X → Y) (xs : List X) → list_any p (map f xs) ≡ list_any (λ x. p (f x)) xs
 any-map p f [] = refl
@@ -54,6 +55,42 @@ unfolding has_bare_column
 bare-Aggregate f args = ap has_bare_column (sym (V.rolls-Aggregate f args)) ∙ fold-roll-BExpr Bool bare_column_step (BExpr-F.Aggregate f args)
 
 pub ruleset bare_steps = (bare-Literal, bare-Column, bare-Step, bare-Call, bare-Chain, bare-Path, bare-Window, bare-Aggregate)
+
+-- Several result columns.
+
+pub several-Literal : (l : Lit) → has_several_results (V.Literal l) ≡ false
+unfolding has_several_results
+several-Literal l = ap several_step (ap out-BExpr (sym (V.rolls-Literal l)) ∙ out-roll-BExpr (BExpr-F.Literal l))
+
+pub several-Column : (n : List ℕ) → has_several_results (V.Column n) ≡ false
+unfolding has_several_results
+several-Column n = ap several_step (ap out-BExpr (sym (V.rolls-Column n)) ∙ out-roll-BExpr (BExpr-F.Column n))
+
+pub several-Step : (c : StepColumn) → has_several_results (V.Step c) ≡ false
+unfolding has_several_results
+several-Step c = ap several_step (ap out-BExpr (sym (V.rolls-Step c)) ∙ out-roll-BExpr (BExpr-F.Step c))
+
+pub several-Call : (f : Func) (args : List BExpr) → has_several_results (V.Call f args) ≡ false
+unfolding has_several_results
+several-Call f args = ap several_step (ap out-BExpr (sym (V.rolls-Call f args)) ∙ out-roll-BExpr (BExpr-F.Call f args))
+
+pub several-Chain : (first : BExpr) (links : List (ChainSign × BExpr)) → has_several_results (V.Chain first links) ≡ false
+unfolding has_several_results
+several-Chain first links = ap several_step (ap out-BExpr (sym (V.rolls-Chain first links)) ∙ out-roll-BExpr (BExpr-F.Chain first links))
+
+pub several-Path : (whole : BExpr) (steps : List BExpr) → has_several_results (V.Path whole steps) ≡ false
+unfolding has_several_results
+several-Path whole steps = ap several_step (ap out-BExpr (sym (V.rolls-Path whole steps)) ∙ out-roll-BExpr (BExpr-F.Path whole steps))
+
+pub several-Window : (f : Window) (args : List BExpr) → has_several_results (V.Window f args) ≡ false
+unfolding has_several_results
+several-Window f args = ap several_step (ap out-BExpr (sym (V.rolls-Window f args)) ∙ out-roll-BExpr (BExpr-F.Window f args))
+
+pub several-Aggregate : (f : Aggregate) (args : List BExpr) → has_several_results (V.Aggregate f args) ≡ not (has_one_result f args)
+unfolding has_several_results
+several-Aggregate f args = ap several_step (ap out-BExpr (sym (V.rolls-Aggregate f args)) ∙ out-roll-BExpr (BExpr-F.Aggregate f args))
+
+pub ruleset several_steps = (several-Literal, several-Column, several-Step, several-Call, several-Chain, several-Path, several-Window, several-Aggregate)
 
 -- Counts of lists and sets.
 

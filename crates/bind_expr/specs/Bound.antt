@@ -188,12 +188,12 @@ args_taken scope first next (a ∷ more) = fold (λ before (arg : Takes). arg_li
 abbrev pub call_bound : Word → List Takes → Binds
 call_bound w args scope spot = call_node w scope spot (found_as w.text) (args_taken scope (first_slot (found_as w.text) spot.position) (next_slot (found_as w.text) spot.position) args)
 
--- Terms. An expression in brackets is not the whole one.
+-- Terms. Brackets are as if they were not there: what is in them stands where they do.
 abbrev pub term_step : Term-F Look Takes Binds Binds Named Binds Binds Binds Binds Binds → Named
 term_step (Term-F.Literal l) = record { name = None; bound = λ scope spot. literal_bound l }
 term_step (Term-F.Name n) = record { name = Some (text_of n); bound = λ scope spot. name_bound n scope }
 term_step (Term-F.Call w args) = record { name = None; bound = call_bound w args }
-term_step (Term-F.Group place e) = record { name = None; bound = λ scope spot. e scope (inside spot.position) }
+term_step (Term-F.Group place e) = record { name = None; bound = λ scope spot. e scope spot }
 
 abbrev pub arg_step : Arg-F Look Takes Binds Binds Named Binds Binds Binds Binds Binds → Takes
 arg_step (Arg-F.«Arg::Plain» e) scope at = plain_arg (e scope (inside at))
@@ -276,7 +276,3 @@ args_of scope first next (a ∷ more) = args_to scope next (arg_link scope first
 -- The whole: an expression as it stands in its scope.
 unfoldable pub bound_expr : Expr → Scope → Outcome Typed
 bound_expr e scope = expr_bound e scope (record { position = scope.position; alone = true })
-
--- An expression that is to have one column: no call with several result columns may stand in it.
-unfoldable pub bound_single : Expr → Scope → Outcome Typed
-bound_single e scope = expr_bound e scope (inside scope.position)

@@ -86,12 +86,22 @@ among_func among.NotIn = func.Comparison comparison.NotIn
 among_func among.InTilde = func.Comparison comparison.InTexts
 among_func among.NotInTilde = func.Comparison comparison.NotInTexts
 
--- The type that dynamic operands take: that of the first that is not, and a string where case does not count.
+-- The type that dynamic operands take beside a dynamic value that is looked for: that of the first that is not dynamic, and a string
+-- where case does not count.
+unfoldable pub common_among : InOp → List Kind → Kind
+common_among among.In ks = common_kind ks
+common_among among.NotIn ks = common_kind ks
+common_among among.InTilde ks = kind.Text
+common_among among.NotInTilde ks = kind.Text
+
+-- Where the value that is looked for is not dynamic, they stay so: they stand for the elements of their arrays.
+abbrev pub kind_beside : InOp → List Kind → Kind → Kind
+kind_beside o ks kind.Dynamic = common_among o ks
+kind_beside o ks _ = kind.Dynamic
+
 unfoldable pub among_kind : InOp → List Kind → Kind
-among_kind among.In ks = common_kind ks
-among_kind among.NotIn ks = common_kind ks
-among_kind among.InTilde ks = kind.Text
-among_kind among.NotInTilde ks = kind.Text
+among_kind o [] = kind.Dynamic
+among_kind o (k ∷ ks) = kind_beside o (k ∷ ks) k
 
 unfoldable pub listed : InSign → List Typed → Outcome Typed
 listed sign ts = operands_call sign.place (among_func sign.op) (all_beside (among_kind sign.op (kinds_of ts)) ts)

@@ -1,12 +1,14 @@
--- What `summarize` refuses of an expression that is bound: columns outside the arguments of an aggregate, and counts that are none.
+-- What `summarize` refuses of an expression that is bound: columns outside the arguments of an aggregate, several result columns under one
+-- name, and counts that are none.
 use Rattle.std.specs.Prelude.{Bool, true, false, not, ◌||◌, List, [], ◌∷◌, map}
 use Rattle.std.specs.List.{list_any}
 use Rattle.kql_functions.specs.declared.aggregate.Aggregate.{Aggregate}
 use Rattle.kql_functions.specs.declared.aggregate.Aggregate.TheVariants as aggregate
-use Rattle.kql_bound.specs.declared.expr.BExpr.{BExpr, fold-BExpr, para-BExpr}
+use Rattle.kql_bound.specs.declared.expr.BExpr.{BExpr, fold-BExpr, out-BExpr, para-BExpr}
 use Rattle.kql_bound.specs.declared.expr.BExpr.TheOpen.{BExpr-F}
 use Rattle.kql_bound.specs.declared.expr.ChainSign.{ChainSign}
 use Rattle.kql_meaning.specs.FittingExpressions.{is_count}
+use Rattle.kql_meaning.specs.Results.{has_one_result}
 
 abbrev pub bare_column_step : BExpr-F Bool → Bool
 bare_column_step (BExpr-F.Literal l) = false
@@ -21,6 +23,14 @@ bare_column_step (BExpr-F.Aggregate f args) = false
 -- Whether a column stands outside the arguments of an aggregate.
 unfoldable pub has_bare_column : BExpr → Bool
 has_bare_column = fold-BExpr Bool bare_column_step
+
+abbrev pub several_step : BExpr-F BExpr → Bool
+several_step (BExpr-F.Aggregate f args) = not (has_one_result f args)
+several_step _ = false
+
+-- Whether an expression is a call with several result columns.
+unfoldable pub has_several_results : BExpr → Bool
+has_several_results e = several_step (out-BExpr e)
 
 abbrev pub is_bad_count : List BExpr → Bool
 is_bad_count (x ∷ n ∷ []) = not (is_count n)

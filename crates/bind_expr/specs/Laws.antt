@@ -1,7 +1,7 @@
 -- What every refusal is.
 use Rattle.std.specs.Prelude.{◌≡◌, ℕ, ◌==◌, ◌||◌, ◌&&◌, Bool, true, nat_le, Ok, Err, ⊤}
 use Rattle.kql_syntax.specs.declared.tree.Expr.{Expr}
-use Rattle.bind_expr.specs.Bound.{bound_expr, bound_single}
+use Rattle.bind_expr.specs.Bound.{bound_expr}
 use Rattle.bind_expr.specs.Outcome.{Outcome}
 use Rattle.bind_expr.specs.declared.fault.BindFault.TheVariants as fault
 use Rattle.bind_expr.specs.declared.scope.Scope.{Scope}
@@ -22,7 +22,3 @@ pub record Tells {X : Type 0} (r : Outcome X) : Type 0 where
 -- Each expression is bound, or refused with one of these codes.
 abbrev pub EachIsTold : Type 0
 EachIsTold = (e : Expr) (scope : Scope) → Tells (bound_expr e scope)
-
--- So is each that is to have one column.
-abbrev pub EachSingleIsTold : Type 0
-EachSingleIsTold = (e : Expr) (scope : Scope) → Tells (bound_single e scope)

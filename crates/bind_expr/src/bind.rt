@@ -4,7 +4,7 @@ ghost use Rattle.kql_lexer.specs.declared.place.Place.{Place};
 ghost use Rattle.bind_expr.specs.Laws.{is_bind_code};
 ghost use Rattle.bind_expr.specs.Outcome.{Answers};
 ghost use Rattle.bind_expr.specs.declared.fault.BindFault.TheVariants as fault;
-ghost use Rattle.bind_expr.specs.Bound.{access_key, access_place, and_bound, ands_to, arg_bound, args_to, bound_expr, bound_single, cmp_bound, expr_bound, factors_to, first_spot, inside, links_to, looks_to, operands_to, ors_to, path_to, post_bound, prod_bound, prod_link, prod_sign, sign_bound, sum_bound, sum_link, sum_sign, term_bound, term_name};
+ghost use Rattle.bind_expr.specs.Bound.{access_key, access_place, and_bound, ands_to, arg_bound, args_to, bound_expr, cmp_bound, expr_bound, factors_to, first_spot, inside, links_to, looks_to, operands_to, ors_to, path_to, post_bound, prod_bound, prod_link, prod_sign, sign_bound, sum_bound, sum_link, sum_sign, term_bound, term_name};
 ghost use Rattle.bind_expr.specs.Paths.{step_named};
 
 use crate::arguments::{
@@ -45,16 +45,6 @@ pub fn bind_expr(alloc: Global, e: &Expr, scope: &Scope) -> Result<Typed, BindFa
         alone: true,
     };
     bind_or(alloc, e, scope, spot)
-}
-
-/// An expression that is to have one column, as an item with a name of its own: as `bind_expr`, but a call with several result columns is
-/// refused, by 403 at the function, as it is within an expression.
-#[tactic(auto, using(crate::proofs::CodeLaws::code_laws), unfolding(crate::specs::Bound::bound_single))]
-pub fn bind_single(alloc: Global, e: &Expr, scope: &Scope) -> Result<Typed, BindFault>
-    ensures exact { Answers result (bound_single e.now scope.now) }
-    ensures codes { (code : ℕ) (place : Place) → result ≡ Err (fault.Refused code place) → is_bind_code code ≡ true }
-{
-    bind_or(alloc, e, scope, inside(scope.position))
 }
 
 /// A part that is not the whole expression.
@@ -451,7 +441,7 @@ fn bind_term(alloc: Global, e: &Term, scope: &Scope, spot: Spot) -> Result<Typed
                 }
             }
         }
-        Term::Group(_, e) => bind_or(alloc, e.get(), scope, inside(spot.position)),
+        Term::Group(_, e) => bind_or(alloc, e.get(), scope, spot),
     }
 }
 

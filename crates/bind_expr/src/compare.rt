@@ -2,7 +2,7 @@
 ghost use Rattle.std.specs.Prelude.{◌≡◌, ◌∷◌, [], Ok};
 ghost use Rattle.bind_expr.specs.Outcome.{Answers};
 ghost use Rattle.bind_expr.specs.Bound.{minus_node, negated, operand_link};
-ghost use Rattle.bind_expr.specs.Comparisons.{among_func, among_kind, between_func, between_node, bounded, compare_func, compare_node, compared, in_node, is_of_any_type, listed, search};
+ghost use Rattle.bind_expr.specs.Comparisons.{among_func, among_kind, between_func, between_node, bounded, common_among, compare_func, compare_node, compared, in_node, is_of_any_type, listed, search};
 ghost use Rattle.bind_expr.specs.Operands.{beside, kinds_of, operands_call};
 
 use crate::arguments::Args;
@@ -164,6 +164,19 @@ fn among_func(op: InOp) -> Func
 #[tactic(auto, unfolding(crate::specs::Comparisons::among_kind))]
 fn among_kind(op: InOp, operands: &[Typed]) -> Kind
     ensures { result ≡ among_kind op (kinds_of operands.now) }
+{
+    match operands {
+        [] => Kind::Dynamic,
+        [looked_for, ..] => match looked_for.kind {
+            Kind::Dynamic => common_among(op, operands),
+            _ => Kind::Dynamic,
+        },
+    }
+}
+
+#[tactic(auto, unfolding(crate::specs::Comparisons::common_among))]
+fn common_among(op: InOp, operands: &[Typed]) -> Kind
+    ensures { result ≡ common_among op (kinds_of operands.now) }
 {
     match op {
         InOp::In => common_of(operands),

@@ -26,7 +26,7 @@ mod steps;
 mod typed;
 mod windows;
 
-pub use bind::{bind_expr, bind_single};
+pub use bind::bind_expr;
 pub use constants::constant_of;
 pub use fault::BindFault;
 pub use laws::law_of_codes;

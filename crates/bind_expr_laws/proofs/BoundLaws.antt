@@ -1,5 +1,5 @@
 -- Every expression that is bound, by induction over its tree.
-use Rattle.std.proofs.Common.{◌≡◌, ◌≢◌, ℕ, true, false, List, [], ◌∷◌, ◌++◌, map, refl, sym, ap, ◌∙◌, subst}
+use Rattle.std.proofs.Common.{◌≡◌, ◌≢◌, ℕ, Bool, true, false, not, List, [], ◌∷◌, ◌++◌, map, refl, sym, ap, ◌∙◌, subst}
 use Rattle.std.specs.Prelude.{Ok, Err, Option, None, Some, fold}
 use Rattle.std.proofs.lemmas.Bool.{and_parts, and_from}
 use Rattle.kql_cells.specs.declared.value.Kind.TheVariants as kind
@@ -35,15 +35,16 @@ use Rattle.kql_syntax.specs.declared.tree.ProdSign.{ProdSign}
 use Rattle.kql_syntax.specs.declared.tree.SumSign.{SumSign}
 use Rattle.kql_syntax.specs.declared.tree.Word.{Word}
 use Rattle.bind_expr.specs.Arguments.{aggregate_position, first_slot, next_slot, plain_arg, window_first, window_next}
-use Rattle.bind_expr.specs.Bound.{Binds, Look, Named, Takes, access_read, access_step, and_bound, and_step, arg_bound, arg_step, args_taken, bound_expr, bound_single, cmp_bound, cmp_step, entry_key, expr_bound, expr_step, found_call, inside, negated, operand_link, path_from, post_bound, post_of, post_step, prod_bound, prod_sign, prod_step, sign_bound, sign_step, sum_bound, sum_sign, sum_step, term_read, term_step}
+use Rattle.bind_expr.specs.Bound.{Binds, Look, Named, Takes, access_read, access_step, and_bound, and_step, arg_bound, arg_step, args_taken, bound_expr, cmp_bound, cmp_step, entry_key, expr_bound, expr_step, found_call, inside, negated, operand_link, path_from, post_bound, post_of, post_step, prod_bound, prod_sign, prod_step, sign_bound, sign_step, sum_bound, sum_sign, sum_step, term_read, term_step}
 use Rattle.bind_expr.specs.Comparisons.{bounded, compared, in_node, listed}
 use Rattle.bind_expr.specs.Constants.{is_constant}
+use Rattle.bind_expr.specs.GroupForms.{has_several_results}
 use Rattle.bind_expr.specs.Names.{name_bound}
 use Rattle.bind_expr.specs.Outcome.{Outcome, ◌>>=◌}
 use Rattle.bind_expr.specs.Paths.{step_bound, step_named}
 use Rattle.bind_expr.specs.declared.scope.Scope.{Scope}
 use Rattle.bind_expr.specs.declared.typed.Typed.{Typed}
-use Rattle.bind_expr_laws.specs.Laws.{BoundIsSound, IsSound, NameIsSound, SingleIsSound}
+use Rattle.bind_expr_laws.specs.Laws.{BoundIsSound, IsSound, NameIsSound}
 use Rattle.bind_expr_laws.specs.Scopes.{IsSoundScope, read_scope}
 use Rattle.bind_expr_laws.proofs.Aggregates.{aggregate-bound}
 use Rattle.bind_expr_laws.proofs.Arguments.{HasArgs, IsArg, aggregate-slots, args-taken, scalar-slots, window-slots}
@@ -51,10 +52,11 @@ use Rattle.bind_expr_laws.proofs.Calls.{scalar-bound}
 use Rattle.bind_expr_laws.proofs.Chains.{chain-bound}
 use Rattle.bind_expr_laws.proofs.Comparisons.{bounded-bound, compared-bound, listed-bound, negated-bound}
 use Rattle.bind_expr.proofs.ConstantSteps.{constant-Aggregate}
+use Rattle.bind_expr.proofs.GroupForms.{several-Aggregate}
 use Rattle.bind_expr_laws.proofs.Constants.{constant-given, constant-is, every-free, literal-part, value-literal}
 use Rattle.bind_expr_laws.proofs.Logic.{and-joins, or-joins, terms-bound}
-use Rattle.bind_expr_laws.proofs.Outcomes.{Each, Gives, gives-fold, gives-map, gives-then, given}
-use Rattle.bind_expr_laws.proofs.Parts.{AreOperands, IsBound, IsPart, fits-whole, part-bound}
+use Rattle.bind_expr_laws.proofs.Outcomes.{Each, Gives, gives-fold, gives-then, given}
+use Rattle.bind_expr_laws.proofs.Parts.{AreOperands, IsBound, IsPart, part-bound}
 use Rattle.bind_expr_laws.proofs.Paths.{path-bound}
 use Rattle.bind_expr_laws.proofs.Shapes.{Spot}
 use Rattle.bind_expr_laws.proofs.Standing.{stands}
@@ -322,7 +324,7 @@ of-term (Term-F.Call w args) scope sound spot =
     (found-bound w scope spot (found_as w.text) (map arg_bound (map bare_arg args)) sound (λ at. each-args scope sound at args))
 of-term (Term-F.Group place e) scope sound spot =
     subst (λ (r : Outcome Typed). IsGiven scope spot r) (sym (ap (λ (n : Named). n.bound scope spot) (fold-roll-Term Look Takes Binds Binds Named Binds Binds Binds Binds Binds access_step arg_step cmp_step sign_step term_step and_step expr_step post_step prod_step sum_step (Term-F.Group place e.0))))
-    (gives-map (IsBound scope (inside spot.position)) (IsBound scope spot) (expr_bound e.0 scope (inside spot.position)) (e.1 scope sound (inside spot.position)) (λ t b. part-bound scope spot t (bound-part scope spot.position t b)))
+    (e.1 scope sound spot)
 
 -- Terms with looks behind them.
 
@@ -388,6 +390,14 @@ single-fits e scope at single h =
     subst (λ (x : BExpr). expr_fits x scope at ≡ true) same
     (layer-one (out-BExpr e) scope at (λ g args is takes. single g args (sym same ∙ is) takes) (subst (λ (x : BExpr). call_or_expr_fits x scope at ≡ true) (sym same) h))
 
+-- An expression that is no call with several result columns.
+one-call : (e : BExpr) (g : Aggregate) (args : List BExpr) → e ≡ V.Aggregate g args → has_several_results e ≡ false → has_one_result g args ≡ true
+one-call e g args is h = yes (has_one_result g args) (sym (several-Aggregate g args) ∙ (ap has_several_results (sym is) ∙ h))
+  where
+    yes : (b : Bool) → not b ≡ false → b ≡ true
+    yes true n = refl
+    yes false n = absurd cc
+
 constant-single : (e : BExpr) (at : Position) → is_constant e ≡ true → IsSingle e at
 constant-single e at c g args is takes = never (is_constant (V.Aggregate g args)) (constant-Aggregate g args) (subst (λ (x : BExpr). is_constant x ≡ true) is c)
 
@@ -422,6 +432,7 @@ whole-sound scope t sound b =
       kind = b.kind;
       fits = λ free. whole-fits scope t scope.position b (no-group scope.position free) ((every-free t.expr).in_columns scope.position free);
       group = λ e columns counts. (at position.Group e).fits ((every-free t.expr).grouped columns counts);
+      one = λ e single columns counts. single-fits t.expr (read_scope scope) position.Group (λ g args same takes. one-call t.expr g args same single) ((at position.Group e).fits ((every-free t.expr).grouped columns counts));
       series = λ e call. whole-fits scope t position.Series (at position.Series e) no-series (call-stands t.expr call);
       constant = λ l c.
           let part : IsPart scope scope.position t.expr t.kind = record {
@@ -437,21 +448,9 @@ bound-sound e scope t sound is =
     let spot : Spot = record { position = scope.position; alone = true } in
     whole-sound scope t sound (given (IsBound scope spot) (expr_bound e scope spot) t (every-expr e scope sound spot) is)
 
-pub single-sound : SingleIsSound
-unfolding bound_single
-single-sound e scope t sound is =
-    let spot : Spot = record { position = scope.position; alone = false } in
-    let b : IsBound scope spot t = given (IsBound scope spot) (expr_bound e scope spot) t (every-expr e scope sound spot) is in
-    record {
-      sound = whole-sound scope t sound (record { kind = b.kind; fits = λ s. fits-whole t.expr (read_scope scope) scope.position (b.fits s) });
-      group = λ e columns counts.
-          let there : IsBound scope (record { position = position.Group; alone = false }) t = subst (λ (q : Position). IsBound scope (record { position = q; alone = false }) t) e b in
-          there.fits ((every-free t.expr).grouped columns counts);
-    }
-
 pub name-sound : NameIsSound
 name-sound n scope t sound is =
     let spot : Spot = record { position = scope.position; alone = true } in
     whole-sound scope t sound (given (IsBound scope spot) (name_bound n scope) t (name-bound scope spot n sound) is)
 
-pub ruleset bound_laws = (bound-sound, single-sound, name-sound)
+pub ruleset bound_laws = (bound-sound, name-sound)

@@ -1,5 +1,5 @@
 -- A refusal is told at a place of the tree, by induction over the tree.
-use Rattle.std.proofs.Common.{◌≡◌, ℕ, true, false, List, [], ◌∷◌, ◌++◌, map, refl, sym, subst, inl, inr}
+use Rattle.std.proofs.Common.{◌≡◌, ℕ, true, List, [], ◌∷◌, ◌++◌, map, refl, sym, subst, inl, inr}
 use Rattle.std.specs.Prelude.{Ok, Err, Option, None, Some, fold}
 use Rattle.std.specs.List.{flat_map}
 use Rattle.kql_functions.specs.Find.{found_as}
@@ -25,7 +25,7 @@ use Rattle.kql_syntax.specs.declared.tree.ProdSign.{ProdSign}
 use Rattle.kql_syntax.specs.declared.tree.SumSign.{SumSign}
 use Rattle.kql_syntax.specs.declared.tree.Word.{Word}
 use Rattle.bind_expr.specs.Arguments.{arg_link, first_slot, next_slot, no_args, plain_arg, taken}
-use Rattle.bind_expr.specs.Bound.{Binds, Look, Named, Takes, access_read, access_step, and_bound, and_step, arg_bound, arg_step, args_taken, bound_expr, bound_single, call_bound, cmp_bound, cmp_step, entry_key, expr_bound, expr_step, first_spot, found_call, inside, negated, operand_link, path_from, path_of, post_bound, post_of, post_step, prod_bound, prod_sign, prod_step, sign_bound, sign_step, sum_bound, sum_sign, sum_step, term_read, term_step}
+use Rattle.bind_expr.specs.Bound.{Binds, Look, Named, Takes, access_read, access_step, and_bound, and_step, arg_bound, arg_step, args_taken, bound_expr, call_bound, cmp_bound, cmp_step, entry_key, expr_bound, expr_step, first_spot, found_call, inside, negated, operand_link, path_from, path_of, post_bound, post_of, post_step, prod_bound, prod_sign, prod_step, sign_bound, sign_step, sum_bound, sum_sign, sum_step, term_read, term_step}
 use Rattle.bind_expr.specs.Chains.{chain_whole, chained_from, closed, linked, opened}
 use Rattle.bind_expr.specs.Comparisons.{bounded, compared, in_node, listed}
 use Rattle.bind_expr.specs.Logic.{joined_from, terms_closed, terms_opened, terms_whole, with_term}
@@ -35,7 +35,7 @@ use Rattle.bind_expr.specs.Paths.{looked_from, looked_whole, path_closed, path_o
 use Rattle.bind_expr.specs.declared.fault.BindFault.TheVariants as fault
 use Rattle.bind_expr.specs.declared.scope.Scope.{Scope}
 use Rattle.bind_expr.specs.declared.typed.Typed.{Typed}
-use Rattle.bind_expr_laws.specs.Places.{BoundIsPlaced, NameIsPlaced, Places, SingleIsPlaced, access_places_step, and_places_step, arg_places_step, cmp_places_step, expr_places, expr_places_step, name_place, places_of_all, post_places_step, prod_places_step, sign_places_step, sum_places_step, term_places_step}
+use Rattle.bind_expr_laws.specs.Places.{BoundIsPlaced, NameIsPlaced, Places, access_places_step, and_places_step, arg_places_step, cmp_places_step, expr_places, expr_places_step, name_place, places_of_all, post_places_step, prod_places_step, sign_places_step, sum_places_step, term_places_step}
 use Rattle.bind_expr_laws.proofs.PlaceSteps.{Each, ToldIn, Within, each-of, told-bounded, told-compared, told-fold, told-found, told-link, told-listed, told-literal, told-look, told-name, told-negated, told-ok, told-one, told-step, told-term, told-then, told-wide}
 use Rattle.bind_expr_laws.proofs.Shapes.{Args, Looked, Slot, Spot}
 
@@ -393,7 +393,7 @@ unfolding bare_access bare_arg bare_cmp bare_sign bare_term bare_and bare_expr b
 of-term (Term-F.Literal l) = term-rolled (Term-F.Literal l) (λ scope spot. told-literal l)
 of-term (Term-F.Name n) = term-rolled (Term-F.Name n) (λ scope spot. told-name n scope)
 of-term (Term-F.Call w args) = term-rolled (Term-F.Call w (map bare_arg args)) (λ scope spot. told-call-bound w args scope spot)
-of-term (Term-F.Group place e) = term-rolled (Term-F.Group place e.0) (λ scope spot. told-wide (expr_places e.0) (place ∷ expr_places e.0) (expr_bound e.0 scope (inside spot.position)) (behind place (expr_places e.0)) (e.1 scope (inside spot.position)))
+of-term (Term-F.Group place e) = term-rolled (Term-F.Group place e.0) (λ scope spot. told-wide (expr_places e.0) (place ∷ expr_places e.0) (expr_bound e.0 scope spot) (behind place (expr_places e.0)) (e.1 scope spot))
 
 -- Terms with looks behind them.
 
@@ -463,12 +463,6 @@ bound-placed e scope code place is =
     let spot : Spot = record { position = scope.position; alone = true } in
     contains-member (expr_places e) place (place-of (expr_places e) (expr_bound e scope spot) code place (every-expr e scope spot) is)
 
-pub single-placed : SingleIsPlaced
-unfolding bound_single
-single-placed e scope code place is =
-    let spot : Spot = record { position = scope.position; alone = false } in
-    contains-member (expr_places e) place (place-of (expr_places e) (expr_bound e scope spot) code place (every-expr e scope spot) is)
-
 only : (a b : Place) → Member b (a ∷ []) → b ≡ a
 only a b (inl e) = sym e
 only a b (inr n) = absurd n
@@ -476,4 +470,4 @@ only a b (inr n) = absurd n
 pub name-placed : NameIsPlaced
 name-placed n scope code place is = only (name_place n) place (place-of (name_place n ∷ []) (name_bound n scope) code place (told-name n scope) is)
 
-pub ruleset place_laws = (bound-placed, single-placed, name-placed)
+pub ruleset place_laws = (bound-placed, name-placed)

@@ -10,7 +10,7 @@ use Rattle.kql_syntax.specs.declared.tree.Name.{Name}
 use Rattle.kql_syntax.specs.declared.tree.Name.TheVariants as name
 use Rattle.kql_syntax.specs.declared.tree.ProdSign.{ProdSign}
 use Rattle.kql_syntax.specs.declared.tree.SumSign.{SumSign}
-use Rattle.bind_expr.specs.Bound.{bound_expr, bound_single}
+use Rattle.bind_expr.specs.Bound.{bound_expr}
 use Rattle.bind_expr.specs.Names.{name_bound}
 use Rattle.bind_expr.specs.declared.fault.BindFault.TheVariants as fault
 use Rattle.bind_expr.specs.declared.scope.Scope.{Scope}
@@ -85,10 +85,6 @@ expr_places = fold-Expr Places Places Places Places Places Places Places Places 
 -- A refusal is told at a place that stands in the expression.
 abbrev pub BoundIsPlaced : Type 0
 BoundIsPlaced = (e : Expr) (scope : Scope) (code : ℕ) (place : Place) → bound_expr e scope ≡ Err (fault.Refused code place) → Contains (expr_places e) place
-
--- So is that of one that is to have one column.
-abbrev pub SingleIsPlaced : Type 0
-SingleIsPlaced = (e : Expr) (scope : Scope) (code : ℕ) (place : Place) → bound_single e scope ≡ Err (fault.Refused code place) → Contains (expr_places e) place
 
 -- That of a name alone is told at the name's own place.
 abbrev pub NameIsPlaced : Type 0

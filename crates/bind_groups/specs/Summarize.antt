@@ -1,5 +1,5 @@
 -- `summarize` in both forms, and `distinct`, which is `summarize` by its columns without items.
-use Rattle.std.specs.Prelude.{ℕ, false, List, [], ◌∷◌, ◌++◌, Option, None, Some, Ok, Err, map, option_to_list}
+use Rattle.std.specs.Prelude.{ℕ, Bool, false, ◌&&◌, List, [], ◌∷◌, ◌++◌, Ok, Err, is_some, map, option_to_list}
 use Rattle.std.specs.List.{flat_map, list_any}
 use Rattle.kql_cells.specs.declared.schema.Column.{Column}
 use Rattle.kql_lexer.specs.declared.place.Place.{Place}
@@ -16,10 +16,9 @@ use Rattle.kql_syntax.specs.declared.query.Groups.{Groups}
 use Rattle.kql_syntax.specs.declared.query.Groups.TheVariants as groups
 use Rattle.kql_syntax.specs.declared.query.Item.{Item}
 use Rattle.kql_syntax.specs.declared.query.Summarize.{Summarize}
-use Rattle.kql_syntax.specs.declared.tree.Expr.{Expr}
 use Rattle.kql_syntax.specs.declared.tree.Name.{Name}
-use Rattle.bind_expr.specs.Bound.{bound_expr, bound_single}
-use Rattle.bind_expr.specs.GroupForms.{has_bad_count, has_bare_column}
+use Rattle.bind_expr.specs.Bound.{bound_expr}
+use Rattle.bind_expr.specs.GroupForms.{has_bad_count, has_bare_column, has_several_results}
 use Rattle.bind_expr.specs.Outcome.{Outcome, ◌>>=◌}
 use Rattle.bind_expr.specs.declared.fault.BindFault.{BindFault}
 use Rattle.bind_expr.specs.declared.scope.Scope.{Scope}
@@ -33,7 +32,7 @@ use Rattle.bind_operators.specs.Answers.{answer}
 use Rattle.bind_operators.specs.Faults.{each_bound, fault_if, unless}
 use Rattle.bind_operators.specs.Items.{column_item, items_from, names_of_items, names_twice, twice}
 use Rattle.bind_operators.specs.Known.{column_wanted, scope_at}
-use Rattle.bind_operators.specs.Places.{name_place}
+use Rattle.bind_operators.specs.Places.{expr_inside, name_place}
 use Rattle.bind_operators.specs.Wanted.{typed_bound}
 
 -- Keys.
@@ -62,16 +61,29 @@ grouped keys scope = record scope { keys = keys }
 unfoldable pub group_scope : Known → Shape → List Item → Scope
 group_scope known rows keys = grouped (key_columns (scope_at known rows position.Plain) keys) (scope_at known rows position.Group)
 
--- An item that is given a name has one column: a call with several result columns may not be its value.
-unfoldable pub item_value : Scope → Option Name → Expr → Outcome Typed
-item_value scope None e = bound_expr e scope
-item_value scope (Some n) e = bound_single e scope
-
 -- 403 at the operator where a column stands outside an aggregate.
+abbrev pub formed_item : Place → Typed → Outcome Typed
+formed_item operator t = unless (fault_if (has_bare_column t.expr) 403 operator) t
+
+-- Whether several columns are given one name.
+abbrev pub shares_name : Item → Typed → Bool
+shares_name item t = is_some item.name && has_several_results t.expr
+
+-- 403 at the function where a call with several result columns is given a name.
+abbrev pub named_item : Item → Typed → Outcome Typed
+named_item item t = unless (fault_if (shares_name item t) 403 (expr_inside item.value)) t
+
+-- What is asked of an item's value.
+abbrev pub asked_item : Place → Item → Typed → Outcome Typed
+asked_item operator item t = do
+  formed ← formed_item operator t
+  named_item item formed
+
+-- An item: its own faults, and then these.
 unfoldable pub group_item : Place → Scope → Item → Outcome Typed
 group_item operator scope item = do
-  t ← item_value scope item.name item.value
-  unless (fault_if (has_bare_column t.expr) 403 operator) t
+  t ← bound_expr item.value scope
+  asked_item operator item t
 
 unfoldable pub group_items_bound : Place → Known → Shape → List Item → List Item → Outcome NamedItems
 group_items_bound operator known rows items keys = items_from (group_item operator (group_scope known rows keys)) 1 items

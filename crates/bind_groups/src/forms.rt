@@ -3,10 +3,10 @@ ghost use Rattle.std.specs.Prelude.{◌≡◌};
 ghost use Rattle.std.specs.List.{list_any};
 ghost use Rattle.kql_bound.specs.declared.expr.ChainSign.{ChainSign};
 ghost use Rattle.kql_bound.specs.declared.expr.BExpr.{BExpr};
-ghost use Rattle.bind_expr.specs.GroupForms.{counts_badly, has_bad_count, has_bare_column, is_bad_count};
+ghost use Rattle.bind_expr.specs.GroupForms.{counts_badly, has_bad_count, has_bare_column, has_several_results, is_bad_count};
 
 use kql_bound::{BExpr, Link};
-use kql_fits::is_count;
+use kql_fits::{has_one_result, is_count};
 use kql_functions::Aggregate;
 
 /// Whether a column stands outside the arguments of an aggregate.
@@ -51,6 +51,23 @@ fn any_bare_link(links: &[Link]) -> bool
         }
     }
     false
+}
+
+/// Whether an expression is a call with several result columns.
+#[tactic(auto, using(bind_expr::proofs::GroupForms::several_steps))]
+pub(crate) fn has_several_results(e: &BExpr) -> bool
+    ensures several { result ≡ has_several_results e.now }
+{
+    match e {
+        BExpr::Literal(_) => false,
+        BExpr::Column(_) => false,
+        BExpr::Step(_) => false,
+        BExpr::Call(_, _) => false,
+        BExpr::Chain(_, _) => false,
+        BExpr::Path(_, _) => false,
+        BExpr::Window(_, _) => false,
+        BExpr::Aggregate(f, args) => !has_one_result(*f, args.as_slice()),
+    }
 }
 
 fn is_bad_count(args: &[BExpr]) -> bool

@@ -2,25 +2,27 @@ ghost use Rattle.std.specs.Prelude.{◌≡◌, [], IfOk, length, option_to_list}
 ghost use Rattle.std.specs.List.{list_any};
 ghost use Rattle.std.specs.Option.{option_copied};
 ghost use Rattle.bind_expr.specs.Bound.{bound_expr};
-ghost use Rattle.bind_expr.specs.GroupForms.{has_bad_count, has_bare_column};
+ghost use Rattle.bind_expr.specs.GroupForms.{has_bad_count};
 ghost use Rattle.bind_expr.specs.Outcome.{Answers};
 ghost use Rattle.kql_bound.specs.declared.parts.BItem.{BItem};
 ghost use Rattle.kql_meaning.specs.FittingExpressions.{column_of};
 ghost use Rattle.bind_operators.specs.Faults.{fault_if, unless};
 ghost use Rattle.bind_operators.specs.Items.{items_from};
-ghost use Rattle.bind_groups.specs.Summarize.{column_alone, group_answer, group_faults, group_item, group_items_bound, group_plan, group_scope, groups_bound, item_value, key_columns, summarize_bound, summarized};
+ghost use Rattle.bind_groups.specs.Summarize.{asked_item, column_alone, formed_item, group_answer, group_faults, group_item, group_items_bound, group_plan, group_scope, groups_bound, key_columns, named_item, shares_name, summarize_bound, summarized};
 
-use crate::forms::{has_bad_count, has_bare_column};
+use crate::forms::{has_bad_count, has_bare_column, has_several_results};
 use crate::groups::{bind_group_keys, grouped};
 use crate::names::twice_beside;
-use bind_expr::{BindFault, Scope, Typed, bind_expr, bind_single};
-use bind_operators::{BoundOp, Known, NamedItems, Shape, next_item, no_items, one, scope_at};
+use bind_expr::{BindFault, Scope, Typed, bind_expr};
+use bind_operators::{
+    BoundOp, Known, NamedItems, Shape, expr_inside, next_item, no_items, one, scope_at,
+};
 use kql_bound::{BExpr, BItem, GroupPlan};
 use kql_cells::{KText, Names};
 use kql_items::Items;
 use kql_lexer::Place;
 use kql_meaning::Position;
-use kql_syntax::{Expr, Groups, Item, Name, Summarize};
+use kql_syntax::{Groups, Item, Summarize};
 use std::alloc::{AllocError, Global};
 
 // Key columns.
@@ -94,26 +96,10 @@ fn group_scope(
 
 // Items.
 
-// An item's value. An item that is given a name has one column.
-#[tactic(auto, unfolding(crate::specs::Summarize::item_value))]
-fn item_value(
-    alloc: Global,
-    scope: &Scope,
-    name: &Option<Name>,
-    e: &Expr,
-) -> Result<Typed, BindFault>
-    ensures exact { Answers result (item_value scope.now name.now e.now) }
-{
-    match name {
-        None => bind_expr(alloc, e, scope),
-        Some(_) => bind_single(alloc, e, scope),
-    }
-}
-
 // An item without columns outside of aggregates.
 #[tactic(auto, using(crate::proofs::TwiceLaws::fault_steps))]
 fn formed_item(operator: Place, t: Typed) -> Result<Typed, BindFault>
-    ensures exact { Answers result (unless (fault_if (has_bare_column t.expr) 403 operator) t) }
+    ensures exact { Answers result (formed_item operator t) }
 {
     if has_bare_column(t.expr.get()) {
         drop(t);
@@ -125,6 +111,39 @@ fn formed_item(operator: Place, t: Typed) -> Result<Typed, BindFault>
     Ok(t)
 }
 
+// Whether several columns are given one name.
+fn shares_name(item: &Item, t: &Typed) -> bool
+    ensures shares { result ≡ shares_name item.now t.now }
+{
+    item.name.is_some() && has_several_results(t.expr.get())
+}
+
+// An item that gives one name to one column.
+#[tactic(auto, using(crate::proofs::TwiceLaws::fault_steps))]
+fn named_item(item: &Item, t: Typed) -> Result<Typed, BindFault>
+    ensures exact { Answers result (named_item item.now t) }
+{
+    if shares_name(item, &t) {
+        drop(t);
+        return Err(BindFault::Refused {
+            code: 403,
+            place: expr_inside(&item.value),
+        });
+    }
+    Ok(t)
+}
+
+// What an item's value is asked for.
+#[tactic(auto, using(bind_operators::proofs::AnswerSteps::bind_steps))]
+fn asked_item(operator: Place, item: &Item, t: Typed) -> Result<Typed, BindFault>
+    ensures exact { Answers result (asked_item operator item.now t) }
+{
+    match formed_item(operator, t) {
+        Ok(formed) => named_item(item, formed),
+        Err(fault) => Err(fault),
+    }
+}
+
 #[tactic(auto, using(bind_operators::proofs::AnswerSteps::bind_steps), unfolding(crate::specs::Summarize::group_item))]
 fn bind_group_item(
     alloc: Global,
@@ -134,8 +153,8 @@ fn bind_group_item(
 ) -> Result<Typed, BindFault>
     ensures exact { Answers result (group_item operator scope.now item.now) }
 {
-    match item_value(alloc, scope, &item.name, &item.value) {
-        Ok(t) => formed_item(operator, t),
+    match bind_expr(alloc, &item.value, scope) {
+        Ok(t) => asked_item(operator, item, t),
         Err(fault) => Err(fault),
     }
 }

@@ -30,7 +30,7 @@ pub use items::{
     number_behind, one, twice_items, with_names,
 };
 pub use known::{Known, LetTable, LetTables};
-pub use places::{expr_start, item_start, name_place, text_of};
+pub use places::{expr_inside, expr_start, item_start, name_place, text_of};
 pub use print::bind_print;
 pub use project::{bind_project, bind_project_away, bind_project_keep, column_as, column_items};
 pub use project_rename::bind_project_rename;

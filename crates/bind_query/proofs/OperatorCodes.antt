@@ -57,8 +57,8 @@ use Rattle.kql_syntax.specs.declared.tree.Expr.{Expr}
 use Rattle.kql_syntax.specs.declared.tree.Name.{Name}
 use Rattle.kql_syntax.specs.declared.tree.Name.TheVariants as name
 use Rattle.kql_syntax.specs.declared.tree.Word.{Word}
-use Rattle.bind_expr.proofs.CodeLaws.{each-single-told, each-told}
-use Rattle.bind_expr.specs.Bound.{bound_expr, bound_single}
+use Rattle.bind_expr.proofs.CodeLaws.{each-told}
+use Rattle.bind_expr.specs.Bound.{bound_expr}
 use Rattle.bind_expr.specs.Constants.{constant_of}
 use Rattle.bind_expr.specs.GroupForms.{has_bad_count, has_bare_column}
 use Rattle.bind_expr.specs.Laws.{Tells, is_bind_code}
@@ -80,7 +80,7 @@ use Rattle.bind_operators.specs.Extend.{extend_bound, extended, serialize_bound}
 use Rattle.bind_operators.specs.Faults.{each_bound, fault_if, unless}
 use Rattle.bind_operators.specs.Items.{clash, column_item, item_in, items_bound, items_from, names_of_items, names_twice, no_items, twice, twice_items, with_item}
 use Rattle.bind_operators.specs.Known.{column_or_fault, column_wanted, is_constant_name, no_rows, or_no_table, rows_of, scope_at, serial_rows_of, table_bound, table_named}
-use Rattle.bind_operators.specs.Places.{expr_start, name_place}
+use Rattle.bind_operators.specs.Places.{expr_inside, expr_start, name_place}
 use Rattle.bind_operators.specs.Project.{chosen, columns_in, columns_wanted, old_name, project_answer, project_away_bound, project_bound, project_keep_bound, project_rename_bound, projected, rename_faults, renamed_columns, renamed_item}
 use Rattle.bind_operators.specs.Sort.{key_bound as sort_key, key_of, sort_bound, top_bound, topped}
 use Rattle.bind_operators.specs.Sources.{print_bound, print_items, printed, range_bound, ranged, with_print_item}
@@ -94,7 +94,7 @@ use Rattle.bind_groups.specs.declared.part.SeriesPart.{SeriesPart}
 use Rattle.bind_groups.specs.MakeSeries.{axis_bound, bin_faults, default_bound, make_series_bound, no_series, series_answer, series_bound, series_call, series_part, series_part_bound, series_plan, series_twice, with_series}
 use Rattle.bind_groups.specs.MvExpand.{expand_faults, expand_part, expand_part_bound, expanded, expands_bound, is_array, mv_expand_bound, no_expands, with_expand}
 use Rattle.bind_groups.specs.Parse.{column_of_type, parse_bound, parse_plan, parsed, pat_bound, pattern_names}
-use Rattle.bind_groups.specs.Summarize.{distinct_answer, distinct_bound, distinct_column, group_faults, group_item, group_items_bound, group_keys_bound, group_scope, groups_bound, item_value, key_column, summarize_bound, summarize_groups, summarized}
+use Rattle.bind_groups.specs.Summarize.{distinct_answer, distinct_bound, distinct_column, formed_item, group_faults, group_item, group_items_bound, group_keys_bound, group_scope, groups_bound, key_column, named_item, shares_name, summarize_bound, summarize_groups, summarized}
 use Rattle.bind_query.specs.Laws.{IsTold, is_query_code}
 use Rattle.bind_query.specs.Operators.{column_op_bound, group_op_bound, row_op_bound}
 
@@ -486,15 +486,12 @@ told-group-keys known rows n keys =
     let scope : Scope = scope_at known rows position.Plain in
     told-items-from (λ (item : Item). typed_bound wanted.Key item.value scope) (λ item. told-typed wanted.Key item.value scope) n keys
 
-told-value : (scope : Scope) (name : Option Name) (e : Expr) → IsTold (item_value scope name e)
-unfolding item_value
-told-value scope None e = told-expr e scope
-told-value scope (Some n) e = of-bind (bound_single e scope) (each-single-told e scope)
-
 told-group-item : (operator : Place) (scope : Scope) (item : Item) → IsTold (group_item operator scope item)
 unfolding group_item
-told-group-item operator scope item = told-then (item_value scope item.name item.value) (λ (t : Typed). unless (fault_if (has_bare_column t.expr) 403 operator) t) (told-value scope item.name item.value)
-    (λ t. told-unless (fault_if (has_bare_column t.expr) 403 operator) t (if-403 (has_bare_column t.expr) operator))
+told-group-item operator scope item = told-then (bound_expr item.value scope) (λ (t : Typed). formed_item operator t >>= λ formed. named_item item formed) (told-expr item.value scope)
+    (λ t. told-then (formed_item operator t) (λ (u : Typed). named_item item u)
+    (told-unless (fault_if (has_bare_column t.expr) 403 operator) t (if-403 (has_bare_column t.expr) operator))
+    (λ u. told-unless (fault_if (shares_name item u) 403 (expr_inside item.value)) u (if-403 (shares_name item u) (expr_inside item.value))))
 
 told-group-items : (operator : Place) (known : Known) (rows : Shape) (items keys : List Item) → IsTold (group_items_bound operator known rows items keys)
 unfolding group_items_bound

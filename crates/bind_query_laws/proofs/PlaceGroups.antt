@@ -10,7 +10,7 @@ use Rattle.bind_expr_laws.specs.Places.{Places, expr_places}
 use Rattle.bind_groups.specs.MakeSeries.{axis_bound, bin_faults, default_bound, make_series_bound, no_series, series_answer, series_bound, series_call, series_part, series_part_bound, series_plan, series_twice, with_series}
 use Rattle.bind_groups.specs.MvExpand.{expand_faults, expand_part, expand_part_bound, expanded, expands_bound, is_array, mv_expand_bound, no_expands, with_expand}
 use Rattle.bind_groups.specs.Parse.{column_of_type, parse_bound, parse_plan, parsed, pat_bound, pattern_names}
-use Rattle.bind_groups.specs.Summarize.{group_faults, group_item, group_items_bound, group_keys_bound, group_scope, groups_bound, item_value, summarize_bound, summarize_groups, summarized}
+use Rattle.bind_groups.specs.Summarize.{formed_item, group_faults, group_item, group_items_bound, group_keys_bound, group_scope, groups_bound, named_item, shares_name, summarize_bound, summarize_groups, summarized}
 use Rattle.bind_groups.specs.declared.part.ExpandPart.{ExpandPart}
 use Rattle.bind_groups.specs.declared.part.NamedExpands.{NamedExpands}
 use Rattle.bind_groups.specs.declared.part.NamedSeries.{NamedSeries}
@@ -18,7 +18,7 @@ use Rattle.bind_groups.specs.declared.part.SeriesPart.{SeriesPart}
 use Rattle.bind_operators.specs.Faults.{each_bound, fault_if, unless}
 use Rattle.bind_operators.specs.Items.{names_of_items, names_twice, twice}
 use Rattle.bind_operators.specs.Known.{column_wanted, scope_at}
-use Rattle.bind_operators.specs.Places.{item_start, name_place}
+use Rattle.bind_operators.specs.Places.{expr_inside, item_start, name_place}
 use Rattle.bind_operators.specs.Wanted.{constant_bound, kind_or, typed_bound}
 use Rattle.bind_operators.specs.declared.bound.BoundOp.{BoundOp}
 use Rattle.bind_operators.specs.declared.items.NamedItems.{NamedItems}
@@ -26,7 +26,7 @@ use Rattle.bind_operators.specs.declared.known.Known.{Known}
 use Rattle.bind_operators.specs.declared.shape.Shape.{Shape}
 use Rattle.bind_operators.specs.declared.wanted.Wanted.TheVariants as wanted
 use Rattle.bind_query.specs.Operators.{group_op_bound}
-use Rattle.bind_query_laws.proofs.PlaceParts.{ArePlaced, GivesIn, ItemsIn, given-items, gives-fold, in-both, in-cons, in-head, in-left, in-none, in-right, in-tail, item-start-in, one-more, placed-append, placed-if, placed-names, placed-twice, told-answer, told-column, told-constant, told-each, told-expr, told-kind-or, told-single, told-typed, told-unless, told-with}
+use Rattle.bind_query_laws.proofs.PlaceParts.{ArePlaced, GivesIn, ItemsIn, given-items, gives-fold, in-both, in-cons, in-head, in-left, in-none, in-right, in-tail, inside-in, item-start-in, one-more, placed-append, placed-if, placed-names, placed-twice, told-answer, told-column, told-constant, told-each, told-expr, told-kind-or, told-typed, told-unless, told-with}
 use Rattle.bind_query_laws.specs.QueryPlaces.{expand_places, given_places, group_op_places, groups_places, item_places, items_places, make_series_places, named_places, names_places, one_place, pat_places, series_places, word_places}
 use Rattle.kql_bound.specs.declared.literal.Lit.{Lit}
 use Rattle.kql_bound.specs.declared.parts.BItem.{BItem}
@@ -78,15 +78,12 @@ group-keys-given ps known rows n keys w =
     let scope : Scope = scope_at known rows position.Plain in
     given-items ps (λ (item : Item). typed_bound wanted.Key item.value scope) (λ item v. told-typed ps wanted.Key item.value scope (in-right (named_places item.name) (expr_places item.value) ps v)) n keys w
 
-told-value : (ps : Places) (scope : Scope) (name : Option Name) (e : Expr) → Within (expr_places e) ps → ToldIn ps (item_value scope name e)
-unfolding item_value
-told-value ps scope None e w = told-expr ps e scope w
-told-value ps scope (Some n) e w = told-single ps e scope w
-
 told-group-item : (ps : Places) (operator : Place) (scope : Scope) (item : Item) → Member operator ps → Within (expr_places item.value) ps → ToldIn ps (group_item operator scope item)
 unfolding group_item
-told-group-item ps operator scope item m w = told-then ps (item_value scope item.name item.value) (λ (t : Typed). unless (fault_if (has_bare_column t.expr) 403 operator) t) (told-value ps scope item.name item.value w)
-    (λ t. told-unless ps (fault_if (has_bare_column t.expr) 403 operator) t (placed-if ps (has_bare_column t.expr) 403 operator m))
+told-group-item ps operator scope item m w = told-then ps (bound_expr item.value scope) (λ (t : Typed). formed_item operator t >>= λ formed. named_item item formed) (told-expr ps item.value scope w)
+    (λ t. told-then ps (formed_item operator t) (λ (u : Typed). named_item item u)
+    (told-unless ps (fault_if (has_bare_column t.expr) 403 operator) t (placed-if ps (has_bare_column t.expr) 403 operator m))
+    (λ u. told-unless ps (fault_if (shares_name item u) 403 (expr_inside item.value)) u (placed-if ps (shares_name item u) 403 (expr_inside item.value) (inside-in ps item.value w))))
 
 group-items-given : (ps : Places) (operator : Place) (known : Known) (rows : Shape) (items keys : List Item) → Member operator ps → Within (items_places items) ps → GivesIn ps (ItemsIn ps) (group_items_bound operator known rows items keys)
 unfolding group_items_bound

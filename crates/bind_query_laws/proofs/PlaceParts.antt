@@ -16,7 +16,7 @@ use Rattle.kql_syntax.specs.declared.query.Item.{Item}
 use Rattle.kql_syntax.specs.declared.tree.Expr.{Expr}
 use Rattle.kql_syntax.specs.declared.tree.Name.{Name}
 use Rattle.kql_syntax.specs.declared.tree.Word.{Word}
-use Rattle.bind_expr.specs.Bound.{bound_expr, bound_single}
+use Rattle.bind_expr.specs.Bound.{bound_expr}
 use Rattle.bind_expr.specs.Constants.{constant_of}
 use Rattle.bind_expr.specs.Names.{name_bound, text_of}
 use Rattle.bind_expr.specs.Outcome.{Outcome, ◌>>=◌}
@@ -25,7 +25,7 @@ use Rattle.bind_expr.specs.declared.fault.BindFault.TheVariants as fault
 use Rattle.bind_expr.specs.declared.scope.Scope.{Scope}
 use Rattle.bind_expr.specs.declared.typed.Typed.{Typed}
 use Rattle.bind_expr_laws.specs.Places.{Places, expr_places, name_place as name_at}
-use Rattle.bind_expr_laws.proofs.PlaceLaws.{bound-placed, single-placed}
+use Rattle.bind_expr_laws.proofs.PlaceLaws.{bound-placed}
 use Rattle.bind_expr_laws.proofs.PlaceSteps.{ToldIn, Within, told-name, told-ok, told-one, told-then, told-wide}
 use Rattle.bind_operators.specs.declared.bound.BoundPlan.{BoundPlan}
 use Rattle.bind_operators.specs.declared.items.NamedItems.{NamedItems}
@@ -37,10 +37,10 @@ use Rattle.bind_operators.specs.Answers.{answer, made, width_faults}
 use Rattle.bind_operators.specs.Faults.{each_bound, fault_if, unless}
 use Rattle.bind_operators.specs.Items.{clash, item_in, items_bound, items_from, names_of_items, names_twice, no_items, twice, twice_items, with_item}
 use Rattle.bind_operators.specs.Known.{column_or_fault, column_wanted, is_constant_name, or_no_table, scope_at, table_bound, table_named}
-use Rattle.bind_operators.specs.Places.{expr_start, item_start, name_place, start_or}
+use Rattle.bind_operators.specs.Places.{expr_inside, expr_start, item_start, name_place, start_or}
 use Rattle.bind_operators.specs.Wanted.{constant_bound, constant_wanted, kind_bound, kind_of_word, kind_or, kind_or_fault, literal_of_type, of_type, row_count_bound, takes, typed_bound}
 use Rattle.bind_query_laws.specs.QueryPlaces.{item_places, items_places, named_places, names_places, one_place, word_places}
-use Rattle.bind_query_laws.proofs.PlaceStarts.{name-same, start-expr}
+use Rattle.bind_query_laws.proofs.PlaceStarts.{inside-expr, name-same, start-expr}
 
 -- Places among others.
 
@@ -180,16 +180,11 @@ told-outcome e scope (Err fault.OutOfMemory) is = record { holds = tt }
 pub told-expr : (ps : Places) (e : Expr) (scope : Scope) → Within (expr_places e) ps → ToldIn ps (bound_expr e scope)
 told-expr ps e scope w = told-wide (expr_places e) ps (bound_expr e scope) w (told-outcome e scope (bound_expr e scope) refl)
 
-single-outcome : (e : Expr) (scope : Scope) (r : Outcome Typed) → bound_single e scope ≡ r → ToldIn (expr_places e) r
-single-outcome e scope (Ok x) is = record { holds = tt }
-single-outcome e scope (Err (fault.Refused code place)) is = record { holds = member-contains (expr_places e) place (single-placed e scope code place is) }
-single-outcome e scope (Err fault.OutOfMemory) is = record { holds = tt }
-
-pub told-single : (ps : Places) (e : Expr) (scope : Scope) → Within (expr_places e) ps → ToldIn ps (bound_single e scope)
-told-single ps e scope w = told-wide (expr_places e) ps (bound_single e scope) w (single-outcome e scope (bound_single e scope) refl)
-
 pub start-in : (ps : Places) (e : Expr) → Within (expr_places e) ps → Member (expr_start e) ps
 start-in ps e w = w (expr_start e) (start-expr e)
+
+pub inside-in : (ps : Places) (e : Expr) → Within (expr_places e) ps → Member (expr_inside e) ps
+inside-in ps e w = w (expr_inside e) (inside-expr e)
 
 pub told-named : (ps : Places) (n : Name) (scope : Scope) → Member (name_place n) ps → ToldIn ps (name_bound n scope)
 told-named ps n scope m = told-one (name_at n) ps (name_bound n scope) (subst (λ (p : Place). Member p ps) (sym (name-same n)) m) (told-name n scope)

@@ -1,24 +1,24 @@
 -- Where an expression begins is one of its places.
-use Rattle.std.proofs.Common.{◌≡◌, [], refl, sym, subst, inl}
+use Rattle.std.proofs.Common.{◌≡◌, [], map, refl, sym, subst, inl, inr}
 use Rattle.kql_lexer.specs.declared.place.Place.{Place}
 use Rattle.kql_meaning.proofs.MemberLaws.{Member, member-left}
-use Rattle.kql_syntax.specs.declared.tree.Access.TheOpen.{Cmp-F, Sign-F, Term-F}
+use Rattle.kql_syntax.specs.declared.tree.Access.TheOpen.{Access-F, And-F, Arg-F, Cmp-F, Expr-F, Post-F, Prod-F, Sign-F, Sum-F, Term-F}
 use Rattle.kql_syntax.specs.declared.tree.Access.{Access, fold-Access}
 use Rattle.kql_syntax.specs.declared.tree.Arg.{Arg, fold-Arg}
-use Rattle.kql_syntax.specs.declared.tree.Cmp.{Cmp, fold-Cmp, fold-roll-Cmp, out-Cmp, roll-Cmp, roll-out-Cmp}
-use Rattle.kql_syntax.specs.declared.tree.Sign.{Sign, fold-Sign, fold-roll-Sign, out-Sign, roll-Sign, roll-out-Sign}
-use Rattle.kql_syntax.specs.declared.tree.Term.{Term, fold-Term, fold-roll-Term, out-Term, roll-Term, roll-out-Term}
-use Rattle.kql_syntax.specs.declared.tree.And.{And, fold-And, fold-roll-And, out-And, roll-out-And}
-use Rattle.kql_syntax.specs.declared.tree.Expr.{Expr, fold-roll-Expr, out-Expr, roll-out-Expr}
-use Rattle.kql_syntax.specs.declared.tree.Post.{Post, fold-Post, fold-roll-Post, out-Post, roll-out-Post}
-use Rattle.kql_syntax.specs.declared.tree.Prod.{Prod, fold-Prod, fold-roll-Prod, out-Prod, roll-out-Prod}
-use Rattle.kql_syntax.specs.declared.tree.Sum.{Sum, fold-Sum, fold-roll-Sum, out-Sum, roll-out-Sum}
+use Rattle.kql_syntax.specs.declared.tree.Cmp.{Cmp, fold-Cmp, fold-roll-Cmp, map-Cmp, out-Cmp, roll-Cmp, roll-out-Cmp}
+use Rattle.kql_syntax.specs.declared.tree.Sign.{Sign, fold-Sign, fold-roll-Sign, map-Sign, out-Sign, roll-Sign, roll-out-Sign}
+use Rattle.kql_syntax.specs.declared.tree.Term.{Term, fold-Term, fold-roll-Term, map-Term, out-Term, roll-Term, roll-out-Term}
+use Rattle.kql_syntax.specs.declared.tree.And.{And, fold-And, fold-roll-And, map-And, out-And, roll-And, roll-out-And}
+use Rattle.kql_syntax.specs.declared.tree.Expr.{Expr, fold-roll-Expr, ind-Expr, map-Expr, out-Expr, roll-Expr, roll-out-Expr}
+use Rattle.kql_syntax.specs.declared.tree.Post.{Post, fold-Post, fold-roll-Post, map-Post, out-Post, roll-Post, roll-out-Post}
+use Rattle.kql_syntax.specs.declared.tree.Prod.{Prod, fold-Prod, fold-roll-Prod, map-Prod, out-Prod, roll-Prod, roll-out-Prod}
+use Rattle.kql_syntax.specs.declared.tree.Sum.{Sum, fold-Sum, fold-roll-Sum, map-Sum, out-Sum, roll-Sum, roll-out-Sum}
 use Rattle.kql_syntax.specs.declared.tree.Literal.{Literal}
 use Rattle.kql_syntax.specs.declared.tree.Literal.TheVariants as literal
 use Rattle.kql_syntax.specs.declared.tree.Name.{Name}
 use Rattle.kql_syntax.specs.declared.tree.Name.TheVariants as name
 use Rattle.bind_expr_laws.specs.Places.{Places, access_places_step, and_places_step, arg_places_step, cmp_places_step, expr_places, expr_places_step, literal_place as literal_at, name_place as name_at, post_places_step, prod_places_step, sign_places_step, sum_places_step, term_places_step}
-use Rattle.bind_operators.specs.Places.{cmp_place, cmp_place_step, expr_start, literal_place, name_place, post_start, sign_place, sign_place_step, sum_start, term_place, term_place_step}
+use Rattle.bind_operators.specs.Places.{and_inside, cmp_inside, cmp_place, cmp_place_step, expr_inside, expr_start, inner_access, inner_and, inner_arg, inner_cmp, inner_expr, inner_post, inner_prod, inner_sign, inner_sum, inner_term, literal_place, name_place, post_inside, post_start, prod_inside, sign_inside, sign_place, sign_place_step, sum_inside, sum_start, term_inside, term_place, term_place_step}
 
 access_places : Access → Places
 access_places = fold-Access Places Places Places Places Places Places Places Places Places Places access_places_step arg_places_step cmp_places_step sign_places_step term_places_step and_places_step expr_places_step post_places_step prod_places_step sum_places_step
@@ -118,3 +118,189 @@ start-and x = subst (λ (z : And). Member (and_start x) (and_places z)) (roll-ou
 pub start-expr : (x : Expr) → Member (expr_start x) (expr_places x)
 unfolding access_places arg_places cmp_places sign_places term_places and_places expr_places post_places prod_places sum_places expr_start and_start
 start-expr x = subst (λ (z : Expr). Member (expr_start x) (expr_places z)) (roll-out-Expr x) (subst (λ (ps : Places). Member (expr_start x) ps) (sym (fold-roll-Expr Places Places Places Places Places Places Places Places Places Places access_places_step arg_places_step cmp_places_step sign_places_step term_places_step and_places_step expr_places_step post_places_step prod_places_step sum_places_step (out-Expr x))) (member-left (and_places (out-Expr x).first) _ (expr_start x) (start-and (out-Expr x).first)))
+
+-- The first token within brackets is one of its places too, by induction over its tree.
+
+along : (a b : Place) (ps qs : Places) → a ≡ b → ps ≡ qs → Member b qs → Member a ps
+along a b ps qs e f m = subst (λ (xs : Places). Member a xs) (sym f) (subst (λ (x : Place). Member x qs) (sym e) m)
+
+abbrev InAccess : Access → Type 0
+InAccess x = Unit {0}
+
+abbrev GivenAccess : Type 0
+GivenAccess = (x : Access) × InAccess x
+
+bare_access : GivenAccess → Access
+bare_access g = g.0
+
+abbrev InArg : Arg → Type 0
+InArg x = Unit {0}
+
+abbrev GivenArg : Type 0
+GivenArg = (x : Arg) × InArg x
+
+bare_arg : GivenArg → Arg
+bare_arg g = g.0
+
+abbrev InCmp : Cmp → Type 0
+InCmp x = Member (cmp_inside x) (cmp_places x)
+
+abbrev GivenCmp : Type 0
+GivenCmp = (x : Cmp) × InCmp x
+
+bare_cmp : GivenCmp → Cmp
+bare_cmp g = g.0
+
+abbrev InSign : Sign → Type 0
+InSign x = Member (sign_inside x) (sign_places x)
+
+abbrev GivenSign : Type 0
+GivenSign = (x : Sign) × InSign x
+
+bare_sign : GivenSign → Sign
+bare_sign g = g.0
+
+abbrev InTerm : Term → Type 0
+InTerm x = Member (term_inside x) (term_places x)
+
+abbrev GivenTerm : Type 0
+GivenTerm = (x : Term) × InTerm x
+
+bare_term : GivenTerm → Term
+bare_term g = g.0
+
+abbrev InAnd : And → Type 0
+InAnd x = Member (and_inside x) (and_places x)
+
+abbrev GivenAnd : Type 0
+GivenAnd = (x : And) × InAnd x
+
+bare_and : GivenAnd → And
+bare_and g = g.0
+
+abbrev InExpr : Expr → Type 0
+InExpr x = Member (expr_inside x) (expr_places x)
+
+abbrev GivenExpr : Type 0
+GivenExpr = (x : Expr) × InExpr x
+
+bare_expr : GivenExpr → Expr
+bare_expr g = g.0
+
+abbrev InPost : Post → Type 0
+InPost x = Member (post_inside x) (post_places x)
+
+abbrev GivenPost : Type 0
+GivenPost = (x : Post) × InPost x
+
+bare_post : GivenPost → Post
+bare_post g = g.0
+
+abbrev InProd : Prod → Type 0
+InProd x = Member (prod_inside x) (prod_places x)
+
+abbrev GivenProd : Type 0
+GivenProd = (x : Prod) × InProd x
+
+bare_prod : GivenProd → Prod
+bare_prod g = g.0
+
+abbrev InSum : Sum → Type 0
+InSum x = Member (sum_inside x) (sum_places x)
+
+abbrev GivenSum : Type 0
+GivenSum = (x : Sum) × InSum x
+
+bare_sum : GivenSum → Sum
+bare_sum g = g.0
+
+access_at : Access → Place
+access_at = fold-Access Place Place Place Place Place Place Place Place Place Place inner_access inner_arg inner_cmp inner_sign inner_term inner_and inner_expr inner_post inner_prod inner_sum
+
+arg_at : Arg → Place
+arg_at = fold-Arg Place Place Place Place Place Place Place Place Place Place inner_access inner_arg inner_cmp inner_sign inner_term inner_and inner_expr inner_post inner_prod inner_sum
+
+term-rolled : (f : Term-F Access Arg Cmp Sign Term And Expr Post Prod Sum) → Member (inner_term (map-Term Access Arg Cmp Sign Term And Expr Post Prod Sum Place Place Place Place Place Place Place Place Place Place access_at arg_at cmp_inside sign_inside term_inside and_inside expr_inside post_inside prod_inside sum_inside f)) (term_places_step (map-Term Access Arg Cmp Sign Term And Expr Post Prod Sum Places Places Places Places Places Places Places Places Places Places access_places arg_places cmp_places sign_places term_places and_places expr_places post_places prod_places sum_places f)) → InTerm (roll-Term f)
+unfolding access_places arg_places cmp_places sign_places term_places and_places expr_places post_places prod_places sum_places term_inside post_inside sign_inside prod_inside sum_inside cmp_inside and_inside expr_inside access_at arg_at
+term-rolled f m = along (term_inside (roll-Term f)) (inner_term (map-Term Access Arg Cmp Sign Term And Expr Post Prod Sum Place Place Place Place Place Place Place Place Place Place access_at arg_at cmp_inside sign_inside term_inside and_inside expr_inside post_inside prod_inside sum_inside f)) (term_places (roll-Term f)) (term_places_step (map-Term Access Arg Cmp Sign Term And Expr Post Prod Sum Places Places Places Places Places Places Places Places Places Places access_places arg_places cmp_places sign_places term_places and_places expr_places post_places prod_places sum_places f)) (fold-roll-Term Place Place Place Place Place Place Place Place Place Place inner_access inner_arg inner_cmp inner_sign inner_term inner_and inner_expr inner_post inner_prod inner_sum f) (fold-roll-Term Places Places Places Places Places Places Places Places Places Places access_places_step arg_places_step cmp_places_step sign_places_step term_places_step and_places_step expr_places_step post_places_step prod_places_step sum_places_step f) m
+
+of-term : (y : Term-F GivenAccess GivenArg GivenCmp GivenSign GivenTerm GivenAnd GivenExpr GivenPost GivenProd GivenSum) → InTerm (roll-Term (map-Term GivenAccess GivenArg GivenCmp GivenSign GivenTerm GivenAnd GivenExpr GivenPost GivenProd GivenSum Access Arg Cmp Sign Term And Expr Post Prod Sum bare_access bare_arg bare_cmp bare_sign bare_term bare_and bare_expr bare_post bare_prod bare_sum y))
+unfolding bare_access bare_arg bare_cmp bare_sign bare_term bare_and bare_expr bare_post bare_prod bare_sum literal_place name_place
+of-term (Term-F.Literal l) = term-rolled (Term-F.Literal l) (inl (literal-same l))
+of-term (Term-F.Name n) = term-rolled (Term-F.Name n) (inl (name-same n))
+of-term (Term-F.Call w args) = term-rolled (Term-F.Call w (map bare_arg args)) (inl refl)
+of-term (Term-F.Group place e) = term-rolled (Term-F.Group place e.0) (inr e.1)
+
+post-rolled : (f : Post-F Access Arg Cmp Sign Term And Expr Post Prod Sum) → Member (inner_post (map-Post Access Arg Cmp Sign Term And Expr Post Prod Sum Place Place Place Place Place Place Place Place Place Place access_at arg_at cmp_inside sign_inside term_inside and_inside expr_inside post_inside prod_inside sum_inside f)) (post_places_step (map-Post Access Arg Cmp Sign Term And Expr Post Prod Sum Places Places Places Places Places Places Places Places Places Places access_places arg_places cmp_places sign_places term_places and_places expr_places post_places prod_places sum_places f)) → InPost (roll-Post f)
+unfolding access_places arg_places cmp_places sign_places term_places and_places expr_places post_places prod_places sum_places term_inside post_inside sign_inside prod_inside sum_inside cmp_inside and_inside expr_inside access_at arg_at
+post-rolled f m = along (post_inside (roll-Post f)) (inner_post (map-Post Access Arg Cmp Sign Term And Expr Post Prod Sum Place Place Place Place Place Place Place Place Place Place access_at arg_at cmp_inside sign_inside term_inside and_inside expr_inside post_inside prod_inside sum_inside f)) (post_places (roll-Post f)) (post_places_step (map-Post Access Arg Cmp Sign Term And Expr Post Prod Sum Places Places Places Places Places Places Places Places Places Places access_places arg_places cmp_places sign_places term_places and_places expr_places post_places prod_places sum_places f)) (fold-roll-Post Place Place Place Place Place Place Place Place Place Place inner_access inner_arg inner_cmp inner_sign inner_term inner_and inner_expr inner_post inner_prod inner_sum f) (fold-roll-Post Places Places Places Places Places Places Places Places Places Places access_places_step arg_places_step cmp_places_step sign_places_step term_places_step and_places_step expr_places_step post_places_step prod_places_step sum_places_step f) m
+
+of-post : (y : Post-F GivenAccess GivenArg GivenCmp GivenSign GivenTerm GivenAnd GivenExpr GivenPost GivenProd GivenSum) → InPost (roll-Post (map-Post GivenAccess GivenArg GivenCmp GivenSign GivenTerm GivenAnd GivenExpr GivenPost GivenProd GivenSum Access Arg Cmp Sign Term And Expr Post Prod Sum bare_access bare_arg bare_cmp bare_sign bare_term bare_and bare_expr bare_post bare_prod bare_sum y))
+unfolding bare_access bare_arg bare_cmp bare_sign bare_term bare_and bare_expr bare_post bare_prod bare_sum literal_place name_place
+of-post y = post-rolled (map-Post GivenAccess GivenArg GivenCmp GivenSign GivenTerm GivenAnd GivenExpr GivenPost GivenProd GivenSum Access Arg Cmp Sign Term And Expr Post Prod Sum bare_access bare_arg bare_cmp bare_sign bare_term bare_and bare_expr bare_post bare_prod bare_sum y) (member-left (term_places y.first.0) _ (term_inside y.first.0) y.first.1)
+
+sign-rolled : (f : Sign-F Access Arg Cmp Sign Term And Expr Post Prod Sum) → Member (inner_sign (map-Sign Access Arg Cmp Sign Term And Expr Post Prod Sum Place Place Place Place Place Place Place Place Place Place access_at arg_at cmp_inside sign_inside term_inside and_inside expr_inside post_inside prod_inside sum_inside f)) (sign_places_step (map-Sign Access Arg Cmp Sign Term And Expr Post Prod Sum Places Places Places Places Places Places Places Places Places Places access_places arg_places cmp_places sign_places term_places and_places expr_places post_places prod_places sum_places f)) → InSign (roll-Sign f)
+unfolding access_places arg_places cmp_places sign_places term_places and_places expr_places post_places prod_places sum_places term_inside post_inside sign_inside prod_inside sum_inside cmp_inside and_inside expr_inside access_at arg_at
+sign-rolled f m = along (sign_inside (roll-Sign f)) (inner_sign (map-Sign Access Arg Cmp Sign Term And Expr Post Prod Sum Place Place Place Place Place Place Place Place Place Place access_at arg_at cmp_inside sign_inside term_inside and_inside expr_inside post_inside prod_inside sum_inside f)) (sign_places (roll-Sign f)) (sign_places_step (map-Sign Access Arg Cmp Sign Term And Expr Post Prod Sum Places Places Places Places Places Places Places Places Places Places access_places arg_places cmp_places sign_places term_places and_places expr_places post_places prod_places sum_places f)) (fold-roll-Sign Place Place Place Place Place Place Place Place Place Place inner_access inner_arg inner_cmp inner_sign inner_term inner_and inner_expr inner_post inner_prod inner_sum f) (fold-roll-Sign Places Places Places Places Places Places Places Places Places Places access_places_step arg_places_step cmp_places_step sign_places_step term_places_step and_places_step expr_places_step post_places_step prod_places_step sum_places_step f) m
+
+of-sign : (y : Sign-F GivenAccess GivenArg GivenCmp GivenSign GivenTerm GivenAnd GivenExpr GivenPost GivenProd GivenSum) → InSign (roll-Sign (map-Sign GivenAccess GivenArg GivenCmp GivenSign GivenTerm GivenAnd GivenExpr GivenPost GivenProd GivenSum Access Arg Cmp Sign Term And Expr Post Prod Sum bare_access bare_arg bare_cmp bare_sign bare_term bare_and bare_expr bare_post bare_prod bare_sum y))
+unfolding bare_access bare_arg bare_cmp bare_sign bare_term bare_and bare_expr bare_post bare_prod bare_sum literal_place name_place
+of-sign (Sign-F.«Sign::Plain» p) = sign-rolled (Sign-F.«Sign::Plain» p.0) (p.1)
+of-sign (Sign-F.Minus place p) = sign-rolled (Sign-F.Minus place p.0) (inl refl)
+
+prod-rolled : (f : Prod-F Access Arg Cmp Sign Term And Expr Post Prod Sum) → Member (inner_prod (map-Prod Access Arg Cmp Sign Term And Expr Post Prod Sum Place Place Place Place Place Place Place Place Place Place access_at arg_at cmp_inside sign_inside term_inside and_inside expr_inside post_inside prod_inside sum_inside f)) (prod_places_step (map-Prod Access Arg Cmp Sign Term And Expr Post Prod Sum Places Places Places Places Places Places Places Places Places Places access_places arg_places cmp_places sign_places term_places and_places expr_places post_places prod_places sum_places f)) → InProd (roll-Prod f)
+unfolding access_places arg_places cmp_places sign_places term_places and_places expr_places post_places prod_places sum_places term_inside post_inside sign_inside prod_inside sum_inside cmp_inside and_inside expr_inside access_at arg_at
+prod-rolled f m = along (prod_inside (roll-Prod f)) (inner_prod (map-Prod Access Arg Cmp Sign Term And Expr Post Prod Sum Place Place Place Place Place Place Place Place Place Place access_at arg_at cmp_inside sign_inside term_inside and_inside expr_inside post_inside prod_inside sum_inside f)) (prod_places (roll-Prod f)) (prod_places_step (map-Prod Access Arg Cmp Sign Term And Expr Post Prod Sum Places Places Places Places Places Places Places Places Places Places access_places arg_places cmp_places sign_places term_places and_places expr_places post_places prod_places sum_places f)) (fold-roll-Prod Place Place Place Place Place Place Place Place Place Place inner_access inner_arg inner_cmp inner_sign inner_term inner_and inner_expr inner_post inner_prod inner_sum f) (fold-roll-Prod Places Places Places Places Places Places Places Places Places Places access_places_step arg_places_step cmp_places_step sign_places_step term_places_step and_places_step expr_places_step post_places_step prod_places_step sum_places_step f) m
+
+of-prod : (y : Prod-F GivenAccess GivenArg GivenCmp GivenSign GivenTerm GivenAnd GivenExpr GivenPost GivenProd GivenSum) → InProd (roll-Prod (map-Prod GivenAccess GivenArg GivenCmp GivenSign GivenTerm GivenAnd GivenExpr GivenPost GivenProd GivenSum Access Arg Cmp Sign Term And Expr Post Prod Sum bare_access bare_arg bare_cmp bare_sign bare_term bare_and bare_expr bare_post bare_prod bare_sum y))
+unfolding bare_access bare_arg bare_cmp bare_sign bare_term bare_and bare_expr bare_post bare_prod bare_sum literal_place name_place
+of-prod y = prod-rolled (map-Prod GivenAccess GivenArg GivenCmp GivenSign GivenTerm GivenAnd GivenExpr GivenPost GivenProd GivenSum Access Arg Cmp Sign Term And Expr Post Prod Sum bare_access bare_arg bare_cmp bare_sign bare_term bare_and bare_expr bare_post bare_prod bare_sum y) (member-left (sign_places y.first.0) _ (sign_inside y.first.0) y.first.1)
+
+sum-rolled : (f : Sum-F Access Arg Cmp Sign Term And Expr Post Prod Sum) → Member (inner_sum (map-Sum Access Arg Cmp Sign Term And Expr Post Prod Sum Place Place Place Place Place Place Place Place Place Place access_at arg_at cmp_inside sign_inside term_inside and_inside expr_inside post_inside prod_inside sum_inside f)) (sum_places_step (map-Sum Access Arg Cmp Sign Term And Expr Post Prod Sum Places Places Places Places Places Places Places Places Places Places access_places arg_places cmp_places sign_places term_places and_places expr_places post_places prod_places sum_places f)) → InSum (roll-Sum f)
+unfolding access_places arg_places cmp_places sign_places term_places and_places expr_places post_places prod_places sum_places term_inside post_inside sign_inside prod_inside sum_inside cmp_inside and_inside expr_inside access_at arg_at
+sum-rolled f m = along (sum_inside (roll-Sum f)) (inner_sum (map-Sum Access Arg Cmp Sign Term And Expr Post Prod Sum Place Place Place Place Place Place Place Place Place Place access_at arg_at cmp_inside sign_inside term_inside and_inside expr_inside post_inside prod_inside sum_inside f)) (sum_places (roll-Sum f)) (sum_places_step (map-Sum Access Arg Cmp Sign Term And Expr Post Prod Sum Places Places Places Places Places Places Places Places Places Places access_places arg_places cmp_places sign_places term_places and_places expr_places post_places prod_places sum_places f)) (fold-roll-Sum Place Place Place Place Place Place Place Place Place Place inner_access inner_arg inner_cmp inner_sign inner_term inner_and inner_expr inner_post inner_prod inner_sum f) (fold-roll-Sum Places Places Places Places Places Places Places Places Places Places access_places_step arg_places_step cmp_places_step sign_places_step term_places_step and_places_step expr_places_step post_places_step prod_places_step sum_places_step f) m
+
+of-sum : (y : Sum-F GivenAccess GivenArg GivenCmp GivenSign GivenTerm GivenAnd GivenExpr GivenPost GivenProd GivenSum) → InSum (roll-Sum (map-Sum GivenAccess GivenArg GivenCmp GivenSign GivenTerm GivenAnd GivenExpr GivenPost GivenProd GivenSum Access Arg Cmp Sign Term And Expr Post Prod Sum bare_access bare_arg bare_cmp bare_sign bare_term bare_and bare_expr bare_post bare_prod bare_sum y))
+unfolding bare_access bare_arg bare_cmp bare_sign bare_term bare_and bare_expr bare_post bare_prod bare_sum literal_place name_place
+of-sum y = sum-rolled (map-Sum GivenAccess GivenArg GivenCmp GivenSign GivenTerm GivenAnd GivenExpr GivenPost GivenProd GivenSum Access Arg Cmp Sign Term And Expr Post Prod Sum bare_access bare_arg bare_cmp bare_sign bare_term bare_and bare_expr bare_post bare_prod bare_sum y) (member-left (prod_places y.first.0) _ (prod_inside y.first.0) y.first.1)
+
+cmp-rolled : (f : Cmp-F Access Arg Cmp Sign Term And Expr Post Prod Sum) → Member (inner_cmp (map-Cmp Access Arg Cmp Sign Term And Expr Post Prod Sum Place Place Place Place Place Place Place Place Place Place access_at arg_at cmp_inside sign_inside term_inside and_inside expr_inside post_inside prod_inside sum_inside f)) (cmp_places_step (map-Cmp Access Arg Cmp Sign Term And Expr Post Prod Sum Places Places Places Places Places Places Places Places Places Places access_places arg_places cmp_places sign_places term_places and_places expr_places post_places prod_places sum_places f)) → InCmp (roll-Cmp f)
+unfolding access_places arg_places cmp_places sign_places term_places and_places expr_places post_places prod_places sum_places term_inside post_inside sign_inside prod_inside sum_inside cmp_inside and_inside expr_inside access_at arg_at
+cmp-rolled f m = along (cmp_inside (roll-Cmp f)) (inner_cmp (map-Cmp Access Arg Cmp Sign Term And Expr Post Prod Sum Place Place Place Place Place Place Place Place Place Place access_at arg_at cmp_inside sign_inside term_inside and_inside expr_inside post_inside prod_inside sum_inside f)) (cmp_places (roll-Cmp f)) (cmp_places_step (map-Cmp Access Arg Cmp Sign Term And Expr Post Prod Sum Places Places Places Places Places Places Places Places Places Places access_places arg_places cmp_places sign_places term_places and_places expr_places post_places prod_places sum_places f)) (fold-roll-Cmp Place Place Place Place Place Place Place Place Place Place inner_access inner_arg inner_cmp inner_sign inner_term inner_and inner_expr inner_post inner_prod inner_sum f) (fold-roll-Cmp Places Places Places Places Places Places Places Places Places Places access_places_step arg_places_step cmp_places_step sign_places_step term_places_step and_places_step expr_places_step post_places_step prod_places_step sum_places_step f) m
+
+of-cmp : (y : Cmp-F GivenAccess GivenArg GivenCmp GivenSign GivenTerm GivenAnd GivenExpr GivenPost GivenProd GivenSum) → InCmp (roll-Cmp (map-Cmp GivenAccess GivenArg GivenCmp GivenSign GivenTerm GivenAnd GivenExpr GivenPost GivenProd GivenSum Access Arg Cmp Sign Term And Expr Post Prod Sum bare_access bare_arg bare_cmp bare_sign bare_term bare_and bare_expr bare_post bare_prod bare_sum y))
+unfolding bare_access bare_arg bare_cmp bare_sign bare_term bare_and bare_expr bare_post bare_prod bare_sum literal_place name_place
+of-cmp (Cmp-F.«Cmp::Plain» s) = cmp-rolled (Cmp-F.«Cmp::Plain» s.0) (s.1)
+of-cmp (Cmp-F.Compared s sign other) = cmp-rolled (Cmp-F.Compared s.0 sign other.0) (member-left (sum_places s.0) _ (sum_inside s.0) s.1)
+of-cmp (Cmp-F.In s sign others) = cmp-rolled (Cmp-F.In s.0 sign (map bare_expr others)) (member-left (sum_places s.0) _ (sum_inside s.0) s.1)
+of-cmp (Cmp-F.Between s sign ends) = cmp-rolled (Cmp-F.Between s.0 sign (ends.0.0, ends.1.0)) (member-left (sum_places s.0) _ (sum_inside s.0) s.1)
+
+and-rolled : (f : And-F Access Arg Cmp Sign Term And Expr Post Prod Sum) → Member (inner_and (map-And Access Arg Cmp Sign Term And Expr Post Prod Sum Place Place Place Place Place Place Place Place Place Place access_at arg_at cmp_inside sign_inside term_inside and_inside expr_inside post_inside prod_inside sum_inside f)) (and_places_step (map-And Access Arg Cmp Sign Term And Expr Post Prod Sum Places Places Places Places Places Places Places Places Places Places access_places arg_places cmp_places sign_places term_places and_places expr_places post_places prod_places sum_places f)) → InAnd (roll-And f)
+unfolding access_places arg_places cmp_places sign_places term_places and_places expr_places post_places prod_places sum_places term_inside post_inside sign_inside prod_inside sum_inside cmp_inside and_inside expr_inside access_at arg_at
+and-rolled f m = along (and_inside (roll-And f)) (inner_and (map-And Access Arg Cmp Sign Term And Expr Post Prod Sum Place Place Place Place Place Place Place Place Place Place access_at arg_at cmp_inside sign_inside term_inside and_inside expr_inside post_inside prod_inside sum_inside f)) (and_places (roll-And f)) (and_places_step (map-And Access Arg Cmp Sign Term And Expr Post Prod Sum Places Places Places Places Places Places Places Places Places Places access_places arg_places cmp_places sign_places term_places and_places expr_places post_places prod_places sum_places f)) (fold-roll-And Place Place Place Place Place Place Place Place Place Place inner_access inner_arg inner_cmp inner_sign inner_term inner_and inner_expr inner_post inner_prod inner_sum f) (fold-roll-And Places Places Places Places Places Places Places Places Places Places access_places_step arg_places_step cmp_places_step sign_places_step term_places_step and_places_step expr_places_step post_places_step prod_places_step sum_places_step f) m
+
+of-and : (y : And-F GivenAccess GivenArg GivenCmp GivenSign GivenTerm GivenAnd GivenExpr GivenPost GivenProd GivenSum) → InAnd (roll-And (map-And GivenAccess GivenArg GivenCmp GivenSign GivenTerm GivenAnd GivenExpr GivenPost GivenProd GivenSum Access Arg Cmp Sign Term And Expr Post Prod Sum bare_access bare_arg bare_cmp bare_sign bare_term bare_and bare_expr bare_post bare_prod bare_sum y))
+unfolding bare_access bare_arg bare_cmp bare_sign bare_term bare_and bare_expr bare_post bare_prod bare_sum literal_place name_place
+of-and y = and-rolled (map-And GivenAccess GivenArg GivenCmp GivenSign GivenTerm GivenAnd GivenExpr GivenPost GivenProd GivenSum Access Arg Cmp Sign Term And Expr Post Prod Sum bare_access bare_arg bare_cmp bare_sign bare_term bare_and bare_expr bare_post bare_prod bare_sum y) (member-left (cmp_places y.first.0) _ (cmp_inside y.first.0) y.first.1)
+
+expr-rolled : (f : Expr-F Access Arg Cmp Sign Term And Expr Post Prod Sum) → Member (inner_expr (map-Expr Access Arg Cmp Sign Term And Expr Post Prod Sum Place Place Place Place Place Place Place Place Place Place access_at arg_at cmp_inside sign_inside term_inside and_inside expr_inside post_inside prod_inside sum_inside f)) (expr_places_step (map-Expr Access Arg Cmp Sign Term And Expr Post Prod Sum Places Places Places Places Places Places Places Places Places Places access_places arg_places cmp_places sign_places term_places and_places expr_places post_places prod_places sum_places f)) → InExpr (roll-Expr f)
+unfolding access_places arg_places cmp_places sign_places term_places and_places expr_places post_places prod_places sum_places term_inside post_inside sign_inside prod_inside sum_inside cmp_inside and_inside expr_inside access_at arg_at
+expr-rolled f m = along (expr_inside (roll-Expr f)) (inner_expr (map-Expr Access Arg Cmp Sign Term And Expr Post Prod Sum Place Place Place Place Place Place Place Place Place Place access_at arg_at cmp_inside sign_inside term_inside and_inside expr_inside post_inside prod_inside sum_inside f)) (expr_places (roll-Expr f)) (expr_places_step (map-Expr Access Arg Cmp Sign Term And Expr Post Prod Sum Places Places Places Places Places Places Places Places Places Places access_places arg_places cmp_places sign_places term_places and_places expr_places post_places prod_places sum_places f)) (fold-roll-Expr Place Place Place Place Place Place Place Place Place Place inner_access inner_arg inner_cmp inner_sign inner_term inner_and inner_expr inner_post inner_prod inner_sum f) (fold-roll-Expr Places Places Places Places Places Places Places Places Places Places access_places_step arg_places_step cmp_places_step sign_places_step term_places_step and_places_step expr_places_step post_places_step prod_places_step sum_places_step f) m
+
+of-expr : (y : Expr-F GivenAccess GivenArg GivenCmp GivenSign GivenTerm GivenAnd GivenExpr GivenPost GivenProd GivenSum) → InExpr (roll-Expr (map-Expr GivenAccess GivenArg GivenCmp GivenSign GivenTerm GivenAnd GivenExpr GivenPost GivenProd GivenSum Access Arg Cmp Sign Term And Expr Post Prod Sum bare_access bare_arg bare_cmp bare_sign bare_term bare_and bare_expr bare_post bare_prod bare_sum y))
+unfolding bare_access bare_arg bare_cmp bare_sign bare_term bare_and bare_expr bare_post bare_prod bare_sum literal_place name_place
+of-expr y = expr-rolled (map-Expr GivenAccess GivenArg GivenCmp GivenSign GivenTerm GivenAnd GivenExpr GivenPost GivenProd GivenSum Access Arg Cmp Sign Term And Expr Post Prod Sum bare_access bare_arg bare_cmp bare_sign bare_term bare_and bare_expr bare_post bare_prod bare_sum y) (member-left (and_places y.first.0) _ (and_inside y.first.0) y.first.1)
+
+pub inside-expr : (x : Expr) → Member (expr_inside x) (expr_places x)
+unfolding bare_access bare_arg bare_cmp bare_sign bare_term bare_and bare_expr bare_post bare_prod bare_sum
+inside-expr = ind-Expr InAccess InArg InCmp InSign InTerm InAnd InExpr InPost InProd InSum
+    (λ x y is. tt)
+    (λ x y is. tt)
+    (λ x y is. subst (λ (z : Cmp-F Access Arg Cmp Sign Term And Expr Post Prod Sum). InCmp (roll-Cmp z)) is (of-cmp y))
+    (λ x y is. subst (λ (z : Sign-F Access Arg Cmp Sign Term And Expr Post Prod Sum). InSign (roll-Sign z)) is (of-sign y))
+    (λ x y is. subst (λ (z : Term-F Access Arg Cmp Sign Term And Expr Post Prod Sum). InTerm (roll-Term z)) is (of-term y))
+    (λ x y is. subst (λ (z : And-F Access Arg Cmp Sign Term And Expr Post Prod Sum). InAnd (roll-And z)) is (of-and y))
+    (λ x y is. subst (λ (z : Expr-F Access Arg Cmp Sign Term And Expr Post Prod Sum). InExpr (roll-Expr z)) is (of-expr y))
+    (λ x y is. subst (λ (z : Post-F Access Arg Cmp Sign Term And Expr Post Prod Sum). InPost (roll-Post z)) is (of-post y))
+    (λ x y is. subst (λ (z : Prod-F Access Arg Cmp Sign Term And Expr Post Prod Sum). InProd (roll-Prod z)) is (of-prod y))
+    (λ x y is. subst (λ (z : Sum-F Access Arg Cmp Sign Term And Expr Post Prod Sum). InSum (roll-Sum z)) is (of-sum y))

@@ -1,6 +1,6 @@
 -- A bound `summarize` is sound.
 use Rattle.std.proofs.Common.{◌≡◌, ℕ, Bool, true, false, List, [], ◌++◌, length, refl, ◌∙◌, subst}
-use Rattle.std.specs.Prelude.{◌||◌, Ok, Option, None, Some, is_some, option_map}
+use Rattle.std.specs.Prelude.{◌&&◌, ◌||◌, Ok, Option, None, Some, is_some, option_map}
 use Rattle.std.specs.List.{list_all, list_any}
 use Rattle.std.proofs.lemmas.Bool.{and_from, eq-eqb}
 use Rattle.kql_cells.specs.declared.schema.Column.{Column}
@@ -19,17 +19,18 @@ use Rattle.kql_syntax.specs.declared.query.Groups.{Groups}
 use Rattle.kql_syntax.specs.declared.query.Groups.TheVariants as groups
 use Rattle.kql_syntax.specs.declared.query.Item.{Item}
 use Rattle.kql_syntax.specs.declared.query.Summarize.{Summarize}
-use Rattle.kql_syntax.specs.declared.tree.Expr.{Expr}
 use Rattle.kql_syntax.specs.declared.tree.Name.{Name}
 use Rattle.item_names.specs.ItemNames.{item_names}
 use Rattle.item_names.proofs.NameSteps.{each_column_has_its_name}
-use Rattle.bind_expr.specs.GroupForms.{has_bad_count, has_bare_column}
+use Rattle.bind_expr.specs.Bound.{bound_expr}
+use Rattle.bind_expr.specs.GroupForms.{has_bad_count, has_bare_column, has_several_results}
 use Rattle.bind_expr.specs.Names.{text_of}
 use Rattle.bind_expr.specs.Outcome.{◌>>=◌}
 use Rattle.bind_expr.specs.declared.scope.Scope.{Scope}
 use Rattle.bind_expr.specs.declared.typed.Typed.{Typed}
-use Rattle.bind_expr_laws.specs.Scopes.{IsSoundScope, read_scope}
-use Rattle.bind_expr_laws.proofs.BoundLaws.{bound-sound, single-sound}
+use Rattle.bind_expr_laws.specs.Laws.{IsSound}
+use Rattle.bind_expr_laws.specs.Scopes.{IsSoundScope}
+use Rattle.bind_expr_laws.proofs.BoundLaws.{bound-sound}
 use Rattle.bind_operators.specs.declared.bound.BoundOp.{BoundOp}
 use Rattle.bind_operators.specs.declared.items.NamedItems.{NamedItems}
 use Rattle.bind_operators.specs.declared.known.Known.{Known}
@@ -37,7 +38,8 @@ use Rattle.bind_operators.specs.declared.shape.Shape.{Shape}
 use Rattle.bind_operators.specs.Faults.{fault_if, unless}
 use Rattle.bind_operators.specs.Items.{given_name, names_of_items, names_or_own, twice}
 use Rattle.bind_operators.specs.Known.{scope_at}
-use Rattle.bind_groups.specs.Summarize.{group_faults, group_item, group_items_bound, group_keys_bound, group_plan, group_scope, groups_bound, item_value, summarize_bound, summarized}
+use Rattle.bind_operators.specs.Places.{expr_inside}
+use Rattle.bind_groups.specs.Summarize.{formed_item, group_faults, group_item, group_items_bound, group_keys_bound, group_plan, group_scope, groups_bound, named_item, shares_name, summarize_bound, summarized}
 use Rattle.bind_groups.proofs.GroupNames.{grouped-once}
 use Rattle.bind_query_laws.specs.Sound.{AreColumns, IsSoundKnown, IsSoundOp, read_known}
 use Rattle.bind_query_laws.proofs.Frame.{after-ok, answer-sound, both-none, items-pass, no-fault, one-result, single-name, unless-ok}
@@ -49,17 +51,9 @@ group-scope-sound : (known : Known) (rows : Shape) (keys : List Item) → IsSoun
 unfolding group_scope scope_at
 group-scope-sound known rows keys sound names = record { names = names; consts = sound.consts; records = tt; moment = sound.moment }
 
--- What an item's value is, where it is bound.
-record IsValue (scope : Scope) (name : Option Name) (t : Typed) : Type 0 where
-  columns : has_bare_column t.expr ≡ false → has_bad_count t.expr ≡ false → call_or_expr_fits t.expr (read_scope scope) position.Group ≡ true
-  one : is_some name ≡ true → has_bare_column t.expr ≡ false → has_bad_count t.expr ≡ false → expr_fits t.expr (read_scope scope) position.Group ≡ true
-
-value-sound : (scope : Scope) (name : Option Name) (e : Expr) (t : Typed) → IsSoundScope scope → scope.position ≡ position.Group → item_value scope name e ≡ Ok t → IsValue scope name t
-unfolding item_value
-value-sound scope None e t sound at is = record { columns = (bound-sound e scope t sound is).group at; one = λ some. absurd cc }
-value-sound scope (Some n) e t sound at is =
-    let h = single-sound e scope t sound is in
-    record { columns = h.sound.group at; one = λ some. h.group at }
+not-shared : (named several : Bool) → named ≡ true → (named && several) ≡ false → several ≡ false
+not-shared true several e f = f
+not-shared false several e f = absurd cc
 
 group-names : (o : Option Name) (k : ℕ) (e : BExpr) (columns : List Column) → (is_some o ≡ true → expr_fits e (scope_of columns) position.Group ≡ true) → has_its_names (record { names = names_or_own k (option_map text_of o) e; expr = e }) columns ≡ true
 unfolding has_its_names names_or_own
@@ -74,16 +68,20 @@ item-passes : (operator : Place) (known : Known) (rows : Shape) (keys : List Ite
 unfolding passes group_item group_item_fits group_scope scope_at given_name
 item-passes operator known rows keys sound names item t k is =
     let scope : Scope = group_scope known rows keys in
-    let first = after-ok (item_value scope item.name item.value) (λ (u : Typed). unless (fault_if (has_bare_column u.expr) 403 operator) u) t is in
-    let parts = unless-ok (fault_if (has_bare_column first.0.expr) 403 operator) first.0 t first.2 in
-    let h : IsValue scope item.name t = subst (IsValue scope item.name) parts.1 (value-sound scope item.name item.value first.0 (group-scope-sound known rows keys sound names) refl first.1) in
-    let none : fault_if (has_bare_column t.expr) 403 operator ≡ [] = subst (λ (u : Typed). fault_if (has_bare_column u.expr) 403 operator ≡ []) parts.1 parts.0 in
+    let first = after-ok (bound_expr item.value scope) (λ (u : Typed). formed_item operator u >>= λ formed. named_item item formed) t is in
+    let next = after-ok (formed_item operator first.0) (λ (u : Typed). named_item item u) t first.2 in
+    let formed = unless-ok (fault_if (has_bare_column first.0.expr) 403 operator) first.0 next.0 next.1 in
+    let own = unless-ok (fault_if (shares_name item next.0) 403 (expr_inside item.value)) next.0 t next.2 in
+    let h : IsSound scope t = subst (IsSound scope) (formed.1 ∙ own.1) (bound-sound item.value scope first.0 (group-scope-sound known rows keys sound names) first.1) in
+    let none : fault_if (has_bare_column t.expr) 403 operator ≡ [] = subst (λ (u : Typed). fault_if (has_bare_column u.expr) 403 operator ≡ []) (formed.1 ∙ own.1) formed.0 in
     let bare = no-fault (has_bare_column t.expr) 403 operator none in
+    let alone : fault_if (shares_name item t) 403 (expr_inside item.value) ≡ [] = subst (λ (u : Typed). fault_if (shares_name item u) 403 (expr_inside item.value) ≡ []) own.1 own.0 in
+    let one = no-fault (shares_name item t) 403 (expr_inside item.value) alone in
     let b : BItem = record { names = names_or_own k (given_name item) t.expr; expr = t.expr } in
     or-else (has_bad_count t.expr) (group_item_fits rows.columns b)
     (λ fine. and_from (call_or_expr_fits t.expr (scope_of rows.columns) position.Group) (has_its_names b rows.columns)
-    (h.columns bare fine)
-    (group-names item.name k t.expr rows.columns (λ some. h.one some bare fine)))
+    (h.group refl bare fine)
+    (group-names item.name k t.expr rows.columns (λ some. h.one refl (not-shared (is_some item.name) (has_several_results t.expr) some one) bare fine)))
 
 group-items-sound : (operator : Place) (known : Known) (rows : Shape) (items keys : List Item) (done : NamedItems) → IsSoundKnown known → AreColumns rows.columns → group_items_bound operator known rows items keys ≡ Ok done → list_any (λ (b : BItem). has_bad_count b.expr) done.items ≡ false → list_all (group_item_fits rows.columns) done.items ≡ true
 unfolding group_items_bound passes
