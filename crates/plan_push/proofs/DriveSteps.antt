@@ -17,11 +17,13 @@ use Rattle.kql_fit_laws.specs.LawsOfOperators.{EachOpKeeps, EachSourceKeeps}
 use Rattle.plan_rules.proofs.Context.{columns-append, columns-next, lost, plan-becomes}
 use Rattle.plan_push.proofs.SettledSteps.{settled-Join, settled-Partition, settled-Union, settled-cons, settled-nil, settled-plan-out}
 use Rattle.plan_rules.proofs.Subplans.{join-becomes, partition-becomes, union-becomes}
+use Rattle.plan_rules.proofs.Sizes.{op_size-Join, op_size-Partition, op_size-Union, size-plan}
 use Rattle.plan_rules.proofs.Weights.{lighter-before, weight-Join, weight-Partition, weight-Union, weight-plan}
 use Rattle.plan_rules.specs.Becomes.{Becomes}
 use Rattle.plan_rules.specs.Improves.{Improves, PlanImproves, PlansImprove}
 use Rattle.plan_neighbours.specs.Table.{rule_at}
 use Rattle.plan_push.specs.Settled.{if_known, settled_op, settled_ops, settled_plan}
+use Rattle.plan_rules.specs.Size.{source_size}
 use Rattle.plan_rules.specs.Weight.{IsLighter, Weight, and_then, in_order, nothing, op_weight, ops_weight, other, plan_weight}
 use Rattle.plan_push.proofs.RuleTable.{improves-append, improves-behind}
 use Rattle.plan_push.proofs.WalkSteps.{still-rest, still-rule}
@@ -108,6 +110,7 @@ join-found j p k inside cs (Some q) h = record {
   becomes = join-becomes k inside cs j p q h.becomes;
   lighter = one-lighter (V.Join j p) (V.Join j q) (plan_weight p) (plan_weight q) (weight-Join j p) (weight-Join j q) h.lighter;
   no_longer = omega arith;
+  no_larger = omega (arith, op_size-Join j p, op_size-Join j q, h.no_longer.size);
 }
 
 pub union-found : (inner : Bool) (ps : List Plan) (k : Known) (inside : Bool) (cs : List Column) (o : Option (List Plan)) → MatchOption o (list_all (λ p. settled_plan p k) ps ≡ true) (λ qs. PlansImprove k ps qs) → OpFound (V.Union inner ps) k inside cs (option_map (λ qs. V.Union inner qs) o)
@@ -116,6 +119,7 @@ union-found inner ps k inside cs (Some qs) h = record {
   becomes = union-becomes k inside cs inner ps qs h.becomes;
   lighter = one-lighter (V.Union inner ps) (V.Union inner qs) (in_order (map plan_weight ps)) (in_order (map plan_weight qs)) (weight-Union inner ps) (weight-Union inner qs) h.lighter;
   no_longer = omega arith;
+  no_larger = omega (arith, op_size-Union inner ps, op_size-Union inner qs, h.no_larger);
 }
 
 abbrev pub OpsFound : List Op → Known → Bool → List Column → Option (List Op) → Type 0
@@ -127,6 +131,7 @@ partition-found c ops k inside cs (Some os) h = record {
   becomes = partition-becomes k inside cs c ops os h.becomes;
   lighter = one-lighter (V.Partition c ops) (V.Partition c os) (ops_weight ops) (ops_weight os) (weight-Partition c ops) (weight-Partition c os) h.lighter;
   no_longer = omega arith;
+  no_larger = omega (arith, op_size-Partition c ops, op_size-Partition c os, h.no_larger);
 }
 
 -- A plan.
@@ -150,7 +155,7 @@ pub plan-improves : EachSourceKeeps → (k : Known) (p q : Plan) (cs : List Colu
 plan-improves each k p q cs same e h = record {
   becomes = plan-becomes each k p q same (λ ds f. let g : Some cs ≡ Some ds = sym e ∙ f in let here : cs ≡ ds = cc in subst (λ c. Becomes k false c p.ops q.ops) here h.becomes);
   lighter = rw (weight-plan p, weight-plan q) h.lighter;
-  no_longer = h.no_longer;
+  no_longer = record { operators = h.no_longer; size = omega (arith, size-plan p, size-plan q, ap source_size same, h.no_larger) };
 }
 
 -- Operators up to a place.

@@ -11,9 +11,11 @@ use Rattle.kql_meaning.specs.Fits.{Known, known_of, let_after, lets_columns, pla
 use Rattle.kql_meaning.proofs.OperatorFitLaws.{lets-more, lets-none, plans-none}
 use Rattle.kql_fit_laws.specs.LawsOfOperators.{EachPlanKeeps}
 use Rattle.plan_rules.proofs.Programs.{main-columns, program-becomes}
+use Rattle.plan_rules.proofs.Sizes.{add-small}
 use Rattle.plan_rules.proofs.Weights.{lighter-before, lighter-behind, order-append}
 use Rattle.plan_rules.specs.Becomes.{EachBecomes, LetsBecome, PlanBecomes, ProgramBecomes}
-use Rattle.plan_rules.specs.Improves.{AreNoLonger, IsNoLonger, PlanImproves, PlansImprove, ProgramImproves}
+use Rattle.plan_rules.specs.Improves.{AreNoLonger, IsNoLonger, PlanImproves, PlanIsNoLonger, PlansImprove, ProgramImproves}
+use Rattle.plan_rules.specs.Size.{plan_size, plans_size}
 use Rattle.plan_push.specs.Settled.{if_known, is_quiet, lets_settled, settled_plan}
 use Rattle.plan_rules.specs.Weight.{IsLighter, Weight, and_then, in_order, plan_weight, program_weight}
 use Rattle.plan_push.proofs.DriveSteps.{found-none, found-some, none-there, there}
@@ -51,8 +53,17 @@ lighter-with (p ∷ ps) zero x q lt e h =
 lighter-with (p ∷ ps) (suc i) x q lt e h =
     subst (λ zs. IsLighter (weights zs) (weights (p ∷ ps))) (sym (with-cons p ps i q)) (lighter-behind (weights (with_at ps i q)) (weights ps) (plan_weight p) (lighter-with ps i x q (omega arith) e h))
 
+larger-with : (ps : List Plan) (i : ℕ) (x q : Plan) → i < length ps → x ≡ get_or ps i x → plan_size q ≤ plan_size x → plans_size (with_at ps i q) ≤ plans_size ps
+larger-with [] i x q lt e h = absurd (omega arith)
+larger-with (p ∷ ps) zero x q lt e h = subst (λ zs. plans_size zs ≤ plans_size (p ∷ ps)) (sym (with-first p ps q)) (add-small (plan_size q) (plan_size p) (plans_size ps) (plans_size ps) (subst (λ (z : Plan). plan_size q ≤ plan_size z) e h) (omega arith))
+larger-with (p ∷ ps) (suc i) x q lt e h = subst (λ zs. plans_size zs ≤ plans_size (p ∷ ps)) (sym (with-cons p ps i q)) (add-small (plan_size p) (plan_size p) (plans_size (with_at ps i q)) (plans_size ps) (omega arith) (larger-with ps i x q (omega arith) e h))
+
 pub plans-with : (k : Known) (ps all : List Plan) (i : ℕ) (x q : Plan) → i < length ps → x ≡ get_or ps i x → PlanImproves k x q → all ≡ with_at ps i q → PlansImprove k ps all
-plans-with k ps all i x q lt e h a = subst (PlansImprove k ps) (sym a) (record { becomes = each-with k ps i x q lt e h.becomes; lighter = lighter-with ps i x q lt e h.lighter })
+plans-with k ps all i x q lt e h a = subst (PlansImprove k ps) (sym a) (record {
+  becomes = each-with k ps i x q lt e h.becomes;
+  lighter = lighter-with ps i x q lt e h.lighter;
+  no_larger = larger-with ps i x q lt e h.no_longer.size;
+})
 
 pub plan-there : (ps : List Plan) (k : Known) (i : ℕ) (x : Plan) → i < length ps → x ≡ get_or ps i x → IsSome (plans_columns ps k) → IsSome (plan_columns x k)
 plan-there ps k i x lt e h = by (plan_columns x k) refl
@@ -149,14 +160,17 @@ let-there p i x ls lt e f h = by (plan_columns x (known_of p.tables ls)) refl
     by None g = absurd (none-there (lets_columns p.lets p.tables) (lets-none p.lets p.tables i x ls lt f (ap (λ y. plan_columns y (known_of p.tables ls)) (sym e) ∙ g)) (lets-there p h))
     by (Some cs) g = refl
 
+plan-longer : (p : Plan) → PlanIsNoLonger p p
+plan-longer p = record { operators = omega arith; size = omega arith }
+
 longer-same : (ps : List Plan) → AreNoLonger ps ps
 longer-same [] = tt
-longer-same (p ∷ ps) = (omega arith, longer-same ps)
+longer-same (p ∷ ps) = (plan-longer p, longer-same ps)
 
-longer-with : (ps : List Plan) (i : ℕ) (x q : Plan) → i < length ps → x ≡ get_or ps i x → length q.ops ≤ length x.ops → AreNoLonger (with_at ps i q) ps
+longer-with : (ps : List Plan) (i : ℕ) (x q : Plan) → i < length ps → x ≡ get_or ps i x → PlanIsNoLonger q x → AreNoLonger (with_at ps i q) ps
 longer-with [] i x q lt e h = absurd (omega arith)
-longer-with (p ∷ ps) zero x q lt e h = subst (λ zs. AreNoLonger zs (p ∷ ps)) (sym (with-first p ps q)) (subst (λ (z : Plan). length q.ops ≤ length z.ops) e h, longer-same ps)
-longer-with (p ∷ ps) (suc i) x q lt e h = subst (λ zs. AreNoLonger zs (p ∷ ps)) (sym (with-cons p ps i q)) (omega arith, longer-with ps i x q (omega arith) e h)
+longer-with (p ∷ ps) zero x q lt e h = subst (λ zs. AreNoLonger zs (p ∷ ps)) (sym (with-first p ps q)) (subst (PlanIsNoLonger q) e h, longer-same ps)
+longer-with (p ∷ ps) (suc i) x q lt e h = subst (λ zs. AreNoLonger zs (p ∷ ps)) (sym (with-cons p ps i q)) (plan-longer p, longer-with ps i x q (omega arith) e h)
 
 weights-append : (ps qs : List Plan) → weights (ps ++ qs) ≡ and_then (weights ps) (weights qs)
 weights-append ps qs = ap in_order (map-append ps qs) ∙ order-append (map plan_weight ps) (map plan_weight qs)
@@ -187,7 +201,7 @@ let-improves each p q i x made all ls lt e f h a same =
     subst (ProgramImproves p) is (record {
       becomes = program-becomes each p r refl lets main;
       lighter = load.load;
-      no_longer = record { lets = longer-with p.lets i x made lt e h.no_longer; main = omega arith };
+      no_longer = record { lets = longer-with p.lets i x made lt e h.no_longer; main = plan-longer p.main };
       fits = still-there p r refl lets main;
     })
 

@@ -8,6 +8,7 @@ use Rattle.kql_meaning.specs.Fits.{Known, ops_columns}
 use Rattle.kql_fit_laws.specs.LawsOfOperators.{EachOpKeeps}
 use Rattle.plan_rules.proofs.Context.{becomes-append, becomes-behind}
 use Rattle.plan_rules.proofs.RuleLaws.{bare_serialize_law, expand_then_filter_law, extend_then_filter_law, extend_then_take_law, group_then_filter_law, idle_projection_law, join_then_filter_law, join_then_right_filter_law, parse_then_filter_law, parse_then_take_law, project_then_filter_law, project_then_take_law, sort_then_filter_law, sort_then_take_law, top_then_take_law, true_filter_law, two_filters_law, two_projections_law, two_sorts_law, two_takes_law, unique_then_filter_law, unseen_then_count_law}
+use Rattle.plan_rules.proofs.Sizes.{ops-append}
 use Rattle.plan_rules.proofs.Weights.{ops-lighter-before, ops-lighter-behind}
 use Rattle.plan_rules.specs.Improves.{Improves}
 use Rattle.plan_rules.specs.Rules.{bare_serialize, expand_then_filter, extend_then_filter, extend_then_take, group_then_filter, idle_projection, join_then_filter, join_then_right_filter, parse_then_filter, parse_then_take, project_then_filter, project_then_take, sort_then_filter, sort_then_take, top_then_take, true_filter, two_filters, two_projections, two_sorts, two_takes, unique_then_filter, unseen_then_count}
@@ -19,6 +20,7 @@ improves-append k inside cs xs ys behind h = record {
   becomes = becomes-append k inside cs xs ys behind h.becomes;
   lighter = ops-lighter-before xs ys behind h.lighter;
   no_longer = omega (arith, length-append xs behind, length-append ys behind, h.no_longer);
+  no_larger = omega (arith, ops-append xs behind, ops-append ys behind, h.no_larger);
 }
 
 pub improves-behind : EachOpKeeps → (k : Known) (inside : Bool) (cs mid : List Column) (before xs ys : List Op) → ops_columns before k inside cs ≡ Some mid → Improves k inside mid xs ys → Improves k inside cs (before ++ xs) (before ++ ys)
@@ -26,6 +28,7 @@ improves-behind each k inside cs mid before xs ys e h = record {
   becomes = becomes-behind each k inside cs mid before xs ys e h.becomes;
   lighter = ops-lighter-behind before xs ys h.lighter;
   no_longer = omega (arith, length-append before xs, length-append before ys, h.no_longer);
+  no_larger = omega (arith, ops-append before xs, ops-append before ys, h.no_larger);
 }
 
 pub either-some : {A : Type 0} (a b : Option A) (c : A) → first_some a b ≡ Some c → (a ≡ Some c) ⊎ (b ≡ Some c)

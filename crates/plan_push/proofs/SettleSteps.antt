@@ -9,23 +9,30 @@ use Rattle.kql_bound.specs.declared.plan.Program.{Program}
 use Rattle.kql_meaning.specs.Fits.{fits, program_columns, tables_stand}
 use Rattle.plan_rules.specs.Becomes.{ProgramBecomes}
 use Rattle.plan_rules.specs.FoldedPlans.{folded_program, is_program_folded}
-use Rattle.plan_rules.specs.Improves.{AreNoLonger, IsNoLonger, ProgramImproves}
+use Rattle.plan_rules.specs.Improves.{AreNoLonger, IsNoLonger, PlanIsNoLonger, ProgramImproves}
 use Rattle.plan_rules.specs.Weight.{Weight, program_weight}
 use Rattle.plan_rules.proofs.FoldingLaws.{folding_programs}
 use Rattle.plan_push.specs.Settled.{is_quiet, settled}
 
 pub program-same : (p : Program) → ProgramBecomes p p
-program-same p = record { fitting = λ schemas e. e; meaning = λ catalogue tables e. refl }
+program-same p = record { tables = refl; fitting = λ schemas e. e; meaning = λ catalogue tables e. refl }
 
 pub program-then : (p q r : Program) → ProgramBecomes p q → ProgramBecomes q r → ProgramBecomes p r
 program-then p q r a b = record {
+  tables = b.tables ∙ a.tables;
   fitting = λ schemas e. b.fitting schemas (a.fitting schemas e);
   meaning = λ catalogue tables e. b.meaning catalogue tables (a.fitting (schemas_of catalogue) e) ∙ a.meaning catalogue tables e;
 }
 
+plan-same : (p : Plan) → PlanIsNoLonger p p
+plan-same p = record { operators = omega arith; size = omega arith }
+
+plan-then : (p q r : Plan) → PlanIsNoLonger p q → PlanIsNoLonger q r → PlanIsNoLonger p r
+plan-then p q r a b = record { operators = omega (arith, a.operators, b.operators); size = omega (arith, a.size, b.size) }
+
 each-same : (ps : List Plan) → AreNoLonger ps ps
 each-same [] = tt
-each-same (p ∷ ps) = (omega arith, each-same ps)
+each-same (p ∷ ps) = (plan-same p, each-same ps)
 
 each-then : (ps qs rs : List Plan) → AreNoLonger ps qs → AreNoLonger qs rs → AreNoLonger ps rs
 each-then [] [] [] a b = tt
@@ -33,13 +40,13 @@ each-then [] [] (r ∷ rs) a b = absurd b
 each-then [] (q ∷ qs) rs a b = absurd a
 each-then (p ∷ ps) [] rs a b = absurd a
 each-then (p ∷ ps) (q ∷ qs) [] a b = absurd b
-each-then (p ∷ ps) (q ∷ qs) (r ∷ rs) a b = (omega (arith, a.0, b.0), each-then ps qs rs a.1 b.1)
+each-then (p ∷ ps) (q ∷ qs) (r ∷ rs) a b = (plan-then p q r a.0 b.0, each-then ps qs rs a.1 b.1)
 
 pub no-longer-same : (p : Program) → IsNoLonger p p
-no-longer-same p = record { lets = each-same p.lets; main = omega arith }
+no-longer-same p = record { lets = each-same p.lets; main = plan-same p.main }
 
 pub no-longer-then : (p q r : Program) → IsNoLonger p q → IsNoLonger q r → IsNoLonger p r
-no-longer-then p q r a b = record { lets = each-then p.lets q.lets r.lets a.lets b.lets; main = omega (arith, a.main, b.main) }
+no-longer-then p q r a b = record { lets = each-then p.lets q.lets r.lets a.lets b.lets; main = plan-then p.main q.main r.main a.main b.main }
 
 -- What the loop keeps of the program that it holds, in which constants are folded.
 pub record Kept (p done : Program) : Type 0 where

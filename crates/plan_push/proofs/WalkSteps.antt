@@ -399,6 +399,7 @@ improves-then k inside cs xs ys zs a b = record {
   becomes = becomes-then k inside cs xs ys zs a.becomes b.becomes;
   lighter = record { movers = omega (arith, a.lighter.movers, b.lighter.movers); others = omega (arith, a.lighter.others, b.lighter.others); load = omega (arith, a.lighter.load, b.lighter.load) };
   no_longer = omega (arith, a.no_longer, b.no_longer);
+  no_larger = omega (arith, a.no_larger, b.no_larger);
 }
 
 pub turned-then : (k : Known) (inside : Bool) (cs : List Column) (changed : Bool) (xs ys zs : List Op) → Turned changed k inside cs xs ys → Improves k inside cs ys zs → Improves k inside cs xs zs

@@ -1,5 +1,5 @@
 -- Every operator, plan and program, folded: by induction over operators and plans.
-use Rattle.std.proofs.Common.{◌≡◌, ◌≤◌, ℕ, suc, Bool, true, false, List, [], ◌∷◌, ◌++◌, length, map, refl, ap, ap₂, sym, ◌∙◌, subst, arith, rules}
+use Rattle.std.proofs.Common.{◌≡◌, ℕ, suc, Bool, true, false, List, [], ◌∷◌, ◌++◌, length, map, refl, ap, ap₂, sym, ◌∙◌, subst, arith, rules}
 use Rattle.std.proofs.Math.Path.{fun_ext}
 use Rattle.std.specs.Prelude.{◌&&◌, IsSome, Option, None, Some, fold, is_some, option_and_then, option_map}
 use Rattle.std.specs.List.{list_all}
@@ -33,13 +33,14 @@ use Rattle.kql_meaning.proofs.OperatorFitLaws.{after, join-out, ops-fold, partit
 use Rattle.kql_meaning.proofs.PlanLaws.{ops_mean-map, plan_means-out}
 use Rattle.kql_fit_laws.proofs.RowLaws as row
 use Rattle.plan_rules.specs.Becomes.{ProgramBecomes}
-use Rattle.plan_rules.specs.Improves.{AreNoLonger, IsNoLonger}
+use Rattle.plan_rules.specs.Improves.{AreNoLonger, IsNoLonger, PlanIsNoLonger}
 use Rattle.plan_rules.specs.FoldedPlans.{are_folded, folded_items, folded_op, folded_op_test, folded_plan, folded_plan_test, folded_program, folded_source, is_op_folded, is_plan_folded, is_program_folded, is_source_folded}
 use Rattle.plan_rules.specs.Weight.{and_then, in_order, nothing, ops_weight, other, plan_weight, program_weight}
 use Rattle.plan_rules.proofs.Context.{columns-cons, lost}
 use Rattle.plan_rules.proofs.FoldedItems.{columns-folded, items-good, project-folded}
 use Rattle.plan_rules.proofs.FoldedOperators.{OpFolds, answer-kept, expand-op, extend-op, is_folded-out, op-folds, parse-op, project-op, scan-op, series-op, sort-op, summarize-op, top-op, where-op}
 use Rattle.plan_rules.proofs.FoldedPlanSteps.{folded-out, folds-plan}
+use Rattle.plan_rules.proofs.FoldedSizes.{plan-small}
 use Rattle.plan_rules.proofs.Weights.{weight-Join, weight-Partition, weight-Union, weight-plan}
 
 -- Sources.
@@ -338,6 +339,7 @@ tables-of p = refl
 pub program-becomes : (p : Program) → ProgramBecomes p (folded_program p)
 unfolding fits
 program-becomes p = record {
+  tables = tables-of p;
   fitting = λ schemas e.
       let parts = and_parts (tables_stand p.tables schemas) (is_some (program_columns p)) e in
       and_from (tables_stand (folded_program p).tables schemas) (is_some (program_columns (folded_program p))) (ap (λ ts. tables_stand ts schemas) (tables-of p) ∙ parts.0) (program-fits p parts.1);
@@ -359,8 +361,8 @@ pub program-no-longer : (p : Program) → IsNoLonger (folded_program p) p
 unfolding folded_program
 program-no-longer p = record { lets = lets p.lets; main = longer p.main }
   where
-    longer : (q : Plan) → length (folded_plan q).ops ≤ length q.ops
-    longer q = omega (arith, (every-plan q).as_long)
+    longer : (q : Plan) → PlanIsNoLonger (folded_plan q) q
+    longer q = record { operators = omega (arith, (every-plan q).as_long); size = plan-small q }
 
     lets : (ps : List Plan) → AreNoLonger (map folded_plan ps) ps
     lets [] = tt

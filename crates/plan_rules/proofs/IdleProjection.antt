@@ -191,4 +191,5 @@ idle_projection-improves k inside cs x zs e =
       becomes = idle-becomes k inside cs r.0 r.2;
       lighter = one-to-none (V.Project r.0) other (weight-Project r.0) (omega arith);
       no_longer = omega arith;
+      no_larger = omega arith;
     })

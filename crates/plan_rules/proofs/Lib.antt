@@ -11,8 +11,10 @@ pub mod FoldedPrograms
 pub mod FoldedReadings
 pub mod FoldedScan
 pub mod FoldedShapes
+pub mod FoldedSizes
 pub mod FoldingLaws
 pub mod IdleProjection
+pub mod LargerPlans
 pub mod MergeFilters
 pub mod NamedCells
 pub mod Programs
@@ -35,6 +37,7 @@ pub mod RowWise
 pub mod RuleLaws
 pub mod RuleViews
 pub mod ShortRules
+pub mod Sizes
 pub mod SortedPlaces
 pub mod Subplans
 pub mod Swaps

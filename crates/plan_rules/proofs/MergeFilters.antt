@@ -40,6 +40,7 @@ use Rattle.plan_rules.proofs.RuleViews.{both-some, filter-is, pair-along, pair-b
 use Rattle.plan_rules.proofs.ShortRules.{where-means}
 use Rattle.plan_rules.proofs.Subplans.{one-columns}
 use Rattle.plan_rules.proofs.TermSteps.{call-terms, terms-Aggregate, terms-Chain, terms-Column, terms-Literal, terms-Path, terms-Step, terms-Window}
+use Rattle.plan_rules.proofs.Sizes.{conjoined-small, op_size-Where}
 use Rattle.plan_rules.proofs.Weights.{two-to-one, weight-Where}
 use Rattle.plan_rules.specs.Becomes.{Becomes}
 use Rattle.plan_rules.specs.Improves.{Improves}
@@ -323,4 +324,5 @@ two_filters-improves k inside cs x y zs e =
       becomes = filters-becomes k inside cs r.0 r.1 s.0;
       lighter = two-to-one (V.Where r.0) (V.Where r.1) (V.Where (conjoined r.0 r.1)) mover mover mover (weight-Where r.0) (weight-Where r.1) (weight-Where (conjoined r.0 r.1)) (omega arith) (omega arith) (omega arith);
       no_longer = omega arith;
+      no_larger = omega (arith, op_size-Where r.0, op_size-Where r.1, op_size-Where (conjoined r.0 r.1), conjoined-small r.0 r.1);
     })

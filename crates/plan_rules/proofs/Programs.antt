@@ -97,6 +97,7 @@ some-of (Some cs) e = (cs, refl)
 pub program-becomes : EachPlanKeeps → (p q : Program) → p.tables ≡ q.tables → LetsBecome p.tables [] p.lets q.lets → ((ls : List (List Column)) → lets_columns p.lets p.tables ≡ Some ls → PlanBecomes (known_of p.tables ls) p.main q.main) → ProgramBecomes p q
 unfolding fits program_columns
 program-becomes each p q same lets main = record {
+  tables = sym same;
   fitting = λ schemas e.
       let parts = and_parts (tables_stand p.tables schemas) (is_some (program_columns p)) e in
       let some = some-of (program_columns p) parts.1 in

@@ -180,4 +180,5 @@ expand_then_filter-improves k inside cs x y zs e =
       becomes = expand-filter-becomes k inside cs r.0 r.1 s.0;
       lighter = swap-lighter (V.MvExpand r.0) (V.Where r.1) other (weight-Where r.1) (weight-MvExpand r.0) (omega arith);
       no_longer = omega arith;
+      no_larger = omega arith;
     })

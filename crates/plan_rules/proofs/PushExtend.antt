@@ -108,6 +108,7 @@ extend_then_filter-improves k inside cs x y zs e =
       becomes = extend-filter-becomes k inside cs r.0 r.1 b.0 b.1;
       lighter = swap-lighter (V.Extend r.0) (V.Where r.1) other (weight-Where r.1) (weight-Extend r.0) (omega arith);
       no_longer = omega arith;
+      no_larger = omega arith;
     })
 
 -- `take` in front.
@@ -129,4 +130,5 @@ extend_then_take-improves k inside cs x y zs e =
       becomes = extend-take-becomes k inside cs r.0 r.1 s.0;
       lighter = swap-lighter (V.Extend r.0) (V.Take r.1) other (weight-Take r.1) (weight-Extend r.0) (omega arith);
       no_longer = omega arith;
+      no_larger = omega arith;
     })

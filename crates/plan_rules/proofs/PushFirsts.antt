@@ -289,4 +289,5 @@ unique_then_filter-improves k inside cs x y zs e =
       becomes = unique-filter-becomes k inside cs j p r.1 a.0 b.0;
       lighter = swap-lighter (V.Join j p) (V.Where r.1) (and_then (plan_weight p) other) (weight-Where r.1) (weight-Join j p) (omega arith);
       no_longer = omega arith;
+      no_larger = omega arith;
     })

@@ -45,6 +45,7 @@ use Rattle.plan_rules.proofs.RuleViews.{both-some, filter-is, group-is, pair-alo
 use Rattle.plan_rules.proofs.ShortRules.{group-means}
 use Rattle.plan_rules.proofs.SortedPlaces.{at_kept, count-kept, rows-alike, val-alike}
 use Rattle.plan_rules.proofs.Swaps.{filter-front}
+use Rattle.plan_rules.proofs.Sizes.{renamed-small}
 use Rattle.plan_rules.proofs.Weights.{move-lighter, weight-Summarize, weight-Where}
 use Rattle.plan_rules.specs.Becomes.{Becomes}
 use Rattle.plan_rules.specs.Improves.{Improves}
@@ -311,4 +312,5 @@ group_then_filter-improves k inside cs x y zs e =
       becomes = group-filter-becomes k inside cs g r.1 b.0 b.1;
       lighter = move-lighter (V.Summarize g) (V.Where r.1) (V.Where below) other (weight-Where r.1) (weight-Where below) (weight-Summarize g) (omega arith);
       no_longer = omega arith;
+      no_larger = renamed-small (V.Summarize g) (inner_or_same g.keys) r.1;
     })

@@ -109,6 +109,7 @@ parse_then_filter-improves k inside cs x y zs e =
       becomes = parse-filter-becomes k inside cs r.0 r.1 s.0;
       lighter = swap-lighter (V.Parse r.0) (V.Where r.1) other (weight-Where r.1) (weight-Parse r.0) (omega arith);
       no_longer = omega arith;
+      no_larger = omega arith;
     })
 
 -- `take` in front.
@@ -123,6 +124,7 @@ parse_then_take-improves k inside cs x y zs e =
       becomes = take-front k inside cs (V.Parse p) r.1 (parse_table p) (parse-means p) (λ mid f t. take-below r.1 (parse_table p) (parse_columns p) (parsed_row p) (parse-wise p (made p k inside cs mid f).0) t);
       lighter = swap-lighter (V.Parse p) (V.Take r.1) other (weight-Take r.1) (weight-Parse p) (omega arith);
       no_longer = omega arith;
+      no_larger = omega arith;
     })
 
 pub project_then_take-improves : (k : Known) (inside : Bool) (cs : List Column) (x y : Op) (zs : List Op) → project_then_take x y ≡ Some zs → Improves k inside cs (x ∷ y ∷ []) zs
@@ -135,4 +137,5 @@ project_then_take-improves k inside cs x y zs e =
       becomes = take-front k inside cs (V.Project items) r.1 (project_table items) (project-means items) (λ mid f t. take-below r.1 (project_table items) (items_columns items) (projected_row items) (project-wise items s.0) t);
       lighter = swap-lighter (V.Project items) (V.Take r.1) other (weight-Take r.1) (weight-Project items) (omega arith);
       no_longer = omega arith;
+      no_larger = omega arith;
     })

@@ -42,6 +42,7 @@ use Rattle.plan_rules.proofs.ReadValues.{agrees, names-plain, plain-of}
 use Rattle.plan_rules.proofs.RowWise.{project-wise, where-below}
 use Rattle.plan_rules.proofs.RuleViews.{both-some, filter-is, pair-along, pair-becomes, project-is, two-fit, when-some}
 use Rattle.plan_rules.proofs.ShortRules.{project-means, where-means}
+use Rattle.plan_rules.proofs.Sizes.{renamed-small}
 use Rattle.plan_rules.proofs.Weights.{weight-Project, weight-Where}
 use Rattle.plan_rules.specs.Becomes.{Becomes}
 use Rattle.plan_rules.specs.Improves.{Improves}
@@ -227,4 +228,5 @@ project_then_filter-improves k inside cs x y zs e =
       becomes = project-filter-becomes k inside cs r.0 r.1 b.0 b.1;
       lighter = project-lighter r.0 (with_names (inner_or_same r.0) r.1) r.1;
       no_longer = omega arith;
+      no_larger = renamed-small (V.Project r.0) (inner_or_same r.0) r.1;
     })

@@ -35,6 +35,7 @@ use Rattle.plan_rules.proofs.PushRight.{inner-right, not-false, own, right-passe
 use Rattle.plan_rules.proofs.ReadValues.{id_names, names-plain, plain-of, same-names}
 use Rattle.plan_rules.proofs.RowWise.{RowWise, filter-same, where-below}
 use Rattle.plan_rules.proofs.RuleViews.{both-some, filter-is, join-is, pair-along, when-some}
+use Rattle.plan_rules.proofs.Sizes.{into-small}
 use Rattle.plan_rules.proofs.Weights.{into-lighter, weight-Where, weight-more}
 use Rattle.plan_rules.specs.Becomes.{Becomes}
 use Rattle.plan_rules.specs.Improves.{Improves}
@@ -272,4 +273,5 @@ join_then_right_filter-improves each k inside cs x y zs e =
       becomes = known-becomes k inside cs j p q (V.Join j (filtered p r2) ∷ []) (λ known. join-right-becomes each k inside cs rc j p q a.0 (not-false j.lookup b.0) known c.0 d.0);
       lighter = into-lighter j p (filtered p r2) (V.Where q) (weight-Where q) (weight-more p (filtered p r2) (V.Where r2) (weight-Where r2) refl);
       no_longer = omega arith;
+      no_larger = into-small j p (right_name j cs rc) q;
     })

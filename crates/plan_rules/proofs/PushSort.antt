@@ -128,4 +128,5 @@ sort_then_filter-improves k inside cs x y zs e =
       becomes = sort-filter-becomes k inside cs r.0 r.1 s.0;
       lighter = swap-lighter (V.Sort r.0) (V.Where r.1) other (weight-Where r.1) (weight-Sort r.0) (omega arith);
       no_longer = omega arith;
+      no_larger = omega arith;
     })

@@ -44,6 +44,7 @@ use Rattle.kql_fit_laws.proofs.RowLaws.{means}
 use Rattle.plan_rules.proofs.RowWise.{filter-same, filter-yes}
 use Rattle.plan_rules.proofs.RuleViews.{both-some, filter-is, literal-is, one-along, pair-along, pair-becomes, serialize-is, sort-is, take-is, when-some}
 use Rattle.plan_rules.proofs.Subplans.{one-columns}
+use Rattle.plan_rules.proofs.Sizes.{op_size-Sort, op_size-Take, op_size-Top}
 use Rattle.plan_rules.proofs.Weights.{one-to-none, two-to-one, weight-Serialize, weight-Sort, weight-Take, weight-Top, weight-Where}
 use Rattle.plan_rules.specs.Becomes.{Becomes}
 use Rattle.plan_rules.specs.Improves.{Improves}
@@ -128,6 +129,7 @@ true_filter-improves k inside cs x zs e =
       becomes = true-becomes k inside cs l.0 l.2;
       lighter = one-to-none (V.Where (E.Literal l.0)) mover (weight-Where (E.Literal l.0)) (omega arith);
       no_longer = omega arith;
+      no_larger = omega arith;
     })
 
 -- `serialize`.
@@ -147,6 +149,7 @@ bare_serialize-improves k inside cs x zs e =
       becomes = serialize-becomes k inside cs;
       lighter = one-to-none V.Serialize other weight-Serialize (omega arith);
       no_longer = omega arith;
+      no_larger = omega arith;
     })
 
 -- `take` behind `take`.
@@ -182,6 +185,7 @@ two_takes-improves k inside cs x y zs e =
       becomes = takes-becomes k inside cs r.0 r.1;
       lighter = two-to-one (V.Take r.0) (V.Take r.1) (V.Take (min r.0 r.1)) mover mover mover (weight-Take r.0) (weight-Take r.1) (weight-Take (min r.0 r.1)) (omega arith) (omega arith) (omega arith);
       no_longer = omega arith;
+      no_larger = omega (arith, op_size-Take r.0, op_size-Take (min r.0 r.1));
     })
 
 -- `take` behind `sort`.
@@ -201,4 +205,5 @@ sort_then_take-improves k inside cs x y zs e =
       becomes = top-becomes k inside cs r.0 r.1;
       lighter = two-to-one (V.Sort r.0) (V.Take r.1) (V.Top r.1 r.0) other mover other (weight-Sort r.0) (weight-Take r.1) (weight-Top r.1 r.0) (omega arith) (omega arith) (omega arith);
       no_longer = omega arith;
+      no_larger = omega (arith, op_size-Sort r.0, op_size-Top r.1 r.0);
     })

@@ -29,6 +29,7 @@ use Rattle.kql_ticks.specs.Ranges.{fit}
 use Rattle.plan_rules.proofs.RuleViews.{both-some, count-is, pair-along, pair-becomes, rolled, take-is, top-is, when-some}
 use Rattle.plan_rules.proofs.ShortRules.{count-means, extend-means, project-means, sort-means, take-means, takes-table, top-means}
 use Rattle.plan_rules.proofs.Subplans.{one-columns}
+use Rattle.plan_rules.proofs.Sizes.{op_size-Top}
 use Rattle.plan_rules.proofs.Weights.{two-to-one, weight-Count, weight-Extend, weight-Project, weight-Sort, weight-Take, weight-Top}
 use Rattle.plan_rules.specs.Becomes.{Becomes}
 use Rattle.plan_rules.specs.Improves.{Improves}
@@ -58,6 +59,7 @@ top_then_take-improves k inside cs x y zs e =
       becomes = top-take-becomes k inside cs n r.1 keys;
       lighter = two-to-one (V.Top n keys) (V.Take r.1) (V.Top (min n r.1) keys) other mover other (weight-Top n keys) (weight-Take r.1) (weight-Top (min n r.1) keys) (omega arith) (omega arith) (omega arith);
       no_longer = omega arith;
+      no_larger = omega (arith, op_size-Top n keys, op_size-Top (min n r.1) keys);
     })
 
 -- The number of rows.
@@ -115,4 +117,5 @@ unseen_then_count-improves k inside cs x y zs e =
       becomes = unseen-becomes k inside cs x b.0;
       lighter = two-to-one x V.Count V.Count other other other (unseen x b.0).weight weight-Count weight-Count (omega arith) (omega arith) (omega arith);
       no_longer = omega arith;
+      no_larger = omega arith;
     })

@@ -43,6 +43,7 @@ use Rattle.plan_rules.proofs.RuleViews.{both-some, pair-along, pair-becomes, pro
 use Rattle.plan_rules.proofs.ShortRules.{project-means}
 use Rattle.plan_rules.proofs.Subplans.{one-columns}
 use Rattle.plan_rules.proofs.TopAndCount.{project-long}
+use Rattle.plan_rules.proofs.Sizes.{chosen-small, op_size-Project}
 use Rattle.plan_rules.proofs.Weights.{two-to-one, weight-Project}
 use Rattle.plan_rules.specs.Becomes.{Becomes}
 use Rattle.plan_rules.specs.Improves.{Improves}
@@ -254,4 +255,5 @@ two_projections-improves k inside cs x y zs e =
       becomes = projections-becomes k inside cs r.0 r.1 s.0 s.1;
       lighter = two-to-one (V.Project r.0) (V.Project r.1) (V.Project s.0) other other other (weight-Project r.0) (weight-Project r.1) (weight-Project s.0) (omega arith) (omega arith) (omega arith);
       no_longer = omega arith;
+      no_larger = omega (arith, op_size-Project r.0, op_size-Project r.1, op_size-Project s.0, chosen-small r.0 r.1 s.0 s.1);
     })

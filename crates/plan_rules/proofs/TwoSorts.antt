@@ -29,6 +29,7 @@ use Rattle.plan_rules.proofs.RuleViews.{both-some, pair-along, pair-becomes, sor
 use Rattle.plan_rules.proofs.ShortRules.{sort-means}
 use Rattle.plan_rules.proofs.SortedPlaces.{at_kept, count-kept, get-member, in-places, in-sorted, keys-alike, map-sorted, member-get, one-sorted, plain_keys, rows-alike, sorted-of, then-less}
 use Rattle.plan_rules.proofs.Subplans.{one-columns}
+use Rattle.plan_rules.proofs.Sizes.{keys_size-append, op_size-Sort}
 use Rattle.plan_rules.proofs.Weights.{two-to-one, weight-Sort}
 use Rattle.plan_rules.specs.Becomes.{Becomes}
 use Rattle.plan_rules.specs.Improves.{Improves}
@@ -127,4 +128,5 @@ two_sorts-improves k inside cs x y zs e =
       becomes = sorts-becomes k inside cs r.0 r.1;
       lighter = two-to-one (V.Sort r.0) (V.Sort r.1) (V.Sort (r.1 ++ r.0)) other other other (weight-Sort r.0) (weight-Sort r.1) (weight-Sort (r.1 ++ r.0)) (omega arith) (omega arith) (omega arith);
       no_longer = omega arith;
+      no_larger = omega (arith, op_size-Sort r.0, op_size-Sort r.1, op_size-Sort (r.1 ++ r.0), keys_size-append r.1 r.0);
     })

@@ -37,7 +37,9 @@ LetsBecome tables ls [] [] = Unit {0}
 LetsBecome tables ls (p ∷ ps) (q ∷ qs) = PlanBecomes (known_of tables ls) p q × ((c : List Column) → plan_columns p (known_of tables ls) ≡ Some c → LetsBecome tables (ls ++ c ∷ []) ps qs)
 LetsBecome tables ls _ _ = ⊥
 
--- A program fits all schemas that it fitted, and means the same over every catalogue of tables whose schemas it fits.
+-- A program reads the same tables in the same order, fits all schemas that it fitted, and means the same over every catalogue of tables
+-- whose schemas it fits.
 pub record ProgramBecomes (p q : Program) : Type 0 where
+  pub tables : q.tables ≡ p.tables
   pub fitting : (schemas : List NamedSchema) → IsTrue (fits p schemas) → IsTrue (fits q schemas)
   pub meaning : (catalogue : List Named) → AreTables catalogue → IsTrue (fits p (schemas_of catalogue)) → means q catalogue ≡ means p catalogue

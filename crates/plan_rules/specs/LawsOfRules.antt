@@ -1,12 +1,16 @@
 -- What each rule keeps: where it fires, the operators become others that fit what these fit, mean the same, and are lighter.
-use Rattle.std.specs.Prelude.{◌≡◌, Bool, true, List, [], ◌∷◌, Option, Some}
+use Rattle.std.specs.Prelude.{◌≡◌, ◌<◌, ℕ, Bool, true, List, [], ◌∷◌, Option, Some}
 use Rattle.std.specs.List.{list_all}
 use Rattle.kql_cells.specs.declared.schema.Column.{Column}
 use Rattle.kql_bound.specs.declared.expr.BExpr.{BExpr}
+use Rattle.kql_bound.specs.declared.expr.BExpr.TheVariants as V
+use Rattle.kql_bound.specs.declared.parts.BKey.{BKey}
 use Rattle.kql_bound.specs.declared.plan.Op.{Op}
+use Rattle.kql_bound.specs.declared.plan.Op.TheVariants as op
 use Rattle.kql_meaning.specs.Fits.{Known}
 use Rattle.plan_rules.specs.Improves.{Improves}
-use Rattle.plan_rules.specs.Rules.{is_single, terms_of}
+use Rattle.plan_rules.specs.Rules.{and_func, is_single, terms_of}
+use Rattle.plan_rules.specs.Size.{op_size}
 
 -- A rule on one operator.
 abbrev pub OneImproves : (Op → Option (List Op)) → Type 0
@@ -31,3 +35,11 @@ PairImprovesIn rule = (k : Known) (inside : Bool) (cs : List Column) (x y : Op) 
 -- No term of an expression is an `and`. The filter that two filters become has the terms of both.
 abbrev pub TermsAreSingle : Type 0
 TermsAreSingle = (e : BExpr) → list_all is_single (terms_of e) ≡ true
+
+-- A filter by a condition that stands twice is larger than the one in which it stands once.
+abbrev pub TwiceIsLarger : Type 0
+TwiceIsLarger = (p : BExpr) → op_size (op.Where p) < op_size (op.Where (V.Call and_func (p ∷ p ∷ [])))
+
+-- `top` by keys is larger than `take`.
+abbrev pub TopIsLarger : Type 0
+TopIsLarger = (n : ℕ) (key : BKey) (keys : List BKey) → op_size (op.Take n) < op_size (op.Top n (key ∷ keys))

@@ -8,5 +8,6 @@ pub mod LawsOfRules
 pub mod OwnNames
 pub mod Reads
 pub mod Rules
+pub mod Size
 pub mod Views
 pub mod Weight

@@ -1,6 +1,6 @@
 //! The laws.
 ghost use Rattle.plan_rules.specs.LawsOfFolding.{FoldingConstants, FoldingFits, FoldingPrograms, FoldingReads};
-ghost use Rattle.plan_rules.specs.LawsOfRules.{OneImproves, OneImprovesOver, PairImproves, PairImprovesIn, PairImprovesOver, TermsAreSingle};
+ghost use Rattle.plan_rules.specs.LawsOfRules.{OneImproves, OneImprovesOver, PairImproves, PairImprovesIn, PairImprovesOver, TermsAreSingle, TopIsLarger, TwiceIsLarger};
 ghost use Rattle.plan_rules.specs.Rules.{bare_serialize, expand_then_filter, extend_then_filter, extend_then_take, group_then_filter, idle_projection, join_then_filter, join_then_right_filter, parse_then_filter, parse_then_take, project_then_filter, project_then_take, sort_then_filter, sort_then_take, top_then_take, true_filter, two_filters, two_projections, two_sorts, two_takes, unique_then_filter, unseen_then_count};
 
 /// The rules that leave fewer operators: a filter of the literal true, a bare `serialize` and a projection of all columns under their
@@ -51,4 +51,11 @@ pub fn law_of_constants()
     ensures fitting { FoldingFits }
     ensures constants { FoldingConstants }
     ensures programs { FoldingPrograms }
+{}
+
+/// What the size of a plan tells apart: a condition that stands twice from one that stands once, and `top` by keys from `take`.
+#[tactic(auto, using(crate::proofs::LargerPlans::larger_laws))]
+pub fn law_of_sizes()
+    ensures twice { TwiceIsLarger }
+    ensures top { TopIsLarger }
 {}
