@@ -1,8 +1,7 @@
 -- Folds are the aggregates of `kql_meaning`.
-use Rattle.std.proofs.Common.{◌≡◌, ◌<◌, ◌∙◌, ℕ, zero, suc, Bool, true, List, [], ◌∷◌, filter, length, map, take, refl, sym, ap, ap₂, inl, inr, arith, if◌then◌else◌, pos}
+use Rattle.std.proofs.Common.{◌≡◌, ◌∙◌, ℕ, Bool, true, List, [], ◌∷◌, filter, length, map, take, refl, sym, ap, ap₂, inl, inr, if◌then◌else◌, pos}
 use Rattle.std.specs.Prelude.{Option, None, Some, filter_map, is_some, option_map, slice_get}
 use Rattle.std.specs.Int.{int_bit_and, int_bit_or, int_bit_xor, w64}
-use Rattle.std.specs.List.{range_with_len}
 use Rattle.std.proofs.lemmas.Bool.{and_parts, cases_Bool}
 use Rattle.std.proofs.lemmas.List.{length-map}
 use Rattle.kql_cells.specs.Table.{Grid}
@@ -24,13 +23,14 @@ use Rattle.kql_meaning.specs.FittingExpressions.{aggregate_takes, is_count, is_c
 use Rattle.kql_meaning.specs.Numbers.{counted, fitted, sum_of}
 use Rattle.kql_meaning.specs.Readings.{Reading, reading_at, rows_where, values_over}
 use Rattle.kql_meaning.specs.Results.{compared_values, greatest_row, least_row}
-use Rattle.kql_meaning.specs.Tables.{places, places_below}
+use Rattle.kql_meaning.specs.Tables.{places}
 use Rattle.kql_meaning.specs.Values.{holds}
 use Rattle.kql_meaning.specs.Windows.{count_in}
 use Rattle.kql_meaning.proofs.ReadingLaws.{reading-Literal}
 use Rattle.agg_folds.specs.Calls.{call_of, limit_of, needs, number_in}
-use Rattle.agg_folds.specs.Folds.{chosen_row, folded, row_by, taken, taken_of, up_to, value_by, where_true}
+use Rattle.agg_folds.specs.Folds.{chosen_row, first_or_absent, folded, row_by, taken, taken_of, up_to, value_by, where_true}
 use Rattle.agg_folds.specs.Laws.{ChosenIsGreatest, ChosenIsLeast, FoldIsAggregate, argument_rows}
+use Rattle.agg_folds.proofs.FirstLaws.{first-place}
 
 -- What is taken of rows, where each row gives a value, and where a test decides.
 took-all : (h : List Value → Option Value) (g : ℕ → List Value) (a : ℕ → Value) (is : List ℕ) → ((i : ℕ) → h (g i) ≡ Some (a i)) → filter_map h (map g is) ≡ map a is
@@ -126,15 +126,6 @@ limited (x ∷ []) t vs h = refl
 limited (x ∷ n ∷ []) t vs h = ap (λ k. take k vs) (number-reads n t (and_parts (is_some (kind_of x t.columns)) (is_count n) h).1)
 limited (x ∷ n ∷ m ∷ more) t vs h = absurd cc
 
-first-value : (n : ℕ) (a : ℕ → Value) → 0 < n → argument (map a (range_with_len 0 n)) 0 ≡ a 0
-unfolding argument
-first-value zero a l = absurd (omega arith)
-first-value (suc n) a l = refl
-
-first-place : (x : Reading) (t : Grid) → 0 < length t.lines → x.at t 0 [] ≡ argument (all_values x t []) 0
-unfolding all_values values_over places places_below
-first-place x t l = sym (first-value (length t.lines) (λ i. x.at t i []) l)
-
 -- As many values are taken as there are rows, and as there are rows at which the condition is true.
 counted-all : (args : List BExpr) (t : Grid) → counted (places t) ≡ counted (taken_of aggregate.Count (argument_rows aggregate.Count args t))
 unfolding counted taken_of argument_rows needs taken argument values_in
@@ -161,30 +152,31 @@ took-two f n e args t = rw n (sym (two-taken args t (taken f) e))
 
 pub fold-is-aggregate : FoldIsAggregate
 unfolding aggregate_takes aggregated folded call_of limit_of value_by needs taken up_to
-fold-is-aggregate aggregate.Count args t h l = counted-all args t
-fold-is-aggregate aggregate.CountIf args t h l = counted-if args t
-fold-is-aggregate aggregate.CountDistinct args t h l = ap (λ vs. counted (distinct_given vs)) (took-one aggregate.CountDistinct refl (λ row. refl) args t)
-fold-is-aggregate aggregate.CountDistinctIf args t h l = ap (λ vs. counted (distinct_given vs)) (took-two aggregate.CountDistinctIf refl (λ row. refl) args t)
-fold-is-aggregate aggregate.Sum args t h l = ap₂ (λ k vs. fitted k (sum_of vs)) (kind-of-first args t.columns) (took-one aggregate.Sum refl (λ row. refl) args t)
-fold-is-aggregate aggregate.SumIf args t h l = ap₂ (λ k vs. fitted k (sum_of vs)) (kind-of-first args t.columns) (took-two aggregate.SumIf refl (λ row. refl) args t)
-fold-is-aggregate aggregate.Min args t h l = ap least (took-one aggregate.Min refl (λ row. refl) args t)
-fold-is-aggregate aggregate.MinIf args t h l = ap least (took-two aggregate.MinIf refl (λ row. refl) args t)
-fold-is-aggregate aggregate.Max args t h l = ap greatest (took-one aggregate.Max refl (λ row. refl) args t)
-fold-is-aggregate aggregate.MaxIf args t h l = ap greatest (took-two aggregate.MaxIf refl (λ row. refl) args t)
-fold-is-aggregate aggregate.MakeList args t h l =
+fold-is-aggregate aggregate.Count args t h = counted-all args t
+fold-is-aggregate aggregate.CountIf args t h = counted-if args t
+fold-is-aggregate aggregate.CountDistinct args t h = ap (λ vs. counted (distinct_given vs)) (took-one aggregate.CountDistinct refl (λ row. refl) args t)
+fold-is-aggregate aggregate.CountDistinctIf args t h = ap (λ vs. counted (distinct_given vs)) (took-two aggregate.CountDistinctIf refl (λ row. refl) args t)
+fold-is-aggregate aggregate.Sum args t h = ap₂ (λ k vs. fitted k (sum_of vs)) (kind-of-first args t.columns) (took-one aggregate.Sum refl (λ row. refl) args t)
+fold-is-aggregate aggregate.SumIf args t h = ap₂ (λ k vs. fitted k (sum_of vs)) (kind-of-first args t.columns) (took-two aggregate.SumIf refl (λ row. refl) args t)
+fold-is-aggregate aggregate.Min args t h = ap least (took-one aggregate.Min refl (λ row. refl) args t)
+fold-is-aggregate aggregate.MinIf args t h = ap least (took-two aggregate.MinIf refl (λ row. refl) args t)
+fold-is-aggregate aggregate.Max args t h = ap greatest (took-one aggregate.Max refl (λ row. refl) args t)
+fold-is-aggregate aggregate.MaxIf args t h = ap greatest (took-two aggregate.MaxIf refl (λ row. refl) args t)
+fold-is-aggregate aggregate.MakeList args t h =
     ap listed (limited args t (given (all_values (reading_at (map reading args) 0) t [])) h
     ∙ ap (λ vs. up_to (option_map (λ e. number_in (literal_of e)) (slice_get args 1)) (given vs)) (took-one aggregate.MakeList refl (λ row. refl) args t))
-fold-is-aggregate aggregate.MakeListIf args t h l = ap (λ vs. listed (given vs)) (took-two aggregate.MakeListIf refl (λ row. refl) args t)
-fold-is-aggregate aggregate.MakeSet args t h l =
+fold-is-aggregate aggregate.MakeListIf args t h = ap (λ vs. listed (given vs)) (took-two aggregate.MakeListIf refl (λ row. refl) args t)
+fold-is-aggregate aggregate.MakeSet args t h =
     ap listed (limited args t (distinct_given (all_values (reading_at (map reading args) 0) t [])) h
     ∙ ap (λ vs. up_to (option_map (λ e. number_in (literal_of e)) (slice_get args 1)) (distinct_given vs)) (took-one aggregate.MakeSet refl (λ row. refl) args t))
-fold-is-aggregate aggregate.MakeSetIf args t h l = ap (λ vs. listed (distinct_given vs)) (took-two aggregate.MakeSetIf refl (λ row. refl) args t)
-fold-is-aggregate aggregate.ArgMax args t h l = ap greatest (took-one aggregate.ArgMax refl (λ row. refl) args t)
-fold-is-aggregate aggregate.ArgMin args t h l = ap least (took-one aggregate.ArgMin refl (λ row. refl) args t)
-fold-is-aggregate aggregate.TakeAny args t h l = first-place (reading_at (map reading args) 0) t (l refl) ∙ ap (λ vs. argument vs 0) (took-one aggregate.TakeAny refl (λ row. refl) args t)
-fold-is-aggregate aggregate.BinaryAllAnd args t h l = ap (combined (int_bit_and w64)) (took-one aggregate.BinaryAllAnd refl (λ row. refl) args t)
-fold-is-aggregate aggregate.BinaryAllOr args t h l = ap (combined (int_bit_or w64)) (took-one aggregate.BinaryAllOr refl (λ row. refl) args t)
-fold-is-aggregate aggregate.BinaryAllXor args t h l = ap (combined (int_bit_xor w64)) (took-one aggregate.BinaryAllXor refl (λ row. refl) args t)
+fold-is-aggregate aggregate.MakeSetIf args t h = ap (λ vs. listed (distinct_given vs)) (took-two aggregate.MakeSetIf refl (λ row. refl) args t)
+fold-is-aggregate aggregate.ArgMax args t h = ap greatest (took-one aggregate.ArgMax refl (λ row. refl) args t)
+fold-is-aggregate aggregate.ArgMin args t h = ap least (took-one aggregate.ArgMin refl (λ row. refl) args t)
+fold-is-aggregate aggregate.TakeAny args t h =
+    first-place args t h ∙ ap₂ first_or_absent (kind-of-first args t.columns) (took-one aggregate.TakeAny refl (λ row. refl) args t)
+fold-is-aggregate aggregate.BinaryAllAnd args t h = ap (combined (int_bit_and w64)) (took-one aggregate.BinaryAllAnd refl (λ row. refl) args t)
+fold-is-aggregate aggregate.BinaryAllOr args t h = ap (combined (int_bit_or w64)) (took-one aggregate.BinaryAllOr refl (λ row. refl) args t)
+fold-is-aggregate aggregate.BinaryAllXor args t h = ap (combined (int_bit_xor w64)) (took-one aggregate.BinaryAllXor refl (λ row. refl) args t)
 
 pub chosen-is-greatest : ChosenIsGreatest
 unfolding compared_values chosen_row call_of row_by needs taken

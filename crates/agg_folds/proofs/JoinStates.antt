@@ -16,7 +16,7 @@ use Rattle.agg_folds.specs.declared.bits.BitOp.{BitOp}
 use Rattle.agg_folds.specs.declared.bits.BitOp.TheVariants as op
 use Rattle.agg_folds.specs.declared.call.FoldCall.{FoldCall}
 use Rattle.agg_folds.specs.declared.state.State.TheVariants as state
-use Rattle.agg_folds.specs.Folds.{taken, taken_of, where_true}
+use Rattle.agg_folds.specs.Folds.{first_or_absent, taken, taken_of, where_true}
 use Rattle.agg_folds.specs.Kept.{is_better, joined_best}
 use Rattle.agg_folds.specs.Laws.{HaveOneKind, IsLike}
 use Rattle.agg_folds.specs.States.{Kept, bits_in, first_of, fold_of, greatest_of, joined, kept_of, least_of, list_of, set_of, state_by, state_of, with_fold}
@@ -51,10 +51,10 @@ set-joined : (limit : Option ℕ) (vs ws : List Value) → set_of limit (vs ++ w
 unfolding set_of joined
 set-joined limit vs ws = ap (λ xs. state.Set (record { limit = limit; values = xs })) (set-join limit vs ws)
 
-first-joined : (vs ws : List Value) → first_of (vs ++ ws) ≡ joined (first_of vs) (length vs) (first_of ws)
-unfolding first_of joined joined_best is_better argument
-first-joined [] ws = refl
-first-joined (v ∷ vs) ws = rw (some-rows v vs) refl
+first-joined : (kind : Option Kind) (vs ws : List Value) → first_of kind (vs ++ ws) ≡ joined (first_of kind vs) (length vs) (first_of kind ws)
+unfolding first_of joined joined_best is_better first_or_absent
+first-joined kind [] ws = refl
+first-joined kind (v ∷ vs) ws = rw (some-rows v vs) refl
 
 greatest-joined : (k : Kind) (vs ws : List Value) → AreAlike k vs → AreAlike k ws → greatest_of (vs ++ ws) ≡ joined (greatest_of vs) (length vs) (greatest_of ws)
 unfolding greatest_of joined
@@ -82,7 +82,7 @@ state-join aggregate.MakeSet kind limit k vs ws h g = set-joined limit vs ws
 state-join aggregate.MakeSetIf kind limit k vs ws h g = set-joined limit vs ws
 state-join aggregate.ArgMax kind limit k vs ws h g = greatest-joined k vs ws h g
 state-join aggregate.ArgMin kind limit k vs ws h g = least-joined k vs ws h g
-state-join aggregate.TakeAny kind limit k vs ws h g = first-joined vs ws
+state-join aggregate.TakeAny kind limit k vs ws h g = first-joined kind vs ws
 state-join aggregate.BinaryAllAnd kind limit k vs ws h g = bits-joined op.And k vs ws h g
 state-join aggregate.BinaryAllOr kind limit k vs ws h g = bits-joined op.Or k vs ws h g
 state-join aggregate.BinaryAllXor kind limit k vs ws h g = bits-joined op.Xor k vs ws h g

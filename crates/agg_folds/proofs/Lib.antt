@@ -1,6 +1,7 @@
 pub mod BestLaws
 pub mod CallFacts
 pub mod CellFacts
+pub mod FirstLaws
 pub mod FoldLaws
 pub mod FormFacts
 pub mod JoinLaws

@@ -12,7 +12,7 @@ use Rattle.kql_meaning.specs.Numbers.{sum_of}
 use Rattle.kql_meaning.specs.Results.{greatest_row, least_row, row_of}
 use Rattle.agg_folds.specs.declared.call.FoldCall.{FoldCall}
 use Rattle.agg_folds.specs.Folds.{chosen_row, folded, taken, taken_of}
-use Rattle.agg_folds.specs.States.{IsBounded, Kept, bits_in, first_of, fold_of, greatest_of, kept_of, least_of, list_of, place_in, set_of, started, state_by, state_of, value_in, with_value}
+use Rattle.agg_folds.specs.States.{IsBounded, Kept, bits_in, first_of, fold_of, greatest_of, kept_of, least_of, list_of, place_in, set_of, started, state_by, state_of, value_in, with_row, with_taken, with_value}
 use Rattle.agg_folds.specs.declared.state.State.{State}
 use Rattle.agg_folds.proofs.TotalFacts.{sum-of-none}
 use Rattle.agg_folds.proofs.StateLaws.{state-place, state-push, state-value}
@@ -39,6 +39,24 @@ row-taken call rows row v old new e t n =
     let f : taken call.aggregate row ≡ Some v = sym (ap (λ (k : Kept). taken k.aggregate row) e) ∙ t in
     let whole : taken_of call.aggregate (rows ++ row ∷ []) ≡ taken_of call.aggregate rows ++ v ∷ [] = taken-push call.aggregate rows row ∙ rw f refl in
     n ∙ ap (λ k. with_value k v) e ∙ sym (ap (kept_of call) whole ∙ kept-push call (taken_of call.aggregate rows) v)
+
+-- One row more, whatever is kept.
+pub with-none : (k : Kept) (row : List Value) → taken k.aggregate row ≡ None → k ≡ with_row k row
+unfolding with_row with_taken
+with-none k row t = rw t refl
+
+pub with-some : (k new : Kept) (row : List Value) (v : Value) → taken k.aggregate row ≡ Some v → new ≡ with_value k v → new ≡ with_row k row
+unfolding with_row with_taken
+with-some k new row v t e = e ∙ rw t refl
+
+step-by : (call : FoldCall) (rows : List (List Value)) (row : List Value) (o : Option Value) → taken (fold_of call rows).aggregate row ≡ o → fold_of call (rows ++ row ∷ []) ≡ with_row (fold_of call rows) row
+step-by call rows row None t = sym (row-passed call rows row (fold_of call rows) refl t) ∙ with-none (fold_of call rows) row t
+step-by call rows row (Some v) t =
+    let n = with_value (fold_of call rows) v in
+    sym (row-taken call rows row v (fold_of call rows) n refl t refl) ∙ with-some (fold_of call rows) n row v t refl
+
+pub fold-steps : (call : FoldCall) (rows : List (List Value)) (row : List Value) → fold_of call (rows ++ row ∷ []) ≡ with_row (fold_of call rows) row
+fold-steps call rows row = step-by call rows row (taken (fold_of call rows).aggregate row) refl
 
 pub value-of-fold : (call : FoldCall) (rows : List (List Value)) (k : Kept) → k ≡ fold_of call rows → value_in k.state k.count ≡ folded call rows
 unfolding fold_of kept_of state_of folded

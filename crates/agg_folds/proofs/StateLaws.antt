@@ -9,7 +9,6 @@ use Rattle.kql_cells.specs.declared.value.Kind.{Kind}
 use Rattle.kql_cells.specs.declared.value.Value.{Value}
 use Rattle.kql_functions.specs.declared.aggregate.Aggregate.{Aggregate}
 use Rattle.kql_functions.specs.declared.aggregate.Aggregate.TheVariants as aggregate
-use Rattle.kql_scalar_fns.specs.Arguments.{argument}
 use Rattle.kql_scalar_fns.specs.Choice.{greatest, least}
 use Rattle.kql_meaning.specs.Aggregates.{combined, distinct_given, given}
 use Rattle.kql_meaning.specs.Numbers.{added, counted, sum_of}
@@ -20,9 +19,9 @@ use Rattle.agg_folds.specs.declared.best.Prefer.TheVariants as prefer
 use Rattle.agg_folds.specs.declared.bits.BitOp.{BitOp}
 use Rattle.agg_folds.specs.declared.bits.BitOp.TheVariants as op
 use Rattle.agg_folds.specs.declared.state.State.TheVariants as state
-use Rattle.agg_folds.specs.Folds.{row_by, up_to, value_by}
+use Rattle.agg_folds.specs.Folds.{first_or_absent, row_by, up_to, value_by}
 use Rattle.agg_folds.specs.Kept.{bits_of, both_of, is_better, met}
-use Rattle.agg_folds.specs.States.{bits_in, first_of, greatest_of, least_of, list_of, no_best, no_bits, no_list, no_set, place_in, pushed, set_of, state_by, value_in}
+use Rattle.agg_folds.specs.States.{bits_in, first_of, greatest_of, least_of, list_of, no_best, no_bits, no_first, no_list, no_set, place_in, pushed, set_of, state_by, value_in}
 use Rattle.agg_folds.proofs.BestLaws.{greatest-push, least-push, some-rows}
 use Rattle.agg_folds.proofs.ListLaws.{distinct-member, listed-push, set-push}
 
@@ -36,9 +35,9 @@ no-least : least_of [] ≡ no_best prefer.Least
 unfolding least_of least least_row row_of
 no-least = refl
 
-no-first : first_of [] ≡ no_best prefer.First
-unfolding first_of argument
-no-first = refl
+no-first : (kind : Option Kind) → first_of kind [] ≡ no_first kind
+unfolding first_of first_or_absent
+no-first kind = refl
 
 bits-none : (o : BitOp) → bits_in o [] ≡ no_bits o
 unfolding bits_in
@@ -129,9 +128,9 @@ module _ (kind : Option Kind) (limit : Option ℕ) where
   unfolding state_by
   started-ArgMin = no-least
 
-  pub started-TakeAny : state_by aggregate.TakeAny kind limit [] ≡ no_best prefer.First
+  pub started-TakeAny : state_by aggregate.TakeAny kind limit [] ≡ no_first kind
   unfolding state_by
-  started-TakeAny = no-first
+  started-TakeAny = no-first kind
 
   pub started-And : state_by aggregate.BinaryAllAnd kind limit [] ≡ no_bits op.And
   unfolding state_by
@@ -180,10 +179,10 @@ best-least : (vs : List Value) (v : Value) → least_of (vs ++ v ∷ []) ≡ pus
 unfolding least_of pushed
 best-least vs v = ap state.Best (least-push vs v)
 
-best-first : (vs : List Value) (v : Value) → first_of (vs ++ v ∷ []) ≡ pushed (first_of vs) (length vs) v
-unfolding first_of pushed met is_better argument
-best-first [] v = refl
-best-first (w ∷ ws) v = rw (some-rows w ws) refl
+best-first : (kind : Option Kind) (vs : List Value) (v : Value) → first_of kind (vs ++ v ∷ []) ≡ pushed (first_of kind vs) (length vs) v
+unfolding first_of pushed met is_better first_or_absent
+best-first kind [] v = refl
+best-first kind (w ∷ ws) v = rw (some-rows w ws) refl
 
 list-push : (limit : Option ℕ) (vs : List Value) (v : Value) → list_of limit (vs ++ v ∷ []) ≡ pushed (list_of limit vs) (length vs) v
 unfolding list_of pushed
@@ -211,7 +210,7 @@ state-push aggregate.MakeSet kind limit vs v = members-push limit vs v
 state-push aggregate.MakeSetIf kind limit vs v = members-push limit vs v
 state-push aggregate.ArgMax kind limit vs v = best-greatest vs v
 state-push aggregate.ArgMin kind limit vs v = best-least vs v
-state-push aggregate.TakeAny kind limit vs v = best-first vs v
+state-push aggregate.TakeAny kind limit vs v = best-first kind vs v
 state-push aggregate.BinaryAllAnd kind limit vs v = bits-push op.And vs v
 state-push aggregate.BinaryAllOr kind limit vs v = bits-push op.Or vs v
 state-push aggregate.BinaryAllXor kind limit vs v = bits-push op.Xor vs v

@@ -1,5 +1,5 @@
 -- What the aggregates give, over what their arguments are at each row in place of a table.
-use Rattle.std.specs.Prelude.{ℕ, List, Option, None, Some, filter_map, if◌then◌else◌, take}
+use Rattle.std.specs.Prelude.{ℕ, List, [], ◌∷◌, Option, None, Some, filter_map, if◌then◌else◌, take}
 use Rattle.std.specs.Int.{int_bit_and, int_bit_or, int_bit_xor, w64}
 use Rattle.kql_cells.specs.declared.value.Kind.{Kind}
 use Rattle.kql_cells.specs.declared.value.Value.{Value}
@@ -10,7 +10,7 @@ use Rattle.kql_scalar_fns.specs.Choice.{greatest, least}
 use Rattle.kql_meaning.specs.Aggregates.{combined, distinct_given, given, listed}
 use Rattle.kql_meaning.specs.Numbers.{counted, fitted, sum_of}
 use Rattle.kql_meaning.specs.Results.{greatest_row, least_row}
-use Rattle.kql_meaning.specs.Values.{holds}
+use Rattle.kql_meaning.specs.Values.{absent_as, holds}
 use Rattle.agg_folds.specs.declared.call.FoldCall.{FoldCall}
 
 -- A value, where a condition is true.
@@ -36,6 +36,11 @@ unfoldable pub up_to : Option ℕ → List Value → List Value
 up_to None vs = vs
 up_to (Some n) vs = take n vs
 
+-- The first value; without one what stands in a column of the type where there is no value.
+unfoldable pub first_or_absent : Option Kind → List Value → Value
+first_or_absent kind [] = absent_as kind
+first_or_absent kind (v ∷ vs) = v
+
 -- What an aggregate gives for the values that it took.
 unfoldable pub value_by : Aggregate → Option Kind → Option ℕ → List Value → Value
 value_by aggregate.Count kind limit vs = counted vs
@@ -54,13 +59,12 @@ value_by aggregate.MakeSet kind limit vs = listed (up_to limit (distinct_given v
 value_by aggregate.MakeSetIf kind limit vs = listed (up_to limit (distinct_given vs))
 value_by aggregate.ArgMax kind limit vs = greatest vs
 value_by aggregate.ArgMin kind limit vs = least vs
-value_by aggregate.TakeAny kind limit vs = argument vs 0
+value_by aggregate.TakeAny kind limit vs = first_or_absent kind vs
 value_by aggregate.BinaryAllAnd kind limit vs = combined (int_bit_and w64) vs
 value_by aggregate.BinaryAllOr kind limit vs = combined (int_bit_or w64) vs
 value_by aggregate.BinaryAllXor kind limit vs = combined (int_bit_xor w64) vs
 
--- What a call gives for its rows. `take_any` over no row gives null here: over a table without rows it gives what its argument is where
--- there is no row.
+-- What a call gives for its rows.
 unfoldable pub folded : FoldCall → List (List Value) → Value
 folded call rows = value_by call.aggregate call.kind call.limit (taken_of call.aggregate rows)
 

@@ -1,5 +1,5 @@
 -- What folds are to the aggregates of `kql_meaning`.
-use Rattle.std.specs.Prelude.{◌≡◌, ◌<◌, true, ℤ, List, [], All, FitsSigned, Some, length, map, take}
+use Rattle.std.specs.Prelude.{◌≡◌, true, ℤ, List, [], All, FitsSigned, Some, map, take}
 use Rattle.std.specs.Int.{w64}
 use Rattle.kql_cells.specs.Table.{Grid}
 use Rattle.kql_cells.specs.Values.{IsOfKind}
@@ -33,9 +33,9 @@ pub record HaveOneKind (rows more : List (List Value)) : Type 0 where
 unfoldable pub argument_rows : Aggregate → List BExpr → Grid → List (List Value)
 argument_rows f args t = map (λ i. values_in (take (needs f) args) t i []) (places t)
 
--- A call that fits has the value of the fold of its arguments at the rows of the group. For `take_any` there must be a row.
+-- A call that fits has the value of the fold of its arguments at the rows of the group, of which there may be none.
 abbrev pub FoldIsAggregate : Type 0
-FoldIsAggregate = (f : Aggregate) (args : List BExpr) (t : Grid) → aggregate_takes f args t.columns ≡ true → (f ≡ aggregate.TakeAny → 0 < length t.lines) → aggregated f (map reading args) t [] ≡ folded (call_of f args t.columns) (argument_rows f args t)
+FoldIsAggregate = (f : Aggregate) (args : List BExpr) (t : Grid) → aggregate_takes f args t.columns ≡ true → aggregated f (map reading args) t [] ≡ folded (call_of f args t.columns) (argument_rows f args t)
 
 -- The row that is chosen is that of which the further result columns are.
 abbrev pub ChosenIsGreatest : Type 0

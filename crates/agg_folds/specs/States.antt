@@ -1,5 +1,5 @@
 -- The states of folds: what they keep of the values that an aggregate took.
-use Rattle.std.specs.Prelude.{ℕ, ◌+◌, ◌≤◌, List, [], Option, None, length, pos, ◌+ℤ◌, filter_map}
+use Rattle.std.specs.Prelude.{ℕ, ◌+◌, ◌≤◌, List, [], Option, None, Some, length, pos, ◌+ℤ◌, filter_map}
 use Rattle.std.specs.List.{reduce}
 use Rattle.kql_ticks.specs.Ranges.{fit}
 use Rattle.kql_cells.specs.declared.value.Kind.{Kind}
@@ -7,12 +7,12 @@ use Rattle.kql_cells.specs.declared.value.Value.{Value}
 use Rattle.kql_cells.specs.declared.value.Value.TheVariants as value
 use Rattle.kql_functions.specs.declared.aggregate.Aggregate.{Aggregate}
 use Rattle.kql_functions.specs.declared.aggregate.Aggregate.TheVariants as aggregate
-use Rattle.kql_scalar_fns.specs.Arguments.{argument, long_or_null}
+use Rattle.kql_scalar_fns.specs.Arguments.{long_or_null}
 use Rattle.kql_scalar_fns.specs.Choice.{greatest, least}
 use Rattle.kql_meaning.specs.Aggregates.{distinct_given, given, listed}
 use Rattle.kql_meaning.specs.Numbers.{added, counted, fitted, sum_of}
 use Rattle.kql_meaning.specs.Results.{greatest_row, least_row}
-use Rattle.kql_meaning.specs.Values.{number_of}
+use Rattle.kql_meaning.specs.Values.{absent_as, number_of}
 use Rattle.agg_folds.specs.declared.best.Prefer.{Prefer}
 use Rattle.agg_folds.specs.declared.best.Prefer.TheVariants as prefer
 use Rattle.agg_folds.specs.declared.bits.BitOp.{BitOp}
@@ -20,7 +20,7 @@ use Rattle.agg_folds.specs.declared.bits.BitOp.TheVariants as op
 use Rattle.agg_folds.specs.declared.call.FoldCall.{FoldCall}
 use Rattle.agg_folds.specs.declared.state.State.{State}
 use Rattle.agg_folds.specs.declared.state.State.TheVariants as state
-use Rattle.agg_folds.specs.Folds.{taken_of, up_to}
+use Rattle.agg_folds.specs.Folds.{first_or_absent, taken, taken_of, up_to}
 use Rattle.agg_folds.specs.Kept.{IsSumOf, bits_of, both_of, joined_best, joined_list, joined_set, met, with_listed, with_member}
 
 -- What is kept of values.
@@ -37,8 +37,8 @@ greatest_of vs = state.Best (record { prefer = prefer.Greatest; value = greatest
 unfoldable pub least_of : List Value → State
 least_of vs = state.Best (record { prefer = prefer.Least; value = least vs; place = least_row vs })
 
-unfoldable pub first_of : List Value → State
-first_of vs = state.Best (record { prefer = prefer.First; value = argument vs 0; place = 0 })
+unfoldable pub first_of : Option Kind → List Value → State
+first_of kind vs = state.Best (record { prefer = prefer.First; value = first_or_absent kind vs; place = 0 })
 
 unfoldable pub bits_in : BitOp → List Value → State
 bits_in o vs = state.Bits (record { op = o; number = reduce (bits_of o) (filter_map number_of vs) })
@@ -60,7 +60,7 @@ state_by aggregate.MakeSet kind limit vs = set_of limit vs
 state_by aggregate.MakeSetIf kind limit vs = set_of limit vs
 state_by aggregate.ArgMax kind limit vs = greatest_of vs
 state_by aggregate.ArgMin kind limit vs = least_of vs
-state_by aggregate.TakeAny kind limit vs = first_of vs
+state_by aggregate.TakeAny kind limit vs = first_of kind vs
 state_by aggregate.BinaryAllAnd kind limit vs = bits_in op.And vs
 state_by aggregate.BinaryAllOr kind limit vs = bits_in op.Or vs
 state_by aggregate.BinaryAllXor kind limit vs = bits_in op.Xor vs
@@ -72,6 +72,9 @@ state_of call vs = state_by call.aggregate call.kind call.limit vs
 
 abbrev pub no_best : Prefer → State
 no_best p = state.Best (record { prefer = p; value = value.Null; place = 0 })
+
+abbrev pub no_first : Option Kind → State
+no_first kind = state.Best (record { prefer = prefer.First; value = absent_as kind; place = 0 })
 
 abbrev pub no_bits : BitOp → State
 no_bits o = state.Bits (record { op = o; number = None })
@@ -122,6 +125,14 @@ joined s n _ = s
 unfoldable pub with_value : Kept → Value → Kept
 with_value k v = record { aggregate = k.aggregate; count = k.count + 1; state = pushed k.state k.count v }
 
+-- One row more, of which a value is taken or none.
+unfoldable pub with_taken : Kept → Option Value → Kept
+with_taken k None = k
+with_taken k (Some v) = with_value k v
+
+unfoldable pub with_row : Kept → List Value → Kept
+with_row k row = with_taken k (taken k.aggregate row)
+
 unfoldable pub with_fold : Kept → Kept → Kept
 with_fold k l = record { aggregate = k.aggregate; count = k.count + l.count; state = joined k.state k.count l.state }
 
@@ -134,6 +145,9 @@ value_in (state.Bits b) n = long_or_null b.number
 value_in (state.List l) n = listed l.values
 value_in (state.Set s) n = listed s.values
 value_in (state.Distinct vs) n = counted vs
+
+abbrev pub value_of : Kept → Value
+value_of k = value_in k.state k.count
 
 -- The place of the value that is chosen.
 unfoldable pub place_in : State → ℕ

@@ -2,11 +2,13 @@ ghost use Rattle.std.specs.Prelude.{◌≡◌, ◌<◌, ◌≤◌, ◌+◌, ◌^
 ghost use Rattle.kql_cells.specs.Seen.{seen};
 ghost use Rattle.kql_cells.specs.Values.{IsWellFormed};
 ghost use Rattle.kql_cells.specs.declared.value.Value.TheVariants.{Null};
+ghost use Rattle.kql_meaning.specs.Values.{absent_as};
 ghost use Rattle.agg_folds.specs.Kept.{is_better, joined_best, met};
+ghost use Rattle.agg_folds.specs.declared.best.Prefer.TheVariants.{First};
 
-use crate::cells::is_below;
+use crate::cells::{absent_as, is_below};
 use crate::held::Held;
-use kql_cells::CellRef;
+use kql_cells::{CellRef, Kind};
 
 /// Which value is chosen: the greatest or the least that is not null, or the first.
 #[derive(Clone, Copy)]
@@ -46,6 +48,19 @@ impl<'a> Best<'a> {
         Best {
             prefer,
             value: Held::new(CellRef::Null),
+            place: 0,
+        }
+    }
+
+    /// None so far, where the first is wanted: what stands in a column of the type where there is no value.
+    pub(crate) fn first(kind: Option<Kind>) -> Best<'a>
+        ensures prefer { result.prefer ≡ First }
+        ensures value { result.value ≡ absent_as kind }
+        ensures place { result.place ≡ 0 }
+    {
+        Best {
+            prefer: Prefer::First,
+            value: Held::new(absent_as(kind)),
             place: 0,
         }
     }

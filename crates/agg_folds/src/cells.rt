@@ -2,13 +2,14 @@
 ghost use Rattle.std.specs.Prelude.{◌≡◌, FitsSigned, IfSome, map};
 ghost use Rattle.std.specs.Int.{w64};
 ghost use Rattle.kql_cells.specs.Seen.{seen};
+ghost use Rattle.kql_cells.specs.Values.{IsWellFormed};
 ghost use Rattle.kql_scalar_fns.specs.Arguments.{argument};
 ghost use Rattle.kql_scalar_fns.specs.Choice.{is_below};
-ghost use Rattle.kql_meaning.specs.Values.{holds, number_of};
+ghost use Rattle.kql_meaning.specs.Values.{absent_as, holds, number_of};
 ghost use Rattle.kql_meaning.specs.Windows.{count_in};
 ghost use Rattle.kql_cells.specs.declared.value.Value.TheVariants as value;
 
-use kql_cells::CellRef;
+use kql_cells::{CellRef, Kind};
 
 /// The argument at a place, and null where there is none.
 #[tactic(auto, unfolding(kql_scalar_fns::specs::Arguments::argument))]
@@ -19,6 +20,18 @@ pub(crate) fn argument<'a>(args: &[CellRef<'a>], i: usize) -> CellRef<'a>
         args[i]
     } else {
         CellRef::Null
+    }
+}
+
+/// What stands in a column of a type where there is no value.
+#[tactic(auto, using(crate::proofs::FormFacts::absent_forms), unfolding(kql_meaning::specs::Values::absent_as))]
+pub(crate) fn absent_as(kind: Option<Kind>) -> CellRef<'static>
+    ensures value { seen result ≡ absent_as kind }
+    ensures form { IsWellFormed (seen result) }
+{
+    match kind {
+        None => CellRef::Null,
+        Some(kind) => kind.absent(),
     }
 }
 

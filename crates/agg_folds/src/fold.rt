@@ -5,7 +5,7 @@ ghost use Rattle.kql_cells.specs.declared.value.Value.{Value as Cell};
 ghost use Rattle.kql_scalar_fns.specs.Arguments.{AreWellFormed};
 ghost use Rattle.agg_folds.specs.Folds.{chosen_row, folded, taken};
 ghost use Rattle.agg_folds.specs.Laws.{HaveOneKind};
-ghost use Rattle.agg_folds.specs.States.{fold_of, place_in, value_in, with_fold, with_value};
+ghost use Rattle.agg_folds.specs.States.{fold_of, place_in, value_of, with_fold, with_row, with_value};
 ghost use Rattle.agg_folds.specs.declared.call.FoldCall.{FoldCall};
 
 use crate::call::FoldCall;
@@ -70,6 +70,7 @@ impl<'a> Fold<'a> {
     pub fn step(&mut self, args: &[CellRef<'a>]) -> Result<(), AllocError>
         requires room { self.old.count < 2 ^ 63 }
         requires form { AreWellFormed (map seen args.now) }
+        ensures stepped { OnOk result (self.new ≡ with_row self.old (map seen args.now)) }
         ensures row { (call : FoldCall) (rows : List (List Cell)) → self.old ≡ fold_of call rows → OnOk result (self.new ≡ fold_of call (rows ++ map seen args.now ∷ [])) }
         ensures kept { OnErr result (self.new ≡ self.old) }
     {
@@ -123,13 +124,14 @@ impl<'a> Fold<'a> {
 
     /// The value that the aggregate has over the rows that were taken.
     pub fn finish(&self, alloc: Global) -> Result<Value, AllocError>
+        ensures kept { IfOk result (λ v. v ≡ value_of self.now) }
         ensures value { (call : FoldCall) (rows : List (List Cell)) → self.now ≡ fold_of call rows → IfOk result (λ v. v ≡ folded call rows) }
     {
         self.value(alloc)
     }
 
     fn value(&self, alloc: Global) -> Result<Value, AllocError>
-        ensures { IfOk result (λ v. v ≡ value_in self.now.state self.now.count) }
+        ensures { IfOk result (λ v. v ≡ value_of self.now) }
     {
         self.state.value(alloc, self.count)
     }

@@ -2,7 +2,7 @@ ghost use Rattle.std.specs.Prelude.{◌≡◌, ◌<◌, ◌≤◌, ◌+◌, ◌^
 ghost use Rattle.kql_cells.specs.Seen.{seen};
 ghost use Rattle.kql_cells.specs.Values.{IsWellFormed};
 ghost use Rattle.kql_scalar_fns.specs.Arguments.{long_or_null};
-ghost use Rattle.agg_folds.specs.States.{IsBounded, joined, no_best, no_bits, no_list, no_set, place_in, pushed, started, value_in};
+ghost use Rattle.agg_folds.specs.States.{IsBounded, joined, no_best, no_bits, no_first, no_list, no_set, place_in, pushed, started, value_in};
 
 use crate::best::{Best, Prefer};
 use crate::bits::{BitOp, Bits};
@@ -59,7 +59,7 @@ impl<'a> State<'a> {
             Aggregate::MakeSetIf => set(alloc, call.limit),
             Aggregate::ArgMax => best(Prefer::Greatest),
             Aggregate::ArgMin => best(Prefer::Least),
-            Aggregate::TakeAny => best(Prefer::First),
+            Aggregate::TakeAny => first(call.kind),
             Aggregate::BinaryAllAnd => bits(BitOp::And),
             Aggregate::BinaryAllOr => bits(BitOp::Or),
             Aggregate::BinaryAllXor => bits(BitOp::Xor),
@@ -178,6 +178,12 @@ fn best<'a>(prefer: Prefer) -> State<'a>
     ensures { result ≡ no_best prefer }
 {
     State::Best(Best::new(prefer))
+}
+
+fn first<'a>(kind: Option<Kind>) -> State<'a>
+    ensures { result ≡ no_first kind }
+{
+    State::Best(Best::first(kind))
 }
 
 fn bits<'a>(op: BitOp) -> State<'a>

@@ -1,7 +1,7 @@
 //! Folds of pieces, joined at each place: no query makes pieces. What aggregates give is shown by rows of the program.
 
 use agg_folds::{Fold, FoldCall, PieceFold};
-use kql_cells::{CellRef, Kind, Value, is_well_formed};
+use kql_cells::{CellRef, KText, Kind, Value, is_well_formed};
 use kql_functions::Aggregate;
 use kql_scalar_fns::are_well_formed;
 use std::alloc::{AllocError, Global};
@@ -119,11 +119,24 @@ fn sum_over_the_range(alloc: Global) -> Made<Value> {
     call.finish(alloc, state)
 }
 
+// What `take_any` of a column of strings gives where there is no row.
+fn any_of_none(alloc: Global) -> Made<Value> {
+    let call = FoldCall {
+        aggregate: Aggregate::TakeAny,
+        kind: Some(Kind::Text),
+        limit: None,
+    };
+    let state = call.start(alloc)?;
+    call.finish(alloc, state)
+}
+
 #[test]
 fn pieces_are_joined(rt: HostRuntime) -> Result<(), Fail> {
     let alloc = rt.alloc();
     assert_eq!(rt; first_wrong(alloc)?, None);
     let sum = sum_over_the_range(alloc)?;
     assert!(rt; are_same(&sum, &Value::Long(i64::MAX)));
+    let none = any_of_none(alloc)?;
+    assert!(rt; are_same(&none, &Value::Text(KText::new(alloc))));
     Ok(())
 }

@@ -1,5 +1,5 @@
 -- A call over groups is the value of its folds.
-use Rattle.std.proofs.Common.{◌≡◌, ◌≢◌, ◌<◌, ◌≤◌, ◌+◌, ◌==◌, ℕ, suc, Bool, true, List, [], ◌∷◌, length, map, take, refl, ap, ap₂, sym, ◌∙◌, subst, inl, inr, arith}
+use Rattle.std.proofs.Common.{◌≡◌, ◌<◌, ◌≤◌, ◌+◌, ◌==◌, ℕ, suc, Bool, true, List, [], ◌∷◌, length, map, take, refl, ap, ap₂, sym, ◌∙◌, subst, inl, inr, arith}
 use Rattle.std.specs.List.{AllByRecursion, list_all, range_with_len}
 use Rattle.std.proofs.lemmas.Bool.{cases_Bool}
 use Rattle.std.proofs.lemmas.List.Elements.{All-from_recursion}
@@ -12,7 +12,6 @@ use Rattle.kql_keys.specs.Numbers.{places_from}
 use Rattle.kql_keys.specs.Places.{places_of}
 use Rattle.kql_scalar_fns.specs.Arguments.{AreWellFormed}
 use Rattle.kql_functions.specs.declared.aggregate.Aggregate.{Aggregate}
-use Rattle.kql_functions.specs.declared.aggregate.Aggregate.TheVariants as aggregate
 use Rattle.kql_bound.specs.declared.expr.BExpr.{BExpr}
 use Rattle.kql_bound.specs.declared.expr.BExpr.TheVariants as V
 use Rattle.kql_meaning.specs.declared.position.Position.TheVariants as position
@@ -75,23 +74,23 @@ rows-of-group es t ns count g plain h =
 
 -- The value of a call over the rows of a number.
 
-folded-group : (f : Aggregate) (args : List BExpr) (t : Grid) (ns : List ℕ) (count g : ℕ) → f ≢ aggregate.TakeAny → IsCall t.columns f args → AreNumbers t ns count → val (V.Aggregate f args) (group_at t ns g) 0 [] ≡ folded (call_of f args t.columns) (group_args (argument_columns (take (needs f) args) t) ns g)
+folded-group : (f : Aggregate) (args : List BExpr) (t : Grid) (ns : List ℕ) (count g : ℕ) → IsCall t.columns f args → AreNumbers t ns count → val (V.Aggregate f args) (group_at t ns g) 0 [] ≡ folded (call_of f args t.columns) (group_args (argument_columns (take (needs f) args) t) ns g)
 unfolding fold_rows
-folded-group f args t ns count g other call h =
+folded-group f args t ns count g call h =
     let u = group_at t ns g in
     let named : u.columns ≡ t.columns = group-columns t ns g in
     let takes : aggregate_takes f args u.columns ≡ true = subst (λ cs. aggregate_takes f args cs ≡ true) (sym named) (call-takes t.columns f args call) in
     val-Aggregate f args u 0 []
-    ∙ (fold-is-aggregate f args u takes (λ e. absurd (other e))
+    ∙ (fold-is-aggregate f args u takes
     ∙ ap₂ (λ (c : FoldCall) (rs : List (List Value)). folded c rs) (ap (call_of f args) named) (rows-of-group (take (needs f) args) t ns count g (first-plain t.columns f args (needs f) call) h))
 
-pub folded-is : (f : Aggregate) (args : List BExpr) (t : Grid) (ns : List ℕ) (count : ℕ) (call : FoldCall) (first : List BExpr) (columns : List (List Value)) (vs : List Value) → f ≢ aggregate.TakeAny → IsCall t.columns f args → AreNumbers t ns count → call ≡ call_of f args t.columns → first ≡ take (needs f) args → columns ≡ argument_columns first t → vs ≡ folded_over call columns ns count → vs ≡ over (V.Aggregate f args) t ns count
+pub folded-is : (f : Aggregate) (args : List BExpr) (t : Grid) (ns : List ℕ) (count : ℕ) (call : FoldCall) (first : List BExpr) (columns : List (List Value)) (vs : List Value) → IsCall t.columns f args → AreNumbers t ns count → call ≡ call_of f args t.columns → first ≡ take (needs f) args → columns ≡ argument_columns first t → vs ≡ folded_over call columns ns count → vs ≡ over (V.Aggregate f args) t ns count
 unfolding folded_over over
-folded-is f args t ns count call first columns vs other fits h named read is made =
+folded-is f args t ns count call first columns vs fits h named read is made =
     let same : columns ≡ argument_columns (take (needs f) args) t = is ∙ ap (λ (es : List BExpr). argument_columns es t) read in
     made
     ∙ map-range-same (λ g. folded call (group_args columns ns g)) (λ g. val (V.Aggregate f args) (group_at t ns g) 0 []) 0 count
-    (λ g lt. ap₂ (λ (c : FoldCall) (cols : List (List Value)). folded c (group_args cols ns g)) named same ∙ sym (folded-group f args t ns count g other fits h))
+    (λ g lt. ap₂ (λ (c : FoldCall) (cols : List (List Value)). folded c (group_args cols ns g)) named same ∙ sym (folded-group f args t ns count g fits h))
 
 -- Its values are well formed.
 

@@ -1,5 +1,5 @@
 -- The result columns of calls.
-use Rattle.std.proofs.Common.{◌≡◌, ◌≢◌, ◌<◌, ◌≤◌, ℕ, true, false, List, [], ◌∷◌, get_or, length, take, drop, refl, ap, ap₂, sym, ◌∙◌, subst, arith}
+use Rattle.std.proofs.Common.{◌≡◌, ◌<◌, ◌≤◌, ℕ, true, false, List, [], ◌∷◌, get_or, length, take, drop, refl, ap, ap₂, sym, ◌∙◌, subst, arith}
 use Rattle.std.specs.Prelude.{All, Option, slice_get, slice_index_or}
 use Rattle.std.specs.List.{list_all, range_with_len}
 use Rattle.std.proofs.lemmas.Bool.{and_parts}
@@ -76,17 +76,8 @@ pub ruleset one_steps = (formed)
 
 -- What the folds give.
 
-not-first : (f : Aggregate) → is_first f ≡ false → f ≢ aggregate.TakeAny
-unfolding is_first
-not-first f h e = let no : true ≡ false = ap is_first (sym e) ∙ h in cc
-
-pub best-not-first : (f : Aggregate) → is_best f ≡ true → is_first f ≡ false
-unfolding is_best is_first
-best-not-first aggregate.TakeAny h = absurd cc
-best-not-first _ h = refl
-
-pub folded-values : (f : Aggregate) (args : List BExpr) (t : Grid) (ns : List ℕ) (count : ℕ) (call : FoldCall) (first : List BExpr) (columns : List (List Value)) (vs : List Value) → is_first f ≡ false → IsCall t.columns f args → AreNumbers t ns count → call ≡ call_of f args t.columns → first ≡ take (needs f) args → columns ≡ argument_columns first t → vs ≡ folded_over call columns ns count → vs ≡ over (V.Aggregate f args) t ns count
-folded-values f args t ns count call first columns vs other fits h named read is made = folded-is f args t ns count call first columns vs (not-first f other) fits h named read is made
+pub folded-values : (f : Aggregate) (args : List BExpr) (t : Grid) (ns : List ℕ) (count : ℕ) (call : FoldCall) (first : List BExpr) (columns : List (List Value)) (vs : List Value) → IsCall t.columns f args → AreNumbers t ns count → call ≡ call_of f args t.columns → first ≡ take (needs f) args → columns ≡ argument_columns first t → vs ≡ folded_over call columns ns count → vs ≡ over (V.Aggregate f args) t ns count
+folded-values f args t ns count call first columns vs fits h named read is made = folded-is f args t ns count call first columns vs fits h named read is made
 
 chosen-group : (f : Aggregate) (args : List BExpr) (u : Grid) → is_best f ≡ true → chosen_row (call_of f args u.columns) (fold_rows f args u) ≡ best_row f args u
 unfolding is_best best_row

@@ -185,13 +185,13 @@ module _ (f : Aggregate) (args : List BExpr) (t : Grid) (is js : List ℕ) where
   abbrev furthers : ℕ → ℕ → List Value
   furthers p n = if nat_lt p n then further_at (further_args c) t (slice_get is (chosen_row call (args_at c t is))) else further_at (further_args c) t (slice_get js (chosen_row call (args_at c t js)))
 
-  joins : All (IsRowOf call) (args_at c t is) → All (IsRowOf call) (args_at c t js) → fold_of call (args_at c t (is ++ js)) ≡ with_fold of_first of_second
+  joins : All (IsRowOf call.kind) (args_at c t is) → All (IsRowOf call.kind) (args_at c t js) → fold_of call (args_at c t (is ++ js)) ≡ with_fold of_first of_second
   joins left right = ap (fold_of call) (rows-both c t is js) ∙ fold-joins call (args_at c t is) (args_at c t js) left right
 
-  place-is : All (IsRowOf call) (args_at c t is) → All (IsRowOf call) (args_at c t js) → chosen_row call (args_at c t (is ++ js)) ≡ place
+  place-is : All (IsRowOf call.kind) (args_at c t is) → All (IsRowOf call.kind) (args_at c t js) → chosen_row call (args_at c t (is ++ js)) ≡ place
   place-is left right = sym (place-of-fold call (args_at c t (is ++ js)) (fold_of call (args_at c t (is ++ js))) refl) ∙ ap (λ (k : Kept). place_in k.state) (joins left right)
 
-  best-joins : is_best f ≡ true → All (IsRowOf call) (args_at c t is) → All (IsRowOf call) (args_at c t js) → further_at (further_args c) t (slice_get (is ++ js) (chosen_row call (args_at c t (is ++ js)))) ≡ furthers place of_first.count
+  best-joins : is_best f ≡ true → All (IsRowOf call.kind) (args_at c t is) → All (IsRowOf call.kind) (args_at c t js) → further_at (further_args c) t (slice_get (is ++ js) (chosen_row call (args_at c t (is ++ js)))) ≡ furthers place of_first.count
   best-joins h left right =
       let best : is_best call.aggregate ≡ true = ap is_best (call-is f args t.columns) ∙ h in
       let size : length (args_at c t is) ≡ length is = rows-long c t is in
@@ -208,12 +208,12 @@ module _ (f : Aggregate) (args : List BExpr) (t : Grid) (is js : List ℕ) where
         | inr n ↦ rw n (none (slice_get (is ++ js) (chosen_row call (args_at c t (is ++ js)))) ∙ sym (none (slice_get js (chosen_row call (args_at c t js)))))
       ]
 
-  further-joins : All (IsRowOf call) (args_at c t is) → All (IsRowOf call) (args_at c t js) → further_at (further_args c) t (slice_get (is ++ js) (chosen_row call (args_at c t (is ++ js)))) ≡ furthers place of_first.count
+  further-joins : All (IsRowOf call.kind) (args_at c t is) → All (IsRowOf call.kind) (args_at c t js) → further_at (further_args c) t (slice_get (is ++ js) (chosen_row call (args_at c t (is ++ js)))) ≡ furthers place of_first.count
   further-joins left right = elim (cases_Bool (is_best f)) [
     | inl y ↦ best-joins y left right
     | inr n ↦ none-joins n
   ]
 
-  pub states-join : All (IsRowOf call) (args_at c t is) → All (IsRowOf call) (args_at c t js) → state_at c t (is ++ js) ≡ with_kept (state_at c t is) (state_at c t js)
+  pub states-join : All (IsRowOf call.kind) (args_at c t is) → All (IsRowOf call.kind) (args_at c t js) → state_at c t (is ++ js) ≡ with_kept (state_at c t is) (state_at c t js)
   unfolding state_at with_kept
   states-join left right = ap₂ (λ (k : Kept) (vs : List Value). record { kept = k; further = vs }) (joins left right) (further-joins left right)

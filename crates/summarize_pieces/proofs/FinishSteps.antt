@@ -35,10 +35,11 @@ use Rattle.kql_fit_laws.proofs.ItemLaws.{each_summarize_keeps}
 use Rattle.kql_fit_laws.proofs.RowFacts.{gathered-table}
 use Rattle.kql_fit_laws.proofs.RowLaws.{means}
 use Rattle.kql_scalar.specs.Rows.{rows}
+use Rattle.agg_folds.specs.Folds.{folded}
 use Rattle.agg_folds.specs.States.{Kept, fold_of}
 use Rattle.agg_folds.specs.declared.call.FoldCall.{FoldCall}
 use Rattle.summarize_op.specs.Calls.{IsCall}
-use Rattle.summarize_pieces.specs.Calls.{AreFurther, AreGiven, calls_of, given}
+use Rattle.summarize_pieces.specs.Calls.{AreFurther, AreGiven, calls_of}
 use Rattle.summarize_pieces.specs.Pieces.{AreAligned, AreAllGroups, GroupKept, Grouped, args_at, call_over, group_line, groups_in, kept_row, kept_rows, keys_in, rows_with, state_at, state_in, value_for}
 use Rattle.summarize_pieces.proofs.GivenLaws.{are-formed, are-further, are-given}
 use Rattle.summarize_pieces.proofs.GroupSteps.{all-same}
@@ -145,7 +146,7 @@ pub values-start : (cs : List (Aggregate × List BExpr)) (keys : List BItem) (t 
 values-start cs keys t from to k made e = e
 
 pub values-step : (cs : List (Aggregate × List BExpr)) (keys : List BItem) (t : Grid) (from to k : ℕ) (ks : List (List Value)) (calls : List FoldCall) (folds : List (List GroupKept)) (j : ℕ) (call : FoldCall) (list : List GroupKept) (v : Value) (old new : List Value) → j < length folds → k < length list → call ≡ get_or calls j call → list ≡ get_or folds j list → calls ≡ map (λ c. call_over c t.columns) cs → folds ≡ map (λ c. map (state_in c keys t from to) ks) cs → old ≡ values_for (take j cs) keys t from to (slice_index_or ks k [])
-    → ((lists : List (List (List Value))) → map (λ (s : GroupKept). s.kept) list ≡ map (fold_of call) lists → v ≡ given call (slice_index_or lists k [])) → new ≡ old ++ v ∷ [] → new ≡ values_for (take (j + 1) cs) keys t from to (slice_index_or ks k [])
+    → ((lists : List (List (List Value))) → map (λ (s : GroupKept). s.kept) list ≡ map (fold_of call) lists → v ≡ folded call (slice_index_or lists k [])) → new ≡ old ++ v ∷ [] → new ≡ values_for (take (j + 1) cs) keys t from to (slice_index_or ks k [])
 unfolding value_for
 values-step cs keys t from to k ks calls folds j call list v old new lt inside ci li ec es before value after =
     let size : length folds ≡ length cs = ap (λ (xs : List (List GroupKept)). length xs) es ∙ length-map cs _ in
@@ -157,10 +158,10 @@ values-step cs keys t from to k ks calls folds j call list v old new lt inside c
     let lists = map (λ k. args_at c t (rows_with keys t from to k)) ks in
     let many : length list ≡ length ks = ap (λ (xs : List GroupKept). length xs) own ∙ length-map ks _ in
     let there : k < length ks = omega (arith, many, inside) in
-    let made : v ≡ given (call_over c t.columns) (args_at c t (rows_with keys t from to (slice_index_or ks k []))) =
+    let made : v ≡ folded (call_over c t.columns) (args_at c t (rows_with keys t from to (slice_index_or ks k []))) =
     value lists (ap (map (λ (s : GroupKept). s.kept)) own ∙ (state-lists c keys t from to ks ∙ ap (λ (h : FoldCall). map (fold_of h) lists) (sym named)))
-    ∙ ap₂ (λ (h : FoldCall) (rs : List (List Value)). given h rs) named (get_or-map (λ k. args_at c t (rows_with keys t from to k)) ks k [] [] there) in
-    let f = λ (c : Aggregate × List BExpr). given (call_over c t.columns) (args_at c t (rows_with keys t from to (slice_index_or ks k []))) in
+    ∙ ap₂ (λ (h : FoldCall) (rs : List (List Value)). folded h rs) named (get_or-map (λ k. args_at c t (rows_with keys t from to k)) ks k [] [] there) in
+    let f = λ (c : Aggregate × List BExpr). folded (call_over c t.columns) (args_at c t (rows_with keys t from to (slice_index_or ks k []))) in
     after
     ∙ (ap₂ (λ (xs : List Value) (x : Value). xs ++ x ∷ []) before made
     ∙ (sym (map-append f (take j cs) (c ∷ [])) ∙ ap (map f) (sym (take_more cs j d below))))
@@ -172,7 +173,7 @@ same-default (c ∷ calls) (suc j) d e lt = same-default calls j d e (omega (ari
 
 -- The same, where a call is read with a default.
 pub values-next : (cs : List (Aggregate × List BExpr)) (keys : List BItem) (t : Grid) (from to k : ℕ) (ks : List (List Value)) (calls : List FoldCall) (folds : List (List GroupKept)) (j : ℕ) (d : FoldCall) (list : List GroupKept) (v : Value) (old new : List Value) → AreAligned k calls folds → j < length folds → list ≡ get_or folds j list → calls ≡ map (λ c. call_over c t.columns) cs → folds ≡ map (λ c. map (state_in c keys t from to) ks) cs → old ≡ values_for (take j cs) keys t from to (slice_index_or ks k [])
-    → ((lists : List (List (List Value))) → map (λ (s : GroupKept). s.kept) list ≡ map (fold_of (get_or calls j d)) lists → v ≡ given (get_or calls j d) (slice_index_or lists k [])) → new ≡ old ++ v ∷ [] → new ≡ values_for (take (j + 1) cs) keys t from to (slice_index_or ks k [])
+    → ((lists : List (List (List Value))) → map (λ (s : GroupKept). s.kept) list ≡ map (fold_of (get_or calls j d)) lists → v ≡ folded (get_or calls j d) (slice_index_or lists k [])) → new ≡ old ++ v ∷ [] → new ≡ values_for (take (j + 1) cs) keys t from to (slice_index_or ks k [])
 values-next cs keys t from to k ks calls folds j d list v old new h lt li ec es before value after =
     values-step cs keys t from to k ks calls folds j (get_or calls j d) list v old new lt (aligned-state k calls folds j list h lt li)
     (same-default calls j d (get_or calls j d) (aligned-call k calls folds j h lt)) li ec es before value after
@@ -212,10 +213,10 @@ group-table keys t k h =
 calls-that-fit : (g : GroupPlan) (t : Grid) → Fits g t.columns → AllByRecursion (λ (c : Aggregate × List BExpr). IsCall t.columns c.0 c.1) (calls_of g.items)
 calls-that-fit g t fits = calls-fit t.columns g.items (items-of g t.columns (plan-fits g t.columns fits))
 
-same-values : (cs : List (Aggregate × List BExpr)) (keys : List BItem) (t : Grid) (from to : ℕ) (k : List Value) → values_for cs keys t from to k ≡ map (λ (c : Aggregate × List BExpr). given (call_over c t.columns) (args_at c t (rows_with keys t from to k))) cs
+same-values : (cs : List (Aggregate × List BExpr)) (keys : List BItem) (t : Grid) (from to : ℕ) (k : List Value) → values_for cs keys t from to k ≡ map (λ (c : Aggregate × List BExpr). folded (call_over c t.columns) (args_at c t (rows_with keys t from to k))) cs
 unfolding value_for
 same-values [] keys t from to k = refl
-same-values (c ∷ cs) keys t from to k = ap (λ (vs : List Value). given (call_over c t.columns) (args_at c t (rows_with keys t from to k)) ∷ vs) (same-values cs keys t from to k)
+same-values (c ∷ cs) keys t from to k = ap (λ (vs : List Value). folded (call_over c t.columns) (args_at c t (rows_with keys t from to k)) ∷ vs) (same-values cs keys t from to k)
 
 pub values-given : (g : GroupPlan) (t : Grid) (k vs : List Value) → Fits g t.columns → vs ≡ values_for (calls_of g.items) g.keys t 0 (length t.lines) k → AreGiven (calls_of g.items) (gathered t (rows_with g.keys t 0 (length t.lines) k)) vs
 values-given g t k vs fits is =

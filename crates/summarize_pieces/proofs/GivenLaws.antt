@@ -1,10 +1,8 @@
 -- What a call gives over a group of rows, from what its fold keeps of them.
-use Rattle.std.proofs.Common.{◌≡◌, ◌≢◌, ◌<◌, ℕ, zero, suc, true, false, List, [], ◌∷◌, drop, get_or, length, map, take, refl, ap, ap₂, sym, ◌∙◌, subst, inl, inr, arith}
+use Rattle.std.proofs.Common.{◌≡◌, ◌<◌, ℕ, zero, suc, true, List, [], ◌∷◌, drop, get_or, length, map, take, refl, ap, ap₂, sym, ◌∙◌, subst, inl, inr, arith}
 use Rattle.std.specs.Prelude.{None, Option, Some, slice_get}
 use Rattle.std.specs.List.{AllByRecursion, list_all}
 use Rattle.std.proofs.lemmas.Bool.{and_parts, cases_Bool}
-use Rattle.std.proofs.lemmas.List.{length-map}
-use Rattle.kql_cells.specs.Keys.{absent}
 use Rattle.kql_cells.specs.Seen.{row_at}
 use Rattle.kql_cells.specs.Table.{Grid, gathered}
 use Rattle.kql_cells.specs.Values.{IsWellFormed}
@@ -15,63 +13,33 @@ use Rattle.kql_functions.specs.Kinds.{has_order}
 use Rattle.kql_functions.specs.declared.aggregate.Aggregate.{Aggregate}
 use Rattle.kql_functions.specs.declared.aggregate.Aggregate.TheVariants as aggregate
 use Rattle.kql_scalar_fns.specs.Arguments.{AreWellFormed, argument}
-use Rattle.kql_bound.specs.declared.expr.BExpr.{BExpr, out-BExpr, roll-BExpr, roll-out-BExpr}
-use Rattle.kql_bound.specs.declared.expr.BExpr.TheOpen.{BExpr-F}
+use Rattle.kql_bound.specs.declared.expr.BExpr.{BExpr}
 use Rattle.kql_bound.specs.declared.expr.BExpr.TheVariants as V
 use Rattle.kql_meaning.specs.declared.position.Position.TheVariants as position
 use Rattle.kql_meaning.specs.Aggregates.{aggregated}
-use Rattle.kql_meaning.specs.Expressions.{aggregate_kind, column_kind, first_kind, kind_of, kinds_in, val, values_in}
-use Rattle.kql_meaning.specs.FittingExpressions.{aggregate_takes, best_of, column_of as column_named, column_step, first_row_of, has_kind, is_plain_column, scope_of, stands_in_if_column}
+use Rattle.kql_meaning.specs.Expressions.{aggregate_kind, kind_of, kinds_in, val, values_in}
+use Rattle.kql_meaning.specs.FittingExpressions.{aggregate_takes, best_of, has_kind, is_plain_column, scope_of}
 use Rattle.kql_meaning.specs.Readings.{reading_at}
 use Rattle.kql_meaning.specs.RowByRow.{is_plain}
-use Rattle.kql_meaning.specs.Tables.{absent_in, cell, cell_in, has_column}
-use Rattle.kql_meaning.proofs.KindLaws.{kind-Column}
+use Rattle.kql_meaning.specs.Values.{absent_as}
 use Rattle.kql_meaning.proofs.RowByRowLaws.{plain_reads_its_row}
-use Rattle.kql_meaning.proofs.ValueLaws.{val-Aggregate, val-Column}
+use Rattle.kql_meaning.proofs.ValueLaws.{val-Aggregate}
 use Rattle.kql_fit_laws.specs.LawsOfExpressions.{FitsKnown, RecordsFit, no_steps}
 use Rattle.kql_fit_laws.specs.LawsOfRows.{IsTable}
 use Rattle.kql_fit_laws.proofs.AggregateRows.{aggregate-known, call-parts}
 use Rattle.kql_fit_laws.proofs.ExpressionLaws.{expressions_keep}
-use Rattle.kql_fit_laws.proofs.ItemRows.{has-found}
-use Rattle.kql_fit_laws.proofs.RowFacts.{place-found}
 use Rattle.kql_row_laws.specs.Arguments.{argument_rows}
 use Rattle.kql_row_laws.proofs.GatheredLaws.{aggregate_arguments_are_plain, arguments_of_gathered}
 use Rattle.agg_folds.specs.Calls.{call_of, needs}
-use Rattle.agg_folds.specs.Folds.{chosen_row, folded, taken, taken_of}
+use Rattle.agg_folds.specs.Folds.{chosen_row, folded}
 use Rattle.agg_folds.specs.Laws.{argument_rows as fold_rows}
-use Rattle.agg_folds.specs.States.{Kept, fold_of, kept_of}
-use Rattle.agg_folds.specs.declared.call.FoldCall.{FoldCall}
+use Rattle.agg_folds.proofs.FirstLaws.{column-empty}
 use Rattle.agg_folds.proofs.FoldLaws.{chosen-is-greatest, chosen-is-least, fold-is-aggregate}
-use Rattle.summarize_op.specs.Calls.{IsCall, best_row, is_best, is_first}
-use Rattle.summarize_pieces.specs.Calls.{AreFurther, AreGiven, absent_of, further_args, further_over, further_row, given}
+use Rattle.summarize_op.specs.Calls.{IsCall, best_row, is_best}
+use Rattle.summarize_pieces.specs.Calls.{AreFurther, AreGiven, further_args, further_over, further_row}
 use Rattle.summarize_pieces.specs.Pieces.{args_at, args_of, call_over, further_at, state_at}
 use Rattle.summarize_pieces.proofs.ChosenLaws.{best-further, none-further}
 use Rattle.summarize_pieces.proofs.PlanSteps.{call-arguments}
-
--- What is given: mostly what is folded.
-
-given-folded : (call : FoldCall) (rows : List (List Value)) → is_first call.aggregate ≡ false → given call rows ≡ folded call rows
-unfolding given
-given-folded call [] h = rw h refl
-given-folded call (row ∷ rows) h = refl
-
-given-some : (call : FoldCall) (rows : List (List Value)) → 0 < length rows → given call rows ≡ folded call rows
-unfolding given
-given-some call [] lt = absurd (omega (arith, lt))
-given-some call (row ∷ rows) lt = refl
-
-given-none : (call : FoldCall) → is_first call.aggregate ≡ true → given call [] ≡ absent_of call.kind
-unfolding given
-given-none call h = rw h refl
-
-first-is : (f : Aggregate) → is_first f ≡ true → f ≡ aggregate.TakeAny
-unfolding is_first
-first-is aggregate.TakeAny h = refl
-first-is _ h = absurd cc
-
-not-any : (f : Aggregate) → is_first f ≡ false → f ≢ aggregate.TakeAny
-unfolding is_first
-not-any f h e = let no : true ≡ false = ap is_first (sym e) ∙ h in absurd cc
 
 take-plain : (n : ℕ) (es : List BExpr) → list_all is_plain es ≡ true → list_all is_plain (take n es) ≡ true
 take-plain zero es h = refl
@@ -80,117 +48,30 @@ take-plain (suc n) (e ∷ es) h =
     let parts = and_parts (is_plain e) (list_all is_plain es) h in
     rw (parts.0, take-plain n es parts.1) refl
 
--- Where the fold is the aggregate.
-folded-value : (f : Aggregate) (args : List BExpr) (t : Grid) (ps : List ℕ) → IsCall t.columns f args → (f ≡ aggregate.TakeAny → 0 < length (gathered t ps).lines) → val (V.Aggregate f args) (gathered t ps) 0 [] ≡ folded (call_over (f, args) t.columns) (args_at (f, args) t ps)
+-- What a call gives.
+pub given-is : (f : Aggregate) (args : List BExpr) (t : Grid) (ps : List ℕ) → IsCall t.columns f args → val (V.Aggregate f args) (gathered t ps) 0 [] ≡ folded (call_over (f, args) t.columns) (args_at (f, args) t ps)
 unfolding call_over args_at args_of fold_rows argument_rows
-folded-value f args t ps call some =
+given-is f args t ps call =
     let u = gathered t ps in
     let takes : aggregate_takes f args t.columns ≡ true = (call-arguments t.columns f args call).1 in
     let plain = take-plain (needs f) args (aggregate_arguments_are_plain f args (scope_of t.columns) position.Group call.fits) in
     val-Aggregate f args u 0 []
-    ∙ (fold-is-aggregate f args u takes some
+    ∙ (fold-is-aggregate f args u takes
     ∙ ap (folded (call_of f args t.columns)) (arguments_of_gathered (take (needs f) args) t ps [] plain))
-
--- A column alone.
-
-column-roll : (f : BExpr-F BExpr) (n : List ℕ) → column_step f ≡ Some n → roll-BExpr f ≡ V.Column n
-column-roll (BExpr-F.Column m) n e = let same : m ≡ n = cc in V.rolls-Column m ∙ ap V.Column same
-column-roll (BExpr-F.Literal l) n e = absurd cc
-column-roll (BExpr-F.Step c) n e = absurd cc
-column-roll (BExpr-F.Call f args) n e = absurd cc
-column-roll (BExpr-F.Chain first links) n e = absurd cc
-column-roll (BExpr-F.Path whole steps) n e = absurd cc
-column-roll (BExpr-F.Window f args) n e = absurd cc
-column-roll (BExpr-F.Aggregate f args) n e = absurd cc
-
-stands : (cs : List Column) (o : Option (List ℕ)) → stands_in_if_column cs o ≡ true → (n : List ℕ) × (o ≡ Some n) × (has_column n cs ≡ true)
-unfolding stands_in_if_column
-stands cs None e = absurd cc
-stands cs (Some n) e = (n, refl, e)
-
-plain-named : (cs : List Column) (e : BExpr) → is_plain_column cs e ≡ true → (n : List ℕ) × (e ≡ V.Column n) × (has_column n cs ≡ true)
-unfolding is_plain_column column_named
-plain-named cs e h =
-    let q = stands cs (column_step (out-BExpr e)) h in
-    (q.0, sym (roll-out-BExpr e) ∙ column-roll (out-BExpr e) q.0 q.1, q.2)
-
-first-columns : (args : List BExpr) (cs : List Column) → aggregate_takes aggregate.TakeAny args cs ≡ true → (0 < length args) × (list_all (is_plain_column cs) args ≡ true)
-unfolding aggregate_takes first_row_of
-first-columns [] cs h = absurd cc
-first-columns (e ∷ es) cs h = (omega arith, h)
-
--- `take_any` without a row.
-
-empty-cell : (cs : List Column) (n : List ℕ) → has_column n cs ≡ true → val (V.Column n) (record { columns = cs; lines = [] }) 0 [] ≡ absent_of (column_kind n cs)
-unfolding cell cell_in absent_in column_kind absent_of
-empty-cell cs n h =
-    let q = has-found cs n h in
-    let at = place-found cs n q.0 q.1 in
-    val-Column n (record { columns = cs; lines = [] }) 0 [] ∙ rw (at.0, at.1, q.1) refl
 
 pub first-value : (e : BExpr) (es : List BExpr) (u : Grid) → val (V.Aggregate aggregate.TakeAny (e ∷ es)) u 0 [] ≡ val e u 0 []
 unfolding aggregated reading_at val
 first-value e es u = val-Aggregate aggregate.TakeAny (e ∷ es) u 0 []
 
-named-empty : (e : BExpr) (n : List ℕ) (cs : List Column) → e ≡ V.Column n → has_column n cs ≡ true → val e (record { columns = cs; lines = [] }) 0 [] ≡ absent_of (kind_of e cs)
-named-empty e n cs is h =
-    ap (λ (x : BExpr). val x (record { columns = cs; lines = [] }) 0 []) is
-    ∙ (empty-cell cs n h ∙ ap absent_of (sym (ap (λ (x : BExpr). kind_of x cs) is ∙ kind-Column n cs)))
-
-column-empty : (e : BExpr) (cs : List Column) → is_plain_column cs e ≡ true → val e (record { columns = cs; lines = [] }) 0 [] ≡ absent_of (kind_of e cs)
-column-empty e cs h = let q = plain-named cs e h in named-empty e q.0 cs q.1 q.2
-
-any-empty : (args : List BExpr) (t : Grid) → 0 < length args → list_all (is_plain_column t.columns) args ≡ true → val (V.Aggregate aggregate.TakeAny args) (gathered t []) 0 [] ≡ absent_of (call_over (aggregate.TakeAny, args) t.columns).kind
-unfolding call_over call_of first_kind kinds_in
-any-empty [] t lt h = absurd (omega (arith, lt))
-any-empty (e ∷ es) t lt h =
-    first-value e es (gathered t [])
-    ∙ column-empty e t.columns (and_parts (is_plain_column t.columns e) (list_all (is_plain_column t.columns) es) h).0
-
-over-aggregate : (f : Aggregate) (args : List BExpr) (cs : List Column) → (call_over (f, args) cs).aggregate ≡ f
-unfolding call_over call_of
-over-aggregate f args cs = refl
-
-args-long : (c : Aggregate × List BExpr) (t : Grid) (ps : List ℕ) → length (args_at c t ps) ≡ length ps
-unfolding args_at
-args-long c t ps = length-map ps (args_of c t)
-
-args-none : (c : Aggregate × List BExpr) (t : Grid) → args_at c t [] ≡ []
-unfolding args_at
-args-none c t = refl
-
-first-given : (args : List BExpr) (t : Grid) (ps : List ℕ) → IsCall t.columns aggregate.TakeAny args → val (V.Aggregate aggregate.TakeAny args) (gathered t ps) 0 [] ≡ given (call_over (aggregate.TakeAny, args) t.columns) (args_at (aggregate.TakeAny, args) t ps)
-unfolding is_first
-first-given args t [] call =
-    let c : Aggregate × List BExpr = (aggregate.TakeAny, args) in
-    let first : is_first (call_over c t.columns).aggregate ≡ true = ap is_first (over-aggregate aggregate.TakeAny args t.columns) in
-    let columns = first-columns args t.columns (call-arguments t.columns aggregate.TakeAny args call).1 in
-    any-empty args t columns.0 columns.1
-    ∙ sym (ap (given (call_over c t.columns)) (args-none c t) ∙ given-none (call_over c t.columns) first)
-first-given args t (p ∷ ps) call =
-    let c : Aggregate × List BExpr = (aggregate.TakeAny, args) in
-    let some : 0 < length (args_at c t (p ∷ ps)) = let size = args-long c t (p ∷ ps) in omega (arith, size) in
-    folded-value aggregate.TakeAny args t (p ∷ ps) call (λ e. omega arith) ∙ sym (given-some (call_over c t.columns) (args_at c t (p ∷ ps)) some)
-
-other-given : (f : Aggregate) (args : List BExpr) (t : Grid) (ps : List ℕ) → IsCall t.columns f args → is_first f ≡ false → val (V.Aggregate f args) (gathered t ps) 0 [] ≡ given (call_over (f, args) t.columns) (args_at (f, args) t ps)
-other-given f args t ps call h =
-    folded-value f args t ps call (λ e. absurd (not-any f h e))
-    ∙ sym (given-folded (call_over (f, args) t.columns) (args_at (f, args) t ps) (ap is_first (over-aggregate f args t.columns) ∙ h))
-
--- What a call gives.
-pub given-is : (f : Aggregate) (args : List BExpr) (t : Grid) (ps : List ℕ) → IsCall t.columns f args → val (V.Aggregate f args) (gathered t ps) 0 [] ≡ given (call_over (f, args) t.columns) (args_at (f, args) t ps)
-given-is f args t ps call = elim (cases_Bool (is_first f)) [
-  | inl y ↦
-      let is : f ≡ aggregate.TakeAny = first-is f y in
-      subst (λ (g : Aggregate). val (V.Aggregate g args) (gathered t ps) 0 [] ≡ given (call_over (g, args) t.columns) (args_at (g, args) t ps)) (sym is)
-      (first-given args t ps (subst (λ (g : Aggregate). IsCall t.columns g args) is call))
-  | inr n ↦ other-given f args t ps call n
-]
+-- A column without a row.
+column-gone : (e : BExpr) (cs : List Column) → is_plain_column cs e ≡ true → val e (record { columns = cs; lines = [] }) 0 [] ≡ absent_as (kind_of e cs)
+unfolding val kind_of
+column-gone e cs h = column-empty e cs h
 
 -- What several calls give.
 
 abbrev over_rows : Grid → List ℕ → Aggregate × List BExpr → Value
-over_rows t ps c = given (call_over c t.columns) (args_at c t ps)
+over_rows t ps c = folded (call_over c t.columns) (args_at c t ps)
 
 all-given : (cs : List (Aggregate × List BExpr)) (t : Grid) (ps : List ℕ) → AllByRecursion (λ (c : Aggregate × List BExpr). IsCall t.columns c.0 c.1) cs → AreGiven cs (gathered t ps) (map (over_rows t ps) cs)
 unfolding AreGiven argument
@@ -221,17 +102,17 @@ cells-there (e ∷ es) t ps k i plain is =
     (sym (plain_reads_its_row e (gathered t ps) t k i [] parts.0 refl (row-there t.lines ps k i is)))
     (cells-there es t ps k i parts.1 is)
 
-cells-gone : (es : List BExpr) (t : Grid) (ps : List ℕ) (k : ℕ) → list_all is_plain es ≡ true → list_all (is_plain_column t.columns) es ≡ true → slice_get ps k ≡ None → map (λ (e : BExpr). absent_of (kind_of e t.columns)) es ≡ values_in es (gathered t ps) k []
+cells-gone : (es : List BExpr) (t : Grid) (ps : List ℕ) (k : ℕ) → list_all is_plain es ≡ true → list_all (is_plain_column t.columns) es ≡ true → slice_get ps k ≡ None → map (λ (e : BExpr). absent_as (kind_of e t.columns)) es ≡ values_in es (gathered t ps) k []
 unfolding values_in
 cells-gone [] t ps k plain columns is = refl
 cells-gone (e ∷ es) t ps k plain columns is =
     let parts = and_parts (is_plain e) (list_all is_plain es) plain in
     let named = and_parts (is_plain_column t.columns e) (list_all (is_plain_column t.columns) es) columns in
     ap₂ (λ (v : Value) (vs : List Value). v ∷ vs)
-    (sym (plain_reads_its_row e (gathered t ps) (record { columns = t.columns; lines = [] }) k 0 [] parts.0 refl (row-gone t.lines ps k is) ∙ column-empty e t.columns named.0))
+    (sym (plain_reads_its_row e (gathered t ps) (record { columns = t.columns; lines = [] }) k 0 [] parts.0 refl (row-gone t.lines ps k is) ∙ column-gone e t.columns named.0))
     (cells-gone es t ps k parts.1 named.1 is)
 
-absent-row : (cs : List Column) (es : List BExpr) → further_row cs es [] ≡ map (λ (e : BExpr). absent_of (kind_of e cs)) es
+absent-row : (cs : List Column) (es : List BExpr) → further_row cs es [] ≡ map (λ (e : BExpr). absent_as (kind_of e cs)) es
 unfolding further_row
 absent-row cs es = refl
 
@@ -335,41 +216,3 @@ all-formed ((f, args) ∷ cs) t ps h calls =
 
 pub are-formed : (cs : List (Aggregate × List BExpr)) (t : Grid) (ps : List ℕ) (vs : List Value) → IsTable (gathered t ps) → AllByRecursion (λ (c : Aggregate × List BExpr). IsCall t.columns c.0 c.1) cs → vs ≡ map (over_rows t ps) cs → AreWellFormed vs
 are-formed cs t ps vs h calls is = subst AreWellFormed (sym is) (all-formed cs t ps h calls)
-
--- What is given from a fold.
-
-taken-first : (rows : List (List Value)) → length (taken_of aggregate.TakeAny rows) ≡ length rows
-unfolding taken_of taken
-taken-first [] = refl
-taken-first (row ∷ rows) = let rest = taken-first rows in omega (arith, rest)
-
-fold-count : (call : FoldCall) (rows : List (List Value)) → (fold_of call rows).count ≡ length (taken_of call.aggregate rows)
-unfolding fold_of kept_of
-fold-count call rows = refl
-
-rows-some : (rows : List (List Value)) → length rows ≢ 0 → 0 < length rows
-rows-some [] h = absurd (h refl)
-rows-some (row ∷ rows) h = omega arith
-
-rows-nil : (rows : List (List Value)) → length rows ≡ 0 → rows ≡ []
-rows-nil [] e = refl
-rows-nil (row ∷ rows) e = absurd (omega (arith, e))
-
-first-count : (call : FoldCall) (rows : List (List Value)) (k : Kept) → is_first call.aggregate ≡ true → k ≡ fold_of call rows → k.count ≡ length rows
-first-count call rows k h is =
-    ap (λ (j : Kept). j.count) is ∙ (fold-count call rows ∙ (ap (λ (f : Aggregate). length (taken_of f rows)) (first-is call.aggregate h) ∙ taken-first rows))
-
-pub given-absent : (call : FoldCall) (rows : List (List Value)) (k : Kept) (n : ℕ) (v w : Value) → is_first call.aggregate ≡ true → n ≡ k.count → n ≡ 0 → k ≡ fold_of call rows → w ≡ absent_of call.kind → v ≡ w → v ≡ given call rows
-given-absent call rows k n v w first counted none is absent same =
-    let empty = rows-nil rows (sym (first-count call rows k first is) ∙ (sym counted ∙ none)) in
-    same ∙ (absent ∙ sym (ap (given call) empty ∙ given-none call first))
-
-pub given-other : (call : FoldCall) (rows : List (List Value)) (v : Value) → is_first call.aggregate ≡ false → v ≡ folded call rows → v ≡ given call rows
-given-other call rows v other same = same ∙ sym (given-folded call rows other)
-
-pub given-more : (call : FoldCall) (rows : List (List Value)) (k : Kept) (n : ℕ) (v : Value) → is_first call.aggregate ≡ true → n ≡ k.count → n ≢ 0 → k ≡ fold_of call rows → v ≡ folded call rows → v ≡ given call rows
-given-more call rows k n v first counted some is same =
-    let there : 0 < length rows = rows-some rows (λ e. some (counted ∙ (first-count call rows k first is ∙ e))) in
-    same ∙ sym (given-some call rows there)
-
-pub ruleset fold_steps = (given-absent, given-other, given-more)

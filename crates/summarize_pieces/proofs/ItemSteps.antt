@@ -29,7 +29,8 @@ use Rattle.kql_meaning.proofs.ExpressionFitLaws.{fits-Aggregate}
 use Rattle.kql_meaning.proofs.ValueLaws.{val-Aggregate}
 use Rattle.summarize_op.specs.Calls.{best_row, is_best}
 use Rattle.summarize_op.specs.Grouped.{IsGrouped}
-use Rattle.summarize_pieces.specs.Calls.{AreFurther, AreGiven, IsItem, absent_of, call_columns, calls_by, calls_in, calls_of, first_columns, first_columns_step, further_args, further_columns, further_over, further_row, further_step, item_calls}
+use Rattle.kql_meaning.specs.Values.{absent_as}
+use Rattle.summarize_pieces.specs.Calls.{AreFurther, AreGiven, IsItem, call_columns, calls_by, calls_in, calls_of, first_columns, first_columns_step, further_args, further_columns, further_over, further_row, further_step, item_calls}
 use Rattle.summarize_pieces.specs.Pieces.{GroupKept, kept_row, kept_rows}
 use Rattle.summarize_pieces.proofs.CallLaws.{calls-Aggregate, flat-more}
 use Rattle.summarize_pieces.proofs.ChosenLaws.{best-further, none-further}
@@ -216,7 +217,7 @@ pub ruleset value_steps = (alone-grouped)
 
 -- What further columns give.
 
-pub absent-columns : (cs : List Column) (es : List BExpr) (cells old new : List Value) → cells ≡ [] → new ≡ old ++ map (λ (e : BExpr). absent_of (kind_of e cs)) es → new ≡ old ++ further_row cs es cells
+pub absent-columns : (cs : List Column) (es : List BExpr) (cells old new : List Value) → cells ≡ [] → new ≡ old ++ map (λ (e : BExpr). absent_as (kind_of e cs)) es → new ≡ old ++ further_row cs es cells
 unfolding further_row
 absent-columns cs es cells old new none made = made ∙ ap (λ (vs : List Value). old ++ further_row cs es vs) (sym none)
 
@@ -236,7 +237,7 @@ some-cells : (cells : List CellRef) → 0 < length cells → 0 < length (map see
 some-cells [] lt = absurd (omega (arith, lt))
 some-cells (c ∷ cells) lt = omega arith
 
-pub absent-further : (cs : List Column) (es : List BExpr) (cells : List CellRef) (old new : List Value) → length cells ≤ 0 → new ≡ old ++ map (λ (e : BExpr). absent_of (kind_of e cs)) es → new ≡ old ++ further_row cs es (map seen cells)
+pub absent-further : (cs : List Column) (es : List BExpr) (cells : List CellRef) (old new : List Value) → length cells ≤ 0 → new ≡ old ++ map (λ (e : BExpr). absent_as (kind_of e cs)) es → new ≡ old ++ further_row cs es (map seen cells)
 absent-further cs es cells old new none made = absent-columns cs es (map seen cells) old new (no-cells cells none) made
 
 pub kept-further : (cs : List Column) (es : List BExpr) (cells : List CellRef) (old new : List Value) → 0 < length cells → new ≡ old ++ map seen cells → new ≡ old ++ further_row cs es (map seen cells)

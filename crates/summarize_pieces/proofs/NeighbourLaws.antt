@@ -146,7 +146,7 @@ unfolding argument values_in first_kind kinds_in kind_or_long
 first-none zero t i = like-null
 first-none (suc n) t i = like-null
 
-row-of-call : (f : Aggregate) (args : List BExpr) (t : Grid) (i : ℕ) → IsTable t → IsCall t.columns f args → i < length t.lines → ((m : ℤ) → number_of (argument (args_of (f, args) t i) 0) ≡ Some m → FitsSigned w64 m) → IsRowOf (call_over (f, args) t.columns) (args_of (f, args) t i)
+row-of-call : (f : Aggregate) (args : List BExpr) (t : Grid) (i : ℕ) → IsTable t → IsCall t.columns f args → i < length t.lines → ((m : ℤ) → number_of (argument (args_of (f, args) t i) 0) ≡ Some m → FitsSigned w64 m) → IsRowOf (call_over (f, args) t.columns).kind (args_of (f, args) t i)
 unfolding args_of call_over call_of
 row-of-call f [] t i h call lt stored = record { first = first-none (needs f) t i }
 row-of-call f (e ∷ es) t i h call lt stored =
@@ -157,15 +157,15 @@ row-of-call f (e ∷ es) t i h call lt stored =
 abbrev pub IsStored : Grid → ℕ → ℕ → Aggregate × List BExpr → Type 0
 IsStored t from to c = (i : ℕ) → from ≤ i → i < to → (n : ℤ) → number_of (argument (args_of c t i) 0) ≡ Some n → FitsSigned w64 n
 
-rows-of-call : (f : Aggregate) (args : List BExpr) (t : Grid) (from to : ℕ) → IsTable t → IsCall t.columns f args → to ≤ length t.lines → IsStored t from to (f, args) → (is : List ℕ) → AllByRecursion (λ i. (from ≤ i) × (i < to)) is → AllByRecursion (IsRowOf (call_over (f, args) t.columns)) (args_at (f, args) t is)
+rows-of-call : (f : Aggregate) (args : List BExpr) (t : Grid) (from to : ℕ) → IsTable t → IsCall t.columns f args → to ≤ length t.lines → IsStored t from to (f, args) → (is : List ℕ) → AllByRecursion (λ i. (from ≤ i) × (i < to)) is → AllByRecursion (IsRowOf (call_over (f, args) t.columns).kind) (args_at (f, args) t is)
 unfolding args_at
 rows-of-call f args t from to h call range stored [] inside = tt
 rows-of-call f args t from to h call range stored (i ∷ is) inside =
     (row-of-call f args t i h call (omega (arith, inside.0.1, range)) (λ m e. stored i inside.0.0 inside.0.1 m e), rows-of-call f args t from to h call range stored is inside.1)
 
-all-rows : (f : Aggregate) (args : List BExpr) (keys : List BItem) (t : Grid) (from to : ℕ) (k : List Value) → IsTable t → IsCall t.columns f args → from ≤ to → to ≤ length t.lines → IsStored t from to (f, args) → All (IsRowOf (call_over (f, args) t.columns)) (args_at (f, args) t (rows_with keys t from to k))
+all-rows : (f : Aggregate) (args : List BExpr) (keys : List BItem) (t : Grid) (from to : ℕ) (k : List Value) → IsTable t → IsCall t.columns f args → from ≤ to → to ≤ length t.lines → IsStored t from to (f, args) → All (IsRowOf (call_over (f, args) t.columns).kind) (args_at (f, args) t (rows_with keys t from to k))
 all-rows f args keys t from to k h call order range stored =
-    All-from_recursion (IsRowOf (call_over (f, args) t.columns)) (args_at (f, args) t (rows_with keys t from to k)) (rows-of-call f args t from to h call range stored (rows_with keys t from to k) (with-inside keys t from to k order))
+    All-from_recursion (IsRowOf (call_over (f, args) t.columns).kind) (args_at (f, args) t (rows_with keys t from to k)) (rows-of-call f args t from to h call range stored (rows_with keys t from to k) (with-inside keys t from to k order))
 
 -- One call over both ranges.
 module _ (f : Aggregate) (args : List BExpr) (keys : List BItem) (t : Grid) (from middle to : ℕ) (h : IsTable t) (call : IsCall t.columns f args) (low : from ≤ middle) (high : middle ≤ to) (range : to ≤ length t.lines)

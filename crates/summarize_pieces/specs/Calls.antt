@@ -1,12 +1,9 @@
 -- The calls of aggregates in expressions, from left to right, and what they give for rows.
 use Rattle.std.specs.Prelude.{◌≡◌, List, [], ◌∷◌, ◌++◌, true, drop, map, slice_index_or, Option, None, Some, if◌then◌else◌}
 use Rattle.std.specs.List.{AllByRecursion, flat_map}
-use Rattle.kql_cells.specs.Keys.{absent}
 use Rattle.kql_cells.specs.Table.{Grid}
 use Rattle.kql_cells.specs.declared.schema.Column.{Column}
-use Rattle.kql_cells.specs.declared.value.Kind.{Kind}
 use Rattle.kql_cells.specs.declared.value.Value.{Value}
-use Rattle.kql_cells.specs.declared.value.Value.TheVariants as value
 use Rattle.kql_functions.specs.declared.aggregate.Aggregate.{Aggregate}
 use Rattle.kql_functions.specs.declared.aggregate.Aggregate.TheVariants as aggregate
 use Rattle.kql_bound.specs.declared.expr.BExpr.{BExpr, out-BExpr, para-BExpr}
@@ -17,10 +14,9 @@ use Rattle.kql_bound.specs.declared.parts.BItem.{BItem}
 use Rattle.kql_meaning.specs.declared.position.Position.TheVariants as position
 use Rattle.kql_meaning.specs.Expressions.{kind_of, val, values_in}
 use Rattle.kql_meaning.specs.FittingExpressions.{call_or_expr_fits, scope_of}
+use Rattle.kql_meaning.specs.Values.{absent_as}
 use Rattle.kql_scalar_fns.specs.Arguments.{argument}
-use Rattle.agg_folds.specs.Folds.{folded}
-use Rattle.agg_folds.specs.declared.call.FoldCall.{FoldCall}
-use Rattle.summarize_op.specs.Calls.{IsCall, best_row, is_best, is_first}
+use Rattle.summarize_op.specs.Calls.{IsCall, best_row, is_best}
 
 -- The calls in an expression. In their arguments stand none.
 
@@ -97,16 +93,6 @@ pub record IsItem (columns : List Column) (e : BExpr) : Type 0 where
 
 -- What a call gives.
 
--- What stands in a column of a type where there is no value.
-unfoldable pub absent_of : Option Kind → Value
-absent_of None = value.Null
-absent_of (Some k) = absent k
-
--- What a call gives for what its arguments are at rows. Without a row `take_any` gives what stands in its column where there is no value.
-unfoldable pub given : FoldCall → List (List Value) → Value
-given call [] = if is_first call.aggregate then absent_of call.kind else folded call []
-given call (row ∷ rows) = folded call (row ∷ rows)
-
 -- Whether values begin with what calls give over a group of rows.
 unfoldable pub AreGiven : List (Aggregate × List BExpr) → Grid → List Value → Type 0
 AreGiven [] u vs = Unit {0}
@@ -119,7 +105,7 @@ further_over (f, args) u = values_in (further_args (f, args)) u (best_row f args
 -- What they are, from what is kept of the row that is chosen. Where nothing is kept there is no row, and each column has what stands there
 -- where there is no value.
 unfoldable pub further_row : List Column → List BExpr → List Value → List Value
-further_row columns es [] = map (λ (e : BExpr). absent_of (kind_of e columns)) es
+further_row columns es [] = map (λ (e : BExpr). absent_as (kind_of e columns)) es
 further_row columns es (v ∷ vs) = v ∷ vs
 
 -- Whether rows begin with those that are kept of calls over a group of rows.

@@ -22,12 +22,12 @@ use Rattle.kql_scalar_fns.specs.Arguments.{argument}
 use Rattle.kql_fit_laws.specs.LawsOfRows.{IsTable}
 use Rattle.kql_scalar.specs.Rows.{rows}
 use Rattle.agg_folds.specs.Calls.{call_of, needs}
-use Rattle.agg_folds.specs.Folds.{chosen_row}
+use Rattle.agg_folds.specs.Folds.{chosen_row, folded}
 use Rattle.agg_folds.specs.States.{Kept, fold_of, place_in}
 use Rattle.agg_folds.specs.declared.call.FoldCall.{FoldCall}
 use Rattle.summarize_op.specs.Grouped.{AreFormed}
 use Rattle.summarize_op.specs.Passes.{group_args}
-use Rattle.summarize_pieces.specs.Calls.{calls_of, further_args, given}
+use Rattle.summarize_pieces.specs.Calls.{calls_of, further_args}
 
 -- The keys of the rows of a range, each once, in order of first occurrence. Without keys all rows are one group, also where there is none.
 unfoldable pub keys_in : List BItem → Grid → ℕ → ℕ → List (List Value)
@@ -70,7 +70,7 @@ state_in c keys t from to k = state_at c t (rows_with keys t from to k)
 
 -- What a call gives for the rows of a range that have a key.
 unfoldable pub value_for : Aggregate × List BExpr → List BItem → Grid → ℕ → ℕ → List Value → Value
-value_for c keys t from to k = given (call_over c t.columns) (args_at c t (rows_with keys t from to k))
+value_for c keys t from to k = folded (call_over c t.columns) (args_at c t (rows_with keys t from to k))
 
 -- The row of a key: the key, and behind it what the items give for the rows that have it.
 unfoldable pub group_line : GroupPlan → Grid → List Value → List Value

@@ -14,20 +14,21 @@ ghost use Rattle.kql_fit_laws.specs.LawsOfRows.{IsTable};
 ghost use Rattle.kql_meaning.specs.FittingOperators.{answer_if, group_item_fits, summarize_fits};
 ghost use Rattle.kql_meaning.specs.Items.{items_values};
 ghost use Rattle.kql_meaning.specs.Summarize.{group_columns, group_rows, summarize_table};
+ghost use Rattle.kql_meaning.specs.Values.{absent_as};
+ghost use Rattle.agg_folds.specs.Folds.{folded};
 ghost use Rattle.agg_folds.specs.States.{fold_of};
-ghost use Rattle.summarize_op.specs.Calls.{is_first};
-ghost use Rattle.summarize_pieces.specs.Calls.{AreFurther, AreGiven, IsItem, absent_of, calls_of, firsts, first_columns, further_row, given, item_calls};
+ghost use Rattle.agg_folds.specs.declared.call.FoldCall.{FoldCall};
+ghost use Rattle.summarize_pieces.specs.Calls.{AreFurther, AreGiven, IsItem, calls_of, firsts, first_columns, further_row, item_calls};
 ghost use Rattle.summarize_pieces.specs.Pieces.{AreAllGroups, AreAligned, call_over, group_line, groups_in, kept_row, kept_rows, state_in, value_for};
 
 use crate::calls::{behind_first, first_columns, further_columns, values_behind_item};
 use crate::groups::Groups;
 use crate::kept::GroupFold;
 use crate::values::{first_value, value_of};
-use agg_folds::{Fold, FoldCall};
+use agg_folds::FoldCall;
 use kql_bound::{BExpr, BItem, GroupPlan};
 use kql_cells::{CellRef, Kind, Row, Schema, Value};
 use kql_columns::group_columns;
-use kql_functions::Aggregate;
 use kql_items::Items;
 use kql_meaning::kind_of;
 use kql_values::{Rows, Table};
@@ -99,17 +100,16 @@ fn group_line(
 #[tactic(auto, using(crate::proofs::FinishSteps::aligned_steps))]
 fn call_values(
     alloc: Global,
-    calls: &[FoldCall],
+    _calls: &[FoldCall],
     folds: &[Items<GroupFold<'_>>],
     k: usize,
 ) -> Result<Items<Value>, AllocError>
-    requires aligned { AreAligned k calls.now folds.now }
-    ensures values { (cs : List (Aggregate × List BExpr)) (keys : List BItem) (t : Grid) (from to : ℕ) (ks : List (List Cell)) → calls.now ≡ map (λ c. call_over c t.columns) cs → folds.now ≡ map (λ c. map (state_in c keys t from to) ks) cs → IfOk result (λ vs. vs ≡ map (λ c. value_for c keys t from to (slice_index_or ks k [])) cs) }
+    requires aligned { AreAligned k _calls.now folds.now }
+    ensures values { (cs : List (Aggregate × List BExpr)) (keys : List BItem) (t : Grid) (from to : ℕ) (ks : List (List Cell)) → _calls.now ≡ map (λ c. call_over c t.columns) cs → folds.now ≡ map (λ c. map (state_in c keys t from to) ks) cs → IfOk result (λ vs. vs ≡ map (λ c. value_for c keys t from to (slice_index_or ks k [])) cs) }
 {
     let mut values = Items::with_capacity(alloc, folds.len())?;
     'calls: for j in 0..folds.len() {
-        let call = calls[j];
-        let value = value_at(alloc, call, &folds[j], k)?;
+        let value = value_at(alloc, &folds[j], k)?;
         values.push(value)?;
     }
     Ok(values)
@@ -117,48 +117,20 @@ fn call_values(
 
 // What a call gives for a group.
 #[tactic(auto, using(crate::proofs::FinishSteps::one_steps))]
-fn value_at(
-    alloc: Global,
-    call: FoldCall,
-    folds: &Items<GroupFold<'_>>,
-    k: usize,
-) -> Result<Value, AllocError>
+fn value_at(alloc: Global, folds: &Items<GroupFold<'_>>, k: usize) -> Result<Value, AllocError>
     requires within { k < length folds.now }
-    ensures value { (lists : List (List (List Cell))) → map (λ s. s.kept) folds.now ≡ map (fold_of call) lists → IfOk result (λ v. v ≡ given call (slice_index_or lists k [])) }
+    ensures value { (call : FoldCall) (lists : List (List (List Cell))) → map (λ s. s.kept) folds.now ≡ map (fold_of call) lists → IfOk result (λ v. v ≡ folded call (slice_index_or lists k [])) }
 {
     let folds = folds.as_slice();
     let group = &folds[k];
-    let value = call_value(alloc, call, group.fold())?;
+    let value = group.fold().finish(alloc)?;
     Ok(value)
-}
-
-// What a call gives for the rows of a fold.
-#[tactic(auto, using(crate::proofs::GivenLaws::fold_steps))]
-fn call_value(alloc: Global, call: FoldCall, fold: &Fold<'_>) -> Result<Value, AllocError>
-    ensures value { (rows : List (List Cell)) → fold.now ≡ fold_of call rows → IfOk result (λ v. v ≡ given call rows) }
-{
-    if is_first(call.aggregate) && fold.count() == 0 {
-        let absent = absent_of(call.kind).to_value(alloc)?;
-        return Ok(absent);
-    }
-    let value = fold.finish(alloc)?;
-    Ok(value)
-}
-
-#[tactic(auto, unfolding(summarize_op::specs::Calls::is_first))]
-fn is_first(f: Aggregate) -> bool
-    ensures { result ≡ is_first f }
-{
-    match f {
-        Aggregate::TakeAny => true,
-        _ => false,
-    }
 }
 
 // What stands in a column of a type where there is no value.
-#[tactic(auto, unfolding(crate::specs::Calls::absent_of))]
-fn absent_of(kind: Option<Kind>) -> CellRef<'static>
-    ensures value { seen result ≡ absent_of kind }
+#[tactic(auto, unfolding(kql_meaning::specs::Values::absent_as))]
+fn absent_as(kind: Option<Kind>) -> CellRef<'static>
+    ensures value { seen result ≡ absent_as kind }
 {
     match kind {
         None => CellRef::Null,
@@ -295,11 +267,11 @@ fn push_absent(
     columns: &[BExpr],
     schema: &Schema,
 ) -> Result<(), AllocError>
-    ensures pushed { OnOk result (line.new ≡ line.old ++ map (λ (e : BExpr). absent_of (kind_of e schema.now)) columns.now) }
+    ensures pushed { OnOk result (line.new ≡ line.old ++ map (λ (e : BExpr). absent_as (kind_of e schema.now)) columns.now) }
 {
     'absent: for column in columns {
         let kind = kind_of(alloc, column, schema.columns())?;
-        let value = absent_of(kind).to_value(alloc)?;
+        let value = absent_as(kind).to_value(alloc)?;
         line.push(value)?;
     }
     Ok(())

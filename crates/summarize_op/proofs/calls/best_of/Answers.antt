@@ -7,7 +7,7 @@ use Rattle.summarize_op.specs.Picks.{chosen_over}
 use Rattle.summarize_op.proofs.ArgumentSteps.{arguments-formed, first-arguments}
 use Rattle.summarize_op.proofs.CallSteps.{columns-long}
 use Rattle.summarize_op.proofs.PassSteps.{folds-many, same-folds}
-use Rattle.summarize_op.proofs.ResultSteps.{best-not-first, chosen-values, folded-values}
+use Rattle.summarize_op.proofs.ResultSteps.{chosen-values, folded-values}
 use Rattle.summarize_op.proofs.calls.best_of.Goals as goal
 
 pub argument_vectors-requires : goal.argument_vectors-requires
@@ -39,7 +39,7 @@ returns-clause-values c =
     let many : length c.as_slice-2.result.now ≡ c.args.count = ap (λ (xs : List Kept). length xs) c.as_slice-2.ensures.value ∙ folds-many call c.as_slice.result.now ns c.args.count c.in_ok-folds.folds.items c.in_ok-folds.ensures.folds in
     let named = c.in_ok-call.ensures.call ∙ ap (call_of c.args.f c.args.args.now) (c.columns.ensures.columns ∙ c.schema.ensures.columns) in
     let read = c.first_args.ensures.first ∙ ap (λ n. take n c.args.args.now) c.needs.ensures.count in
-    folded-values c.args.f c.args.args.now c.args.t.now ns c.args.count call c.first_args.result.now c.as_slice-3.result.now c.in_ok-values.values (best-not-first c.args.f c.requires.best) c.requires.call c.requires.numbers named read (c.as_slice-3.ensures.value ∙ c.in_ok-columns.ensures.values) (c.in_ok-values.ensures.values ∙ ap (folded_over call c.as_slice-3.result.now ns) many)
+    folded-values c.args.f c.args.args.now c.args.t.now ns c.args.count call c.first_args.result.now c.as_slice-3.result.now c.in_ok-values.values c.requires.call c.requires.numbers named read (c.as_slice-3.ensures.value ∙ c.in_ok-columns.ensures.values) (c.in_ok-values.ensures.values ∙ ap (folded_over call c.as_slice-3.result.now ns) many)
 
 pub returns-clause-places : goal.returns-clause-places
 returns-clause-places c =

@@ -35,5 +35,5 @@ returns c =
     let named = c.in_ok-call.ensures.call ∙ ap (call_of c.args.f c.args.args.now) (c.columns.ensures.columns ∙ c.schema.ensures.columns) in
     let read = c.first_args.ensures.first ∙ ap (λ n. take n c.args.args.now) c.needs.ensures.count in
     record {
-      values = folded-values c.args.f c.args.args.now c.args.t.now ns c.args.count call c.first_args.result.now c.as_slice-3.result.now c.in_ok-values.values c.requires.rows c.requires.call c.requires.numbers named read (c.as_slice-3.ensures.value ∙ c.in_ok-columns.ensures.values) (c.in_ok-values.ensures.values ∙ ap (folded_over call c.as_slice-3.result.now ns) many);
+      values = folded-values c.args.f c.args.args.now c.args.t.now ns c.args.count call c.first_args.result.now c.as_slice-3.result.now c.in_ok-values.values c.requires.call c.requires.numbers named read (c.as_slice-3.ensures.value ∙ c.in_ok-columns.ensures.values) (c.in_ok-values.ensures.values ∙ ap (folded_over call c.as_slice-3.result.now ns) many);
     }

@@ -11,4 +11,4 @@ use Rattle.summarize_pieces.proofs.finish.call_values.Given as goal
 
 -- what the calls so far give
 abbrev pub invariant-calls : goal.invariant-calls
-invariant-calls l = (cs : List (Aggregate × List BExpr)) (keys : List BItem) (t : Grid) (from to : ℕ) (ks : List (List Value)) → l.calls ≡ map (λ c. call_over c t.columns) cs → l.folds ≡ map (λ c. map (state_in c keys t from to) ks) cs → l.values ≡ values_for (take l.j cs) keys t from to (slice_index_or ks l.k [])
+invariant-calls l = (cs : List (Aggregate × List BExpr)) (keys : List BItem) (t : Grid) (from to : ℕ) (ks : List (List Value)) → l._calls ≡ map (λ c. call_over c t.columns) cs → l.folds ≡ map (λ c. map (state_in c keys t from to) ks) cs → l.values ≡ values_for (take l.j cs) keys t from to (slice_index_or ks l.k [])
