@@ -1,3 +1,4 @@
 pub mod Appends
+pub mod CallFacts
 pub mod Files
 pub mod Fills

@@ -1,6 +1,7 @@
 -- Shelves and sinks in memory.
 use Rattle.std.specs.Prelude.{ℕ, ◌-◌, ◌<◌, ◌≤◌, List, [], length, drop, Contains, Option, Some, None, slice_index_or, string_bytes, String, Vec}
 use Rattle.std.specs.Global.{Global}
+use Rattle.kql_outside.specs.Calls.{CallCounts}
 use Rattle.kql_outside.specs.Causes.{next_count}
 use Rattle.kql_outside.specs.declared.clean.Reading.{Reading}
 
@@ -56,8 +57,11 @@ pub record MemShelfState : Type 0 where
   pub shelf : ShelfState
   pub calls : CallState
   pub count : ℕ
+  pub course : CallCounts
+  pub starts : ℕ
 
 -- a sink of which some calls fail
 pub record MemSinkState : Type 0 where
   pub sink : SinkState
   pub calls : CallState
+  pub course : CallCounts

@@ -1,12 +1,13 @@
 //! Shelves and sinks in memory, of which the calls of given numbers fail.
 ghost use Rattle.std.specs.Prelude.{◌≡◌, ◌<◌, ◌≤◌, ◌↔◌, ◌⊎◌, ◌++◌, [], length, take, map, min, Contains, IsTrue, IsSome, IsErr, IfOk, OnErr, is_err, if◌then◌else◌};
 ghost use Rattle.std.specs.Bool.{OnTrue, OnFalse};
+ghost use Rattle.kql_outside.specs.Calls.{after, noted};
 ghost use Rattle.kql_outside.specs.Causes.{HasCause, next_count};
 ghost use Rattle.kql_outside.specs.Told.{file_of};
 ghost use Rattle.kql_outside.specs.Memory.{path_and_bytes, room_left, NextFails, after_call};
 
 use crate::clean::{CleanShelf, CleanSink};
-use crate::counts::Faults;
+use crate::counts::Course;
 use crate::outside::{Failed, Shelf, Sink};
 use std::alloc::{AllocError, Global};
 use std::marker::Model;
@@ -50,7 +51,8 @@ impl Calls {
 pub struct MemShelf {
     shelf: CleanShelf,
     calls: Calls,
-    faults: Faults,
+    course: Course,
+    starts: u64,
 }
 
 impl Model for MemShelf {
@@ -58,7 +60,13 @@ impl Model for MemShelf {
 
     ghost Value = { MemShelfState };
 
-    ghost view = { λ s. record { shelf = s.shelf; calls = s.calls; count = s.faults } };
+    ghost view = { λ s. record {
+      shelf = s.shelf;
+      calls = s.calls;
+      count = s.course.failed;
+      course = s.course;
+      starts = s.starts;
+    } };
 }
 
 impl MemShelf {
@@ -68,11 +76,14 @@ impl MemShelf {
         ensures rest { result.shelf.rest ≡ [] }
         ensures calls { result.calls ≡ record { failing = failing.items; made = 0 } }
         ensures count { result.count ≡ 0 }
+        ensures course { result.course ≡ record { failed = 0; later = 0 } }
+        ensures starts { result.starts ≡ 0 }
     {
         MemShelf {
             shelf: CleanShelf::new(files),
             calls: Calls::new(failing),
-            faults: Faults::none(),
+            course: Course::new(),
+            starts: 0,
         }
     }
 }
@@ -86,11 +97,17 @@ impl Shelf for MemShelf {
 
     ghost faults = { λ s. s.count };
 
+    ghost calls = { λ s. Some s.course };
+
+    ghost starts = { λ s. Some s.starts };
+
     fn start(&mut self, path: &str) -> Result<bool, Failed>
         ensures fails { IsErr result ↔ NextFails self.old.calls }
         ensures calls { self.new.calls ≡ after_call self.old.calls }
         ensures count { self.new.count
             ≡ (if is_err result then next_count self.old.count else self.old.count) }
+        ensures course { self.new.course ≡ after result self.old.course }
+        ensures starts { self.new.starts ≡ next_count self.old.starts }
         ensures files { self.new.shelf.files ≡ self.old.shelf.files }
 
         ensures found { IfOk result (λ there.
@@ -103,9 +120,11 @@ impl Shelf for MemShelf {
         ensures kept { OnErr result (self.new.shelf ≡ self.old.shelf) }
         ensures cause { HasCause self.old.count self.new.count result }
     {
+        self.starts = self.starts.saturating_add(1);
         if self.calls.next_fails() {
-            return Err(self.faults.fail());
+            return Err(self.course.fail());
         }
+        self.course.pass();
         self.shelf.start(path)
     }
 
@@ -115,6 +134,8 @@ impl Shelf for MemShelf {
         ensures calls { self.new.calls ≡ after_call self.old.calls }
         ensures count { self.new.count
             ≡ (if is_err result then next_count self.old.count else self.old.count) }
+        ensures course { self.new.course ≡ after result self.old.course }
+        ensures starts { self.new.starts ≡ self.old.starts }
         ensures files { self.new.shelf.files ≡ self.old.shelf.files }
 
         ensures within { IfOk result (λ count. count ≤ length buf.new) }
@@ -127,8 +148,9 @@ impl Shelf for MemShelf {
         ensures cause { HasCause self.old.count self.new.count result }
     {
         if self.calls.next_fails() {
-            return Err(self.faults.fail());
+            return Err(self.course.fail());
         }
+        self.course.pass();
         self.shelf.read(buf)
     }
 }
@@ -138,6 +160,7 @@ impl Shelf for MemShelf {
 pub struct MemSink {
     sink: CleanSink,
     calls: Calls,
+    course: Course,
 }
 
 impl Model for MemSink {
@@ -145,7 +168,7 @@ impl Model for MemSink {
 
     ghost Value = { MemSinkState };
 
-    ghost view = { λ s. record { sink = s.sink; calls = s.calls } };
+    ghost view = { λ s. record { sink = s.sink; calls = s.calls; course = s.course } };
 }
 
 impl MemSink {
@@ -161,10 +184,13 @@ impl MemSink {
             s.sink ≡ record { bytes = []; chunk = chunk; room = room; count = 0 }) }
         ensures calls { IfOk result (λ s.
             s.calls ≡ record { failing = failing.items; made = 0 }) }
+        ensures course { IfOk result (λ s.
+            s.course ≡ record { failed = 0; later = 0 }) }
     {
         Ok(MemSink {
             sink: CleanSink::new(alloc, chunk, room)?,
             calls: Calls::new(failing),
+            course: Course::new(),
         })
     }
 
@@ -183,6 +209,8 @@ impl Sink for MemSink {
 
     ghost faults = { λ s. s.sink.count };
 
+    ghost calls = { λ s. Some s.course };
+
     fn write(&mut self, bytes: &[u8]) -> Result<usize, Failed>
         requires { 0 < length bytes.now }
         ensures fails { IsErr result ↔ (NextFails self.old.calls ⊎ (room_left self.old.sink ≡ 0)) }
@@ -193,13 +221,24 @@ impl Sink for MemSink {
             self.new.sink ≡ record self.old.sink { bytes = self.old.sink.bytes ++ take count bytes.now }) }
         ensures err { OnErr result
             (self.new.sink ≡ record self.old.sink { count = next_count self.old.sink.count }) }
+        ensures course { self.new.course ≡ after result self.old.course }
 
         ensures some { IfOk result (λ count. 0 < count) }
         ensures cause { HasCause self.old.sink.count self.new.sink.count result }
     {
         if self.calls.next_fails() {
+            self.course.fail();
             return Err(self.sink.fail());
         }
-        self.sink.write(bytes)
+        match self.sink.write(bytes) {
+            Ok(count) => {
+                self.course.pass();
+                Ok(count)
+            }
+            Err(failed) => {
+                self.course.fail();
+                Err(failed)
+            }
+        }
     }
 }

@@ -1,4 +1,5 @@
 ghost use Rattle.std.specs.Prelude.{◌≡◌, ◌≢◌, ◌<◌, ◌≤◌, ◌+◌, [], length, take, drop, vec_len, IfOk, IfErr, IfSome, OnOk, OnErr};
+ghost use Rattle.kql_outside.specs.Calls.{StopsAtFault, StopsAtReadFault, noted};
 ghost use Rattle.kql_outside.specs.Causes.{HasCause, Rose};
 ghost use Rattle.kql_outside.specs.Told.{appended, prepended, dropped, reduced, IsCutShort, IsPartRead};
 
@@ -8,6 +9,7 @@ use std::alloc::{AllocError, Global};
 /// Writes all the bytes. After a failure the sink holds some of them, and not all.
 pub fn write_all<S: Sink>(sink: &mut S, bytes: &[u8]) -> Result<(), Failed>
     ensures cause { HasCause (S.faults sink.old) (S.faults sink.new) result }
+    ensures stops { StopsAtFault (S.calls sink.old) (S.calls sink.new) result }
     ensures bytes { OnOk result (S.written sink.new ≡ appended (S.written sink.old) bytes.now) }
     ensures room { OnOk result (S.room sink.new ≡ reduced (S.room sink.old) (length bytes.now)) }
     ensures cut { OnErr result (IsCutShort (S.written sink.old) (S.written sink.new) bytes.now) }
@@ -65,6 +67,8 @@ pub fn read_up_to<F: Shelf>(
     ensures files { F.files shelf.new ≡ F.files shelf.old }
     ensures later { F.faults shelf.old ≤ F.faults shelf.new }
     ensures failed { result ≡ Err ReadError.Failed → Rose (F.faults shelf.old) (F.faults shelf.new) }
+    ensures stops { StopsAtReadFault (F.calls shelf.old) (F.calls shelf.new) result }
+    ensures starts { F.starts shelf.new ≡ F.starts shelf.old }
 
     ensures within { IfOk result (λ bytes. vec_len bytes ≤ limit) }
     ensures bytes { IfOk result (λ bytes.
@@ -84,6 +88,8 @@ fn fill<F: Shelf>(shelf: &mut F, bytes: &mut Vec<u8>, limit: usize) -> Result<us
     ensures files { F.files shelf.new ≡ F.files shelf.old }
     ensures later { F.faults shelf.old ≤ F.faults shelf.new }
     ensures failed { result ≡ Err ReadError.Failed → Rose (F.faults shelf.old) (F.faults shelf.new) }
+    ensures stops { StopsAtReadFault (F.calls shelf.old) (F.calls shelf.new) result }
+    ensures starts { F.starts shelf.new ≡ F.starts shelf.old }
 
     ensures within { IfOk result (λ filled. filled ≤ vec_len bytes.new) }
     ensures bounded { IfOk result (λ filled. filled ≤ limit) }
@@ -117,6 +123,8 @@ fn read_piece<F: Shelf>(
     ensures files { F.files shelf.new ≡ F.files shelf.old }
     ensures later { F.faults shelf.old ≤ F.faults shelf.new }
     ensures failed { result ≡ Err ReadError.Failed → Rose (F.faults shelf.old) (F.faults shelf.new) }
+    ensures stops { StopsAtReadFault (F.calls shelf.old) (F.calls shelf.new) result }
+    ensures starts { F.starts shelf.new ≡ F.starts shelf.old }
 
     ensures bounded { vec_len bytes.new ≤ limit }
     ensures front { take filled bytes.new.items ≡ take filled bytes.old.items }
@@ -151,6 +159,8 @@ fn read_at<F: Shelf>(shelf: &mut F, buf: &mut [u8], at: usize) -> Result<usize, 
     requires { at < length buf.old }
     ensures files { F.files shelf.new ≡ F.files shelf.old }
     ensures cause { HasCause (F.faults shelf.old) (F.faults shelf.new) result }
+    ensures calls { F.calls shelf.new ≡ noted result (F.calls shelf.old) }
+    ensures starts { F.starts shelf.new ≡ F.starts shelf.old }
 
     ensures front { take at buf.new ≡ take at buf.old }
     ensures fits { IfOk result (λ count. at + count ≤ length buf.new) }

@@ -1,5 +1,6 @@
 pub mod AnswerFacts
 pub mod BoundFacts
+pub mod CallFacts
 pub mod FileFacts
 pub mod MemoryFacts
 pub mod OutcomeFacts

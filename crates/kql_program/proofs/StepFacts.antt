@@ -85,7 +85,7 @@ tokens-reach tokens tables moment (stop.Refused q) h = record { verdict = Err q;
 tokens-reach tokens tables moment stop.ReadFault h = tt
 tokens-reach tokens tables moment stop.OutOfMemory h = tt
 
-path-asked : (words : List (String Global)) (asked : Asked) (d : String Global) (path : List ℕ) → asked.query < length words → path ≡ string_bytes (get_or words asked.query d) → query_path (texts words) asked ≡ path
+pub path-asked : (words : List (String Global)) (asked : Asked) (d : String Global) (path : List ℕ) → asked.query < length words → path ≡ string_bytes (get_or words asked.query d) → query_path (texts words) asked ≡ path
 path-asked words asked d path lt p = get_or-map string_bytes words asked.query d [] lt ∙ sym p
 
 pub asked-tokens : (told : Option Files) (words : List (String Global)) (asked : Asked) (d : String Global) (path : List ℕ) (r : Result BoundQuery Stop) (s : Stop) → asked.query < length words

@@ -63,9 +63,9 @@ planned : (told : Option Files) (words : List (List ℕ)) (asked : Asked) (bound
 planned None words asked bound plan h i = i.is_settled
 planned (Some files) words asked bound plan h i = record { bound = bound; is_bound = h; is = i }
 
-pub run-done : (told : Option Files) (words : List (List ℕ)) (asked : Asked) (bound : BoundQuery) (text : List ℕ) (e : Ended) → IfSome told (λ files. IsBoundAsked words files asked (Ok bound)) → IsRunBy bound.program e
-    → IsDone words told (command.Run asked) text e
-run-done told words asked bound text (ended.Table plan) h i = record { ends = tt; plan = planned told words asked bound plan h i; explained = tt }
+pub run-done : (told : Option Files) (words : List (List ℕ)) (asked : Asked) (bound : BoundQuery) (text : List ℕ) (e : Ended) → IfSome told (λ files. IsBoundAsked words files asked (Ok bound))
+    → IsRunBy bound.program bound.catalogue text e → IsDone words told (command.Run asked) text e
+run-done told words asked bound text (ended.Table plan) h i = record { ends = tt; plan = planned told words asked bound plan h i.0; explained = tt }
 run-done told words asked bound text _ h i = absurd i
 
 pub plain-done : (told : Option Files) (words : List (List ℕ)) (asked : Asked) (text : List ℕ) (e : Ended) → e ≡ ended.PlainTable → IsDone words told (command.Plain asked) text e

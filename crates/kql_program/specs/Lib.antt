@@ -1,4 +1,5 @@
 pub mod Answer
+pub mod Calls
 pub mod Endings
 pub mod Files
 pub mod InMemory

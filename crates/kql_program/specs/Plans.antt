@@ -1,6 +1,9 @@
 -- What `explain` asks for: the text of a plan of the query's program, or the first refusal, which is that of the answer.
 use Rattle.std.specs.Prelude.{◌≡◌, ℕ, true, List, Ok, Err}
+use Rattle.csv_io.specs.Text.{table_text}
 use Rattle.kql_bound.specs.declared.plan.Program.{Program}
+use Rattle.kql_cells.specs.Catalogues.{Named}
+use Rattle.kql_meaning.specs.Plans.{means}
 use Rattle.kql_plan_text.specs.Plans.{plan_text}
 use Rattle.kql_words.specs.Refusals.{Answer}
 use Rattle.kql_words.specs.declared.command.Asked.{Asked}
@@ -44,10 +47,10 @@ pub record ExplainOne (words : List (List ℕ)) (files : Files) (asked : Asked) 
   pub first : Explains (Ok bound) (Ok s)
   pub second : Explains (Ok bound) (Ok t)
 
--- the ending after `run` wrote a table: by a plan of the program
-abbrev pub IsRunBy : Program → Ended → Type 0
-IsRunBy program (ended.Table plan) = IsPlanOf program plan
-IsRunBy program _ = ⊥
+-- The ending after `run` wrote a table: a plan of the program, and the text is that of the table which this very plan means over the tables.
+abbrev pub IsRunBy : Program → List Named → List ℕ → Ended → Type 0
+IsRunBy program tables text (ended.Table plan) = IsPlanOf program plan × (text ≡ table_text (means plan tables))
+IsRunBy program tables text _ = ⊥
 
 -- the ending after `explain` wrote a text: that of a plan of the program
 abbrev pub IsExplainedBy : Program → List ℕ → Ended → Type 0

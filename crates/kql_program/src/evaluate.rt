@@ -71,7 +71,7 @@ pub(crate) fn plan_of(alloc: Global, program: &Program) -> Result<Boxed<Program>
     Ok(plan)
 }
 
-/// The rows of a program over the tables that it fits, and the plan that they were answered by.
+/// The rows of a program over the tables that it fits, and the plan that they were answered by: they are what this very plan means.
 #[tactic(auto, using(crate::proofs::PlanFacts::plan_facts))]
 pub(crate) fn planned_rows(
     alloc: Global,
@@ -81,6 +81,7 @@ pub(crate) fn planned_rows(
     requires fits { IsTrue (fits program.now (schemas_of catalogue.now)) }
     ensures rows { IfOk result (λ made. made.0 ≡ means program.now catalogue.now) }
     ensures plan { IfOk result (λ made. IsPlanOf program.now made.1) }
+    ensures evaluated { IfOk result (λ made. made.0 ≡ means made.1 catalogue.now) }
 {
     know_tables(catalogue.tables());
     let plan = plan_of(alloc, program)?;

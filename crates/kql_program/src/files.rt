@@ -1,8 +1,10 @@
 ghost use Rattle.std.specs.Prelude.{◌≡◌, ◌≤◌, ◌+◌, ◌++◌, ◌∷◌, [], Err, IfOk, IfSome, OnOk, length, map, true};
+ghost use Rattle.kql_outside.specs.Calls.{one_more};
 ghost use Rattle.kql_outside.specs.Causes.{Rose};
 ghost use Rattle.kql_cells.specs.Named.{IsAbsent};
 ghost use Rattle.kql_cells.specs.Catalogues.{table_name};
 ghost use Rattle.kql_words.specs.Command.{AreTables, name_in, names_table, texts};
+ghost use Rattle.kql_program.specs.Calls.{StopsAtRead};
 ghost use Rattle.kql_program.specs.Files.{AddsTable, ReadsFront, ReadsTable, bytes_top, file_bytes, file_tokens, loaded_as, query_tokens, tables_from};
 ghost use Rattle.kql_program.specs.Outcomes.{RefusesNoWord};
 ghost use Rattle.kql_program.specs.Refusals.{Computes, Gives};
@@ -33,6 +35,8 @@ fn read_file<F: Shelf>(
     ensures files { F.files shelf.new ≡ F.files shelf.old }
     ensures later { F.faults shelf.old ≤ F.faults shelf.new }
     ensures failed { result ≡ Err stop.ReadFault → Rose (F.faults shelf.old) (F.faults shelf.new) }
+    ensures stops { StopsAtRead (F.calls shelf.old) (F.calls shelf.new) result }
+    ensures starts { F.starts shelf.new ≡ one_more (F.starts shelf.old) }
     ensures within { IfOk result (λ bytes. length bytes ≤ limit) }
     ensures front { IfSome (F.files shelf.old) (λ files. ReadsFront limit (file_bytes number files path.now) result) }
     ensures words { RefusesNoWord result }
@@ -54,6 +58,8 @@ pub(crate) fn read_query<F: Shelf>(alloc: Global, shelf: &mut F, path: &str) -> 
     ensures files { F.files shelf.new ≡ F.files shelf.old }
     ensures later { F.faults shelf.old ≤ F.faults shelf.new }
     ensures failed { result ≡ Err stop.ReadFault → Rose (F.faults shelf.old) (F.faults shelf.new) }
+    ensures stops { StopsAtRead (F.calls shelf.old) (F.calls shelf.new) result }
+    ensures starts { F.starts shelf.new ≡ one_more (F.starts shelf.old) }
     ensures tokens { IfSome (F.files shelf.old) (λ files. Computes (file_tokens files path.now) result) }
     ensures words { RefusesNoWord result }
 {
@@ -78,6 +84,7 @@ pub(crate) fn read_tables<F: Shelf>(
     ensures files { F.files shelf.new ≡ F.files shelf.old }
     ensures later { F.faults shelf.old ≤ F.faults shelf.new }
     ensures failed { result ≡ Err stop.ReadFault → Rose (F.faults shelf.old) (F.faults shelf.new) }
+    ensures stops { StopsAtRead (F.calls shelf.old) (F.calls shelf.new) result }
     ensures tables { IfSome (F.files shelf.old) (λ files. Computes (tables_from files 1 0 (texts words.now)) result) }
     ensures words { RefusesNoWord result }
 {
@@ -112,6 +119,7 @@ fn add_table<F: Shelf>(
     ensures files { F.files shelf.new ≡ F.files shelf.old }
     ensures later { F.faults shelf.old ≤ F.faults shelf.new }
     ensures failed { result ≡ Err stop.ReadFault → Rose (F.faults shelf.old) (F.faults shelf.new) }
+    ensures stops { StopsAtRead (F.calls shelf.old) (F.calls shelf.new) result }
     ensures few { IfOk result (λ more. more ≤ bytes_top) }
     ensures names { OnOk result (map table_name catalogue.new ≡ map table_name catalogue.old ++ name_in word.now ∷ []) }
     ensures table { IfSome (F.files shelf.old) (λ files. AddsTable files number used word.now catalogue.old catalogue.new result) }
@@ -136,6 +144,7 @@ fn read_table<F: Shelf>(
     ensures files { F.files shelf.new ≡ F.files shelf.old }
     ensures later { F.faults shelf.old ≤ F.faults shelf.new }
     ensures failed { result ≡ Err stop.ReadFault → Rose (F.faults shelf.old) (F.faults shelf.new) }
+    ensures stops { StopsAtRead (F.calls shelf.old) (F.calls shelf.new) result }
     ensures few { IfOk result (λ read. read.1 ≤ bytes_top) }
     ensures table { IfSome (F.files shelf.old) (λ files. ReadsTable files number used path.now result) }
     ensures words { RefusesNoWord result }

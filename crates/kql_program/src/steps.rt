@@ -1,16 +1,20 @@
 //! The steps of the answer: query file, syntax, table files, binding, and then the text that the command asks for. The first fault stops them.
-ghost use Rattle.std.specs.Prelude.{◌≡◌, ◌≤◌, ◌<◌, ◌+◌, Err, IfOk, IfSome, IsTrue, Ok, drop, length, true};
+ghost use Rattle.std.specs.Prelude.{◌≡◌, ◌≤◌, ◌<◌, ◌+◌, Err, IfOk, IfSome, IsTrue, Ok, drop, length, true, ℕ};
 ghost use Rattle.csv_io.specs.Text.{table_text};
 ghost use Rattle.kql_cells.specs.Catalogues.{schemas_of};
 ghost use Rattle.kql_cells.specs.Values.{IsMoment};
 ghost use Rattle.kql_meaning.specs.Fits.{fits};
 ghost use Rattle.kql_meaning.specs.Plans.{means};
+ghost use Rattle.kql_lexer.specs.declared.place.Place.{Place};
+ghost use Rattle.kql_outside.specs.Calls.{one_more};
 ghost use Rattle.kql_outside.specs.Causes.{Rose};
+ghost use Rattle.kql_parser.specs.Parsing.{Refuses};
 ghost use Rattle.kql_parser_laws.specs.Patterns.{has_patterns};
 ghost use Rattle.kql_plan_text.specs.Plans.{plan_text};
 ghost use Rattle.kql_program.specs.Answer.{AnswersCommand};
+ghost use Rattle.kql_program.specs.Calls.{HasOwnFault, StartsFor, StopsAtRead};
 ghost use Rattle.kql_program.specs.Files.{tables_from};
-ghost use Rattle.kql_program.specs.Outcomes.{IsDone, ReadsFor, RefusesNoWord, TriesFor, text_in};
+ghost use Rattle.kql_program.specs.Outcomes.{IsDone, ReadsFor, RefusesNoWord, TriesFor, asked_in, text_in};
 ghost use Rattle.kql_program.specs.Plans.{AnswersExplain, IsExplainedBy, IsRunBy};
 ghost use Rattle.kql_program.specs.Queries.{AnswersQuery, IsBound, IsBoundAsked, bound_with};
 ghost use Rattle.kql_program.specs.Refusals.{Computes, Finds, Reaches};
@@ -52,6 +56,8 @@ pub(crate) fn command_text<F: Shelf>(
     requires moment { IfAsks (λ a. IfSome a.moment IsMoment) command }
     ensures files { F.files shelf.new ≡ F.files shelf.old }
     ensures failed { result ≡ Err stop.ReadFault → Rose (F.faults shelf.old) (F.faults shelf.new) }
+    ensures stops { StopsAtRead (F.calls shelf.old) (F.calls shelf.new) result }
+    ensures starts { StartsFor (texts words.now) (F.files shelf.old) (asked_in (Ok command)) (F.starts shelf.old) (F.starts shelf.new) }
     ensures turn { result ≡ Err stop.ReadFault → ReadsFor command }
     ensures text { IfSome (F.files shelf.old) (λ files. Reaches (AnswersCommand (texts words.now) files (Ok command)) (text_in result)) }
     ensures done { IfOk result (λ done. IsDone (texts words.now) (F.files shelf.old) command done.text done.ended) }
@@ -78,6 +84,8 @@ fn query_run<F: Shelf>(
     requires moment { IfSome asked.moment IsMoment }
     ensures files { F.files shelf.new ≡ F.files shelf.old }
     ensures failed { result ≡ Err stop.ReadFault → Rose (F.faults shelf.old) (F.faults shelf.new) }
+    ensures stops { StopsAtRead (F.calls shelf.old) (F.calls shelf.new) result }
+    ensures starts { IfSome (F.files shelf.old) (λ files. HasOwnFault (texts words.now) files asked → F.starts shelf.new ≡ one_more (F.starts shelf.old)) }
     ensures text { IfSome (F.files shelf.old) (λ files. Reaches (AnswersQuery (texts words.now) files asked) (text_in result)) }
     ensures done { IfOk result (λ done. IsDone (texts words.now) (F.files shelf.old) (command.Run asked) done.text done.ended) }
     ensures words { RefusesNoWord result }
@@ -98,6 +106,8 @@ fn query_plain<F: Shelf>(
     requires moment { IfSome asked.moment IsMoment }
     ensures files { F.files shelf.new ≡ F.files shelf.old }
     ensures failed { result ≡ Err stop.ReadFault → Rose (F.faults shelf.old) (F.faults shelf.new) }
+    ensures stops { StopsAtRead (F.calls shelf.old) (F.calls shelf.new) result }
+    ensures starts { IfSome (F.files shelf.old) (λ files. HasOwnFault (texts words.now) files asked → F.starts shelf.new ≡ one_more (F.starts shelf.old)) }
     ensures text { IfSome (F.files shelf.old) (λ files. Reaches (AnswersQuery (texts words.now) files asked) (text_in result)) }
     ensures done { IfOk result (λ done. IsDone (texts words.now) (F.files shelf.old) (command.Plain asked) done.text done.ended) }
     ensures words { RefusesNoWord result }
@@ -118,6 +128,8 @@ fn query_explained<F: Shelf>(
     requires moment { IfSome asked.moment IsMoment }
     ensures files { F.files shelf.new ≡ F.files shelf.old }
     ensures failed { result ≡ Err stop.ReadFault → Rose (F.faults shelf.old) (F.faults shelf.new) }
+    ensures stops { StopsAtRead (F.calls shelf.old) (F.calls shelf.new) result }
+    ensures starts { IfSome (F.files shelf.old) (λ files. HasOwnFault (texts words.now) files asked → F.starts shelf.new ≡ one_more (F.starts shelf.old)) }
     ensures text { IfSome (F.files shelf.old) (λ files. Reaches (AnswersExplain (texts words.now) files asked) (text_in result)) }
     ensures done { IfOk result (λ done. IsDone (texts words.now) (F.files shelf.old) (command.Explain asked) done.text done.ended) }
     ensures words { RefusesNoWord result }
@@ -143,7 +155,7 @@ fn trial_done(alloc: Global, trial: Trial) -> Result<Done, Stop>
 fn bound_run(alloc: Global, bound: &BoundQuery) -> Result<Done, AllocError>
     requires fits { IsTrue (fits bound.now.program (schemas_of bound.now.catalogue)) }
     ensures text { IfOk result (λ done. done.text ≡ table_text (means bound.now.program bound.now.catalogue)) }
-    ensures plan { IfOk result (λ done. IsRunBy bound.now.program done.ended) }
+    ensures plan { IfOk result (λ done. IsRunBy bound.now.program bound.now.catalogue done.text done.ended) }
 {
     let (rows, plan) = planned_rows(alloc, bound.program.get(), &bound.catalogue)?;
     let text = table_text(alloc, &rows)?;
@@ -203,6 +215,8 @@ fn query_bound<F: Shelf>(
     ensures files { F.files shelf.new ≡ F.files shelf.old }
     ensures later { F.faults shelf.old ≤ F.faults shelf.new }
     ensures failed { result ≡ Err stop.ReadFault → Rose (F.faults shelf.old) (F.faults shelf.new) }
+    ensures stops { StopsAtRead (F.calls shelf.old) (F.calls shelf.new) result }
+    ensures starts { IfSome (F.files shelf.old) (λ files. HasOwnFault (texts words.now) files asked → F.starts shelf.new ≡ one_more (F.starts shelf.old)) }
     ensures bound { IfSome (F.files shelf.old) (λ files. Reaches (IsBoundAsked (texts words.now) files asked) result) }
     ensures fits { IfOk result (λ b. IsTrue (fits b.program (schemas_of b.catalogue))) }
     ensures words { RefusesNoWord result }
@@ -225,6 +239,8 @@ fn parsed_bound<F: Shelf>(
     ensures files { F.files shelf.new ≡ F.files shelf.old }
     ensures later { F.faults shelf.old ≤ F.faults shelf.new }
     ensures failed { result ≡ Err stop.ReadFault → Rose (F.faults shelf.old) (F.faults shelf.new) }
+    ensures stops { StopsAtRead (F.calls shelf.old) (F.calls shelf.new) result }
+    ensures starts { (code : ℕ) (place : Place) → Refuses tokens.now code place → F.starts shelf.new ≡ F.starts shelf.old }
     ensures bound { IfSome (F.files shelf.old) (λ files. Reaches (IsBound (Ok tokens.now) (tables_from files 1 0 (texts words.now)) moment) result) }
     ensures fits { IfOk result (λ b. IsTrue (fits b.program (schemas_of b.catalogue))) }
     ensures words { RefusesNoWord result }
@@ -250,6 +266,7 @@ fn asked_bound<F: Shelf>(
     ensures files { F.files shelf.new ≡ F.files shelf.old }
     ensures later { F.faults shelf.old ≤ F.faults shelf.new }
     ensures failed { result ≡ Err stop.ReadFault → Rose (F.faults shelf.old) (F.faults shelf.new) }
+    ensures stops { StopsAtRead (F.calls shelf.old) (F.calls shelf.new) result }
     ensures bound { IfSome (F.files shelf.old) (λ files. Computes (bound_with (tables_from files 1 0 (texts words.now)) moment query.now) result) }
     ensures fits { IfOk result (λ b. IsTrue (fits b.program (schemas_of b.catalogue))) }
     ensures words { RefusesNoWord result }

@@ -1,8 +1,9 @@
 ghost use Rattle.std.specs.Prelude.{◌≡◌, ◌<◌, ◌+◌, IfSome, Ok, drop, length};
 ghost use Rattle.kql_cells.specs.Values.{IsMoment};
 ghost use Rattle.kql_program.specs.Answer.{HasOneAnswer};
+ghost use Rattle.kql_program.specs.Calls.{EndsAtWrite, HeedsFaults, LineEndsAtWrite, StartsFor, calls_now};
 ghost use Rattle.kql_words.specs.Command.{AreTables, IfAsks, command_of, texts};
-ghost use Rattle.kql_program.specs.Outcomes.{HasOutcome, SinkNow, Writes, WritesStop, outside, sink_now};
+ghost use Rattle.kql_program.specs.Outcomes.{HasOutcome, SinkNow, Writes, WritesStop, asked_in, outside, sink_now};
 ghost use Rattle.kql_program.specs.declared.refusal.Stop.TheVariants as stop;
 
 use crate::bound::Done;
@@ -49,6 +50,13 @@ pub fn kql<R: Threads + Sync, F: Shelf, O: Sink, E: Sink, G: Gate + Sync>(
         let err_at : E → SinkNow = λ e. sink_now (E.written e) (E.room e) (E.faults e) in
         HasOutcome (texts words.now) (F.files shelf.old) (outside (F.faults shelf.old) (out_at out.old) (err_at err.old)) (outside (F.faults shelf.new) (out_at out.new) (err_at err.new)) result }
 
+    // After a call of the shelf or of a sink that failed there is no other, where these tell their calls, and the ending is that fault. But for the line
+    // that tells a read fault.
+    ensures heeds { HeedsFaults (calls_now (F.calls shelf.old) (O.calls out.old) (E.calls err.old)) (calls_now (F.calls shelf.new) (O.calls out.new) (E.calls err.new)) result }
+
+    // No table file is started where the query has a fault of its own: in its file, its tokens or its syntax.
+    ensures starts { StartsFor (texts words.now) (F.files shelf.old) (asked_in (command_of (texts words.now))) (F.starts shelf.old) (F.starts shelf.new) }
+
     // Where the files are told there is one answer; of `explain` one refusal, or texts of plans of the one program that the query is bound to.
     ensures one { IfSome (F.files shelf.old) (λ files. HasOneAnswer (texts words.now) files) }
 {
@@ -75,6 +83,8 @@ fn answer_command<F: Shelf, O: Sink, E: Sink>(
     ensures outcome { let out_at : O → SinkNow = λ o. sink_now (O.written o) (O.room o) (O.faults o) in
         let err_at : E → SinkNow = λ e. sink_now (E.written e) (E.room e) (E.faults e) in
         HasOutcome (texts words.now) (F.files shelf.old) (outside (F.faults shelf.old) (out_at out.old) (err_at err.old)) (outside (F.faults shelf.new) (out_at out.new) (err_at err.new)) result }
+    ensures heeds { HeedsFaults (calls_now (F.calls shelf.old) (O.calls out.old) (E.calls err.old)) (calls_now (F.calls shelf.new) (O.calls out.new) (E.calls err.new)) result }
+    ensures starts { StartsFor (texts words.now) (F.files shelf.old) (asked_in (command_of (texts words.now))) (F.starts shelf.old) (F.starts shelf.new) }
 {
     match command_text(alloc, words, command, shelf) {
         Ok(Done { text, ended }) => write_ending(out, text.as_slice(), ended),
@@ -85,6 +95,7 @@ fn answer_command<F: Shelf, O: Sink, E: Sink>(
 // Writes a text, after which the call ends so, or with a write fault.
 fn write_ending<S: Sink>(sink: &mut S, text: &[u8], done: Ended) -> Ended
     ensures written { Writes (sink_now (S.written sink.old) (S.room sink.old) (S.faults sink.old)) (sink_now (S.written sink.new) (S.room sink.new) (S.faults sink.new)) text.now done result }
+    ensures calls { EndsAtWrite (S.calls sink.old) (S.calls sink.new) done result }
 {
     match write_all(sink, text) {
         Ok(()) => done,
@@ -95,6 +106,7 @@ fn write_ending<S: Sink>(sink: &mut S, text: &[u8], done: Ended) -> Ended
 // Writes the line of a stop.
 fn write_stop<E: Sink>(alloc: Global, err: &mut E, stop: Stop) -> Ended
     ensures written { WritesStop (sink_now (E.written err.old) (E.room err.old) (E.faults err.old)) (sink_now (E.written err.new) (E.room err.new) (E.faults err.new)) stop result }
+    ensures calls { LineEndsAtWrite (E.calls err.old) (E.calls err.new) stop result }
 {
     match stop {
         Stop::Refused(refusal) => write_refusal(alloc, err, refusal),
@@ -105,6 +117,7 @@ fn write_stop<E: Sink>(alloc: Global, err: &mut E, stop: Stop) -> Ended
 
 fn write_refusal<E: Sink>(alloc: Global, err: &mut E, refusal: Refusal) -> Ended
     ensures written { WritesStop (sink_now (E.written err.old) (E.room err.old) (E.faults err.old)) (sink_now (E.written err.new) (E.room err.new) (E.faults err.new)) (stop.Refused refusal) result }
+    ensures calls { LineEndsAtWrite (E.calls err.old) (E.calls err.new) (stop.Refused refusal) result }
 {
     match line_of(alloc, refusal) {
         Ok(line) => write_ending(err, line.as_bytes(), ending_of(refusal)),

@@ -1,4 +1,7 @@
 use Rattle.kql_program.proofs.FileFacts.{front-found, front-missing}
+use Rattle.std.proofs.Common.{◌∙◌, ℕ, refl}
+use Rattle.kql_outside.proofs.CallFacts.{last-failed, none-failed}
+use Rattle.kql_program.proofs.CallFacts.{read-stops, start-stops}
 use Rattle.kql_program.proofs.files.read_file.Goals as goal
 
 pub returns-in_ok-read_up_to-clause-front : goal.returns-in_ok-read_up_to-clause-front
@@ -11,3 +14,15 @@ pub returns-else-branch-clause-front : goal.returns-else-branch-clause-front
 returns-else-branch-clause-front g c =
     let found = rw c.if-branch.false at c.in_ok-start.ensures.found in
     front-missing _ c.args.path.now c.args.number c.args.limit found
+
+pub returns-in_err-start-clause-stops : goal.returns-in_err-start-clause-stops
+returns-in_err-start-clause-stops g c = start-stops _ _ _ c.from_residual.ensures.1 (last-failed _ _ _ c.in_err-start.ensures.calls refl)
+
+pub returns-in_err-read_up_to-clause-stops : goal.returns-in_err-read_up_to-clause-stops
+returns-in_err-read_up_to-clause-stops g c = read-stops ℕ _ _ _ _ _ (none-failed _ _ _ c.in_ok-start.ensures.calls refl) c.in_err-read_up_to.ensures.stops c.from_residual-in_err-read_up_to.ensures.1
+
+pub returns-in_ok-read_up_to-clause-stops : goal.returns-in_ok-read_up_to-clause-stops
+returns-in_ok-read_up_to-clause-stops g c = c.in_ok-read_up_to.ensures.stops ∙ none-failed _ _ _ c.in_ok-start.ensures.calls refl
+
+pub returns-else-branch-clause-stops : goal.returns-else-branch-clause-stops
+returns-else-branch-clause-stops g c = none-failed _ _ _ c.in_ok-start.ensures.calls refl

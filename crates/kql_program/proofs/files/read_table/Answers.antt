@@ -3,6 +3,7 @@ use Rattle.kql_program.specs.Files.{bytes_top, loaded_as}
 use Rattle.csv_io.specs.Load.{loaded}
 use Rattle.kql_program.proofs.AnswerFacts.{gives-along}
 use Rattle.kql_program.proofs.FileFacts.{table-ok, table-raised, too-long}
+use Rattle.kql_program.proofs.CallFacts.{given-raised, raised-stops}
 use Rattle.kql_program.proofs.files.read_table.Goals as goal
 
 pub returns-then-used-gt-BYTES_TOP-clause-table : goal.returns-then-used-gt-BYTES_TOP-clause-table
@@ -19,3 +20,9 @@ pub returns-clause-table : goal.returns-clause-table
 returns-clause-table g c =
     let within : c.args.used + length c.in_ok-bytes.bytes ≤ bytes_top = omega (arith, c.len.ensures.count) in
     table-ok _ c.args.number c.args.used _ c.args.path.now c.in_ok-bytes.bytes _ c.requires c.in_ok-bytes.ensures.front within (rw c.as_slice.ensures.items at c.in_ok-table.ensures.table) (ap (λ n. c.args.used + n) c.len.ensures.count)
+
+pub returns-in_err-bytes-clause-stops : goal.returns-in_err-bytes-clause-stops
+returns-in_err-bytes-clause-stops g c = raised-stops _ _ _ _ c.from_residual.ensures.1 c.in_err-bytes.ensures.stops
+
+pub returns-in_err-table-clause-stops : goal.returns-in_err-table-clause-stops
+returns-in_err-table-clause-stops g c = given-raised _ _ _ _ _ c.in_err-table.ensures.table c.from_residual-in_err-table.ensures.1 c.in_ok-bytes.ensures.stops

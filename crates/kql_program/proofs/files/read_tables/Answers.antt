@@ -4,6 +4,7 @@ use Rattle.std.specs.Prelude.{string_bytes}
 use Rattle.kql_words.specs.Command.{name_in, texts}
 use Rattle.kql_words.proofs.CommandLaws.{names-more}
 use Rattle.kql_program.proofs.TableFacts.{absent, clean, few-words, told-end, told-next, told-stop}
+use Rattle.kql_program.proofs.CallFacts.{raised-stops, stops-behind}
 use Rattle.kql_program.proofs.files.read_tables.Goals as goal
 
 pub overflow_cast-number : goal.overflow_cast-number
@@ -42,6 +43,7 @@ loop-i-preserved g c =
       names = c.in_ok-used.ensures.names ∙ (ap (λ names. names ++ name_in c.as_str.result.now ∷ []) c.loop-i.invariant.names
           ∙ (ap (λ name. map name_in (texts (take c.loop-i.i c.args.words.now)) ++ name_in name ∷ []) word ∙ sym (names-more c.args.words.now c.loop-i.i c.index-words-i.result lt)));
       files = c.in_ok-used.ensures.files ∙ c.loop-i.invariant.files;
+      calls = c.in_ok-used.ensures.stops ∙ c.loop-i.invariant.calls;
       later = grind (arith, common_steps, c.in_ok-used.ensures.later);
       left = told-next _ _ c.loop-i.i c.loop-i.used c.in_ok-used.used c.args.words.now c.index-words-i.result c.as_str.result.now c.loop-i.catalogue c.add_table.new.catalogue lt word c.loop-i.invariant.files c.in_ok-used.ensures.table c.loop-i.invariant.left;
     }
@@ -50,3 +52,9 @@ pub returns-clause-tables : goal.returns-clause-tables
 returns-clause-tables g c =
     let over : length c.args.words.now ≤ c.loop-i.i = grind (arith, common_steps) in
     told-end _ c.loop-i.i c.loop-i.used c.args.words.now c.loop-i.catalogue over c.loop-i.invariant.left
+
+pub returns-in_err-used-clause-stops : goal.returns-in_err-used-clause-stops
+returns-in_err-used-clause-stops g c = raised-stops _ _ _ _ c.from_residual.ensures.1 (stops-behind _ _ _ _ c.loop-i.invariant.calls c.in_err-used.ensures.stops)
+
+pub returns-clause-stops : goal.returns-clause-stops
+returns-clause-stops g c = c.loop-i.invariant.calls

@@ -1,6 +1,7 @@
 use Rattle.kql_words.specs.Command.{texts}
 use Rattle.kql_program.proofs.StepFacts.{asked-bound, asked-stop}
 use Rattle.kql_program.proofs.WordFacts.{raised-words, bound-no_words, stopped-words}
+use Rattle.kql_program.proofs.CallFacts.{given-stops, raised-stops}
 use Rattle.kql_program.proofs.steps.asked_bound.Goals as goal
 
 pub returns-in_err-catalogue-clause-bound : goal.returns-in_err-catalogue-clause-bound
@@ -14,3 +15,9 @@ returns-in_err-catalogue-clause-words g c = raised-words _ _ c.from_residual.ens
 
 pub returns-clause-words : goal.returns-clause-words
 returns-clause-words g c = bound-no_words _ _ _ _ c.bound_over.ensures.bound
+
+pub returns-in_err-catalogue-clause-stops : goal.returns-in_err-catalogue-clause-stops
+returns-in_err-catalogue-clause-stops g c = raised-stops _ _ _ _ c.from_residual.ensures.1 c.in_err-catalogue.ensures.stops
+
+pub returns-clause-stops : goal.returns-clause-stops
+returns-clause-stops g c = given-stops _ _ _ _ c.bound_over.ensures.bound c.in_ok-catalogue.ensures.stops

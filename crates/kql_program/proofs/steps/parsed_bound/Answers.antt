@@ -1,6 +1,8 @@
 use Rattle.kql_words.specs.Command.{texts}
 use Rattle.kql_program.proofs.StepFacts.{parsed-fault, parsed-bound}
 use Rattle.kql_program.proofs.WordFacts.{raised-words, syntax-words}
+use Rattle.std.proofs.Common.{refl}
+use Rattle.kql_program.proofs.CallFacts.{no-syntax-fault, syntax-stops}
 use Rattle.kql_program.proofs.steps.parsed_bound.Goals as goal
 
 pub returns-in_err-query-clause-bound : goal.returns-in_err-query-clause-bound
@@ -11,3 +13,9 @@ returns-clause-bound g c = parsed-bound _ c.args.tokens.now c.args.moment (texts
 
 pub returns-in_err-query-clause-words : goal.returns-in_err-query-clause-words
 returns-in_err-query-clause-words g c = raised-words _ _ c.from_residual.ensures.1 (syntax-words _)
+
+pub returns-in_err-query-clause-stops : goal.returns-in_err-query-clause-stops
+returns-in_err-query-clause-stops g c = syntax-stops _ _ _ _ c.from_residual.ensures.1 refl
+
+pub returns-clause-starts : goal.returns-clause-starts
+returns-clause-starts g c = λ code place r. no-syntax-fault _ _ _ code place c.in_ok-query.ensures.parsed r

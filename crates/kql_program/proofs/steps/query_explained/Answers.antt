@@ -1,6 +1,7 @@
 use Rattle.kql_words.specs.Command.{texts}
 use Rattle.kql_program.proofs.TopFacts.{explain-ok, explain-stop, explained-done}
 use Rattle.kql_program.proofs.WordFacts.{raised-words, stopped-words}
+use Rattle.kql_program.proofs.CallFacts.{memory-stops, raised-stops}
 use Rattle.kql_program.proofs.steps.query_explained.Goals as goal
 
 pub returns-in_err-bound-clause-text : goal.returns-in_err-bound-clause-text
@@ -14,3 +15,9 @@ returns-clause-done g c = explained-done _ (texts c.args.words.now) c.args.asked
 
 pub returns-in_err-bound-clause-words : goal.returns-in_err-bound-clause-words
 returns-in_err-bound-clause-words g c = raised-words _ _ c.from_residual.ensures.1 (stopped-words _ c.in_err-bound.ensures.words)
+
+pub returns-in_err-bound-clause-stops : goal.returns-in_err-bound-clause-stops
+returns-in_err-bound-clause-stops g c = raised-stops _ _ _ _ c.from_residual.ensures.1 c.in_err-bound.ensures.stops
+
+pub returns-in_err-bound_explained-clause-stops : goal.returns-in_err-bound_explained-clause-stops
+returns-in_err-bound_explained-clause-stops g c = memory-stops _ _ _ c.from_residual-in_err-bound_explained.ensures.1 c.in_ok-bound.ensures.stops

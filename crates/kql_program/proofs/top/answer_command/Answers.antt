@@ -1,6 +1,7 @@
 use Rattle.std.proofs.Common.{refl, ap}
 use Rattle.std.specs.Prelude.{Err}
 use Rattle.kql_program.proofs.OutcomeFacts.{outcome-stop, outcome-text}
+use Rattle.kql_program.proofs.CallFacts.{heeds-line, heeds-text, starts-asked}
 use Rattle.kql_program.proofs.top.answer_command.Goals as goal
 
 pub returns-in-Ok-clause-outcome : goal.returns-in-Ok-clause-outcome
@@ -10,3 +11,15 @@ returns-in-Ok-clause-outcome g c =
 pub returns-in-Err-clause-outcome : goal.returns-in-Err-clause-outcome
 returns-in-Err-clause-outcome g c =
     outcome-stop _ _ _ _ c.args.command _ _ c.requires.read c.in-Err.ensures.text c.in-Err.ensures.trial c.in-Err.ensures.words (λ e. c.in-Err.ensures.failed (ap Err e)) (λ e. c.in-Err.ensures.turn (ap Err e)) refl c.write_stop.ensures.written
+
+pub returns-in-Ok-clause-heeds : goal.returns-in-Ok-clause-heeds
+returns-in-Ok-clause-heeds g c = heeds-text c.args.command _ _ _ _ c.in-Ok.ensures.done.ends c.in-Ok.ensures.stops c.write_ending.ensures.calls refl
+
+pub returns-in-Err-clause-heeds : goal.returns-in-Err-clause-heeds
+returns-in-Err-clause-heeds g c = heeds-line _ _ _ _ c.in-Err.ensures.stops refl c.write_stop.ensures.calls
+
+pub returns-in-Ok-clause-starts : goal.returns-in-Ok-clause-starts
+returns-in-Ok-clause-starts g c = starts-asked _ _ c.args.command _ _ c.requires.read c.in-Ok.ensures.starts
+
+pub returns-in-Err-clause-starts : goal.returns-in-Err-clause-starts
+returns-in-Err-clause-starts g c = starts-asked _ _ c.args.command _ _ c.requires.read c.in-Err.ensures.starts

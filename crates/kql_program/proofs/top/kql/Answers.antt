@@ -1,6 +1,7 @@
 use Rattle.std.proofs.Common.{refl}
 use Rattle.kql_program.proofs.OutcomeFacts.{outcome-first}
 use Rattle.kql_program.proofs.VerdictFacts.{one-told}
+use Rattle.kql_program.proofs.CallFacts.{heeds-line, starts-none}
 use Rattle.kql_program.proofs.top.kql.Goals as goal
 
 pub returns-in-Err-clause-outcome : goal.returns-in-Err-clause-outcome
@@ -11,3 +12,9 @@ returns-in-Ok-clause-one g c = one-told _ _
 
 pub returns-in-Err-clause-one : goal.returns-in-Err-clause-one
 returns-in-Err-clause-one g c = one-told _ _
+
+pub returns-in-Err-clause-heeds : goal.returns-in-Err-clause-heeds
+returns-in-Err-clause-heeds g c = heeds-line _ _ _ _ refl refl c.write_refusal.ensures.calls
+
+pub returns-in-Err-clause-starts : goal.returns-in-Err-clause-starts
+returns-in-Err-clause-starts g c = starts-none _ _ _ _ c.in-Err.ensures.read
