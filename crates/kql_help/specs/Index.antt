@@ -78,7 +78,7 @@ of_values =
     (codes "operators" ∷ codes "and" ∷ codes "or" ∷ codes "in" ∷ codes "in~" ∷ codes "between" ∷ codes "==" ∷ codes "!=" ∷ codes "<" ∷ codes "<=" ∷ codes ">" ∷ codes ">=" ∷ codes "=~" ∷ codes "!~" ∷ codes "+" ∷ codes "-" ∷ codes "*" ∷ codes "/" ∷ codes "%" ∷ codes "!in" ∷ codes "!in~" ∷ codes "!between" ∷ [], values.OPERATORS.now) ∷
     (codes "searches" ∷ codes "contains" ∷ codes "contains_cs" ∷ codes "startswith" ∷ codes "startswith_cs" ∷ codes "endswith" ∷ codes "endswith_cs" ∷ codes "has" ∷ codes "has_cs" ∷ codes "!contains" ∷ codes "!contains_cs" ∷ codes "!startswith" ∷ codes "!startswith_cs" ∷ codes "!endswith" ∷ codes "!endswith_cs" ∷ codes "!has" ∷ codes "!has_cs" ∷ [], values.SEARCHES.now) ∷
     (codes "datetimes" ∷ codes "now" ∷ codes "ago" ∷ codes "startofday" ∷ codes "startofweek" ∷ codes "startofmonth" ∷ codes "startofyear" ∷ codes "endofday" ∷ codes "endofweek" ∷ codes "endofmonth" ∷ codes "endofyear" ∷ codes "dayofweek" ∷ codes "dayofmonth" ∷ codes "dayofyear" ∷ codes "getyear" ∷ codes "getmonth" ∷ codes "monthofyear" ∷ codes "hourofday" ∷ codes "datetime_add" ∷ codes "datetime_diff" ∷ codes "datetime_part" ∷ codes "make_datetime" ∷ codes "unixtime_seconds_todatetime" ∷ codes "unixtime_milliseconds_todatetime" ∷ [], values.DATETIMES.now) ∷
-    (codes "dynamic" ∷ codes "parse_json" ∷ codes "todynamic" ∷ codes "array_length" ∷ codes "array_concat" ∷ codes "array_slice" ∷ codes "array_reverse" ∷ codes "array_index_of" ∷ codes "bag_keys" ∷ codes "bag_has_key" ∷ codes "bag_merge" ∷ codes "pack_array" ∷ codes "bag_pack" ∷ codes "set_union" ∷ codes "set_intersect" ∷ codes "set_difference" ∷ codes "set_has_element" ∷ [], values.DYNAMIC.now) ∷
+    (codes "dynamic" ∷ codes "json" ∷ codes "parse_json" ∷ codes "todynamic" ∷ codes "array_length" ∷ codes "array_concat" ∷ codes "array_slice" ∷ codes "array_reverse" ∷ codes "array_index_of" ∷ codes "bag_keys" ∷ codes "bag_has_key" ∷ codes "bag_merge" ∷ codes "pack_array" ∷ codes "bag_pack" ∷ codes "set_union" ∷ codes "set_intersect" ∷ codes "set_difference" ∷ codes "set_has_element" ∷ [], values.DYNAMIC.now) ∷
     []
 
 -- functions over several rows

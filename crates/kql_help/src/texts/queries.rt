@@ -137,6 +137,9 @@ Names of columns
 An item n = E gives the column n. Without a name it gives
 
     a column; bin, floor or bin_at of one     the column's name
+    a path, as d.a or d[\"b\"][0]               d_a, d_b_0; none with d[-1] or d[k]
+    one within tolong, tostring, tobool,      the same
+        todatetime or totimespan
     an item of print                          print_0, print_1 and so on
     count(), countif(p)                       count_, countif_
     sum(x) and the like of a column           sum_x; of another expression sum_
@@ -174,7 +177,6 @@ What differs from Kusto, and what to write instead
     row_rank_dense, row_rank_min, row_window_session
                                  row_number, row_cumsum, scan
     x in (T | project y)         join kind=leftsemi (T) on $left.x == $right.y
-    x in (dynamic([..]))         set_has_element(dynamic([..]), x)
     let ids = ..; x in (ids)     join kind=leftsemi (ids) on x
     (T | ..) | count             T | .. | count
     join kind=leftantisemi       join kind=leftanti
@@ -211,12 +213,14 @@ are names, or NAME:TYPE; a field without a type is a column of strings.
     long         -9223372036854775808 to 9223372036854775807
     string       the text of the cell
     datetime     2024-03-01; or with T or a space and 10:04, 10:04:59 or
-                 10:04:59.9999999, and then Z or none
+                 10:04:59.9999999, and then Z, \" UTC\", +02:00, +0200 or none
     timespan     [-][d.]hh:mm:ss[.fffffff], or a number with d, h, m, s, ms,
                  microsecond or tick
-    dynamic      JSON; any other text is that text as a dynamic value
+    dynamic      JSON, in which a number that is no whole one, as 2.5, is null;
+                 any other text is that text as a dynamic value
 
-An empty cell is null, and the empty string in a column of strings. The answer
+An empty cell is null, and the empty string in a column of strings. Blanks round
+a cell are passed over, but of types string and dynamic. The answer
 is CSV with a header without types; null is an empty cell. At most 64 tables, of
 67,108,864 bytes together.
 ";

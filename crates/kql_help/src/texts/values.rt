@@ -29,6 +29,8 @@ Signs and words between values; kql help has the operators of tables
                        2 in (1, 2) is true
     x in~ (a, b)       the same with =~; !in~ turns it round
                        \"a\" in~ (\"A\", \"b\") is true
+                       in a list an array stands for its elements:
+                       2 in (dynamic([1,\"2\"])) is true
     x between (a .. b)
                        a <= x and x <= b; !between turns it round
                        5 between (5 .. 5) is true
@@ -38,7 +40,8 @@ Signs and words between values; kql help has the operators of tables
 
 A sum, product or quotient out of range is null. Two nulls are == null; one null
 is == false and != true; < and its like are null where one is null. A dynamic
-operand beside one of another type is converted to that type.
+operand beside one of another type is converted to that type; in a list it stays,
+and each element of its array is compared as a value of the type of x.
 ";
 
 pub(crate) const SEARCHES: &str = "\
@@ -98,7 +101,8 @@ dayofyear hour minute second millisecond.
 ";
 
 pub(crate) const DYNAMIC: &str = "\
-Dynamic values; where an array or a bag is wanted and another value given: null
+Dynamic values: JSON, in which a number that is no whole one, as 2.5, is null;
+where an array or a bag is wanted and another value given: null
 
     parse_json(x) todynamic(x)   what a text reads as; a dynamic is itself
         parse_json(\"[2]\") is [2]
@@ -215,6 +219,7 @@ pub(crate) const TOPICS: &[Topic] = &[
     Topic {
         names: &[
             "dynamic",
+            "json",
             "parse_json",
             "todynamic",
             "array_length",
