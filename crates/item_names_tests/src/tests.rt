@@ -241,7 +241,11 @@ fn is_conversion_named(alloc: Global, f: ConversionFunc) -> Made<bool> {
     Ok(
         named(alloc, converted(alloc, f, deep_path(alloc)), "x_a b_5 ")?
             && named(alloc, converted(alloc, f, column(alloc, "x")), "Column3 #")?
-            && named(alloc, converted(alloc, f, path_from_end(alloc)), "Column3 #")?,
+            && named(
+                alloc,
+                converted(alloc, f, path_from_end(alloc)),
+                "Column3 #",
+            )?,
     )
 }
 
@@ -351,7 +355,9 @@ fn aggregates_of_several_columns(rt: HostRuntime) -> Result<(), Fail> {
     let sum = named(alloc, of_bins(alloc, Aggregate::Sum), "sum_ ")?;
     let count = named(alloc, of_nothing(alloc), "count_ ")?;
     assert_eq!(rt;
-        [greatest, least, alone, first, binned, path, total, sum, count],
+        [
+            greatest, least, alone, first, binned, path, total, sum, count
+        ],
         [true; 9]
     );
     Ok(())
