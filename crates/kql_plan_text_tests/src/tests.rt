@@ -1,4 +1,4 @@
-//! The texts of what no query is bound to, and of copies. The texts of what queries are bound to are rows of `bind_query_rows`.
+//! The texts of what no query is bound to, and of copies. The texts of what queries are bound to are rows of `kql_rows`.
 use kql_bound::{BExpr, Lit, Op, Ops, Plan, Program, Source, clone_program};
 use kql_cells::{Column, KText, Kind, NamedSchema, Schema, Schemas, Value};
 use kql_items::{Boxed, Items};

@@ -8,7 +8,7 @@ use std::thread::Threads;
 
 const SMALL: &str = "x:long,s\n5,a\n";
 
-// Each row is a query and the line of its refusal. The others are rows of `kql_program_rows`.
+// Each row is a query and the line of its refusal. The others are rows of `kql_rows`.
 const UNPARSED: &str = "T T | count -> 1:3: 201 Unexpected
 T | where x == \"a -> 1:16: 102 OpenText";
 
