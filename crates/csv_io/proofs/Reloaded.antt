@@ -10,7 +10,7 @@ use Rattle.csv.specs.Reading.{strip_bom}
 use Rattle.csv.specs.Records.{AllText}
 use Rattle.csv.specs.Writing.{default_writer, read_back, row_text}
 use Rattle.csv_io.specs.Load.{cell_faults, cell_of, cells_faults, cells_of, faults_of, file_records, grid_of, loaded, row_faults, rows_faults}
-use Rattle.csv_io.specs.Reload.{IsLoadable, ReadsBack, typed_name, with_kinds, word_of}
+use Rattle.csv_io.specs.Reload.{IsLoadable, ReadsBack, typed_name, typed_text, with_kinds, word_of}
 use Rattle.csv_io.specs.Text.{cell_text, line_text, names_of, table_text}
 use Rattle.csv_io.specs.TextRecords.{AllRecordsText}
 use Rattle.csv_io.proofs.LoadFacts.{loaded-text, row-even}
@@ -169,12 +169,24 @@ no-faults cs lines h distinct fits back =
 grid-is : (cs : List Column) (lines : List (List Value)) → All (RowFits cs) lines → All (All ReadsBack) lines → grid_of (typed-records cs lines) ≡ record { columns = cs; lines = lines }
 grid-is cs lines fits back = rw (columns-back cs, (rows-back cs lines 1 fits back).0) refl
 
-pub loads-again : (g : Grid) (b : List ℕ) → b ≡ table_text g → AllText (names_of g.columns) → HasDistinctNames column_name g.columns → All (RowFits g.columns) g.lines → All (All ReadsBack) g.lines
-    → IsLoadable g.columns → loaded (with_kinds g.columns b) ≡ Ok g
-loads-again g b e names distinct fits back h =
+typed-is : (g : Grid) → typed-text g.columns g.lines ≡ typed_text g
+typed-is g = rw (flat_map-map (row_text default_writer) (map cell_text) g.lines) refl
+
+loads-typed : (g : Grid) → AllText (names_of g.columns) → HasDistinctNames column_name g.columns → All (RowFits g.columns) g.lines → All (All ReadsBack) g.lines
+    → IsLoadable g.columns → loaded (typed-text g.columns g.lines) ≡ Ok g
+loads-typed g names distinct fits back h =
     let cs = g.columns in
     let lines = g.lines in
     let texts : AllRecordsText (typed-records cs lines) = text-cons (map typed_name cs) (map (map cell_text) lines) (typed-texts cs names) (lines-texts lines back) in
     let u = rows-utf8 (typed-records cs lines) texts in
     let loads = loads-as (typed-text cs lines) (typed-records cs lines) u (records-are cs lines h fits) (no-faults cs lines h distinct fits back) in
-    rw (text-is cs lines b e) (loads ∙ ap Ok (grid-is cs lines fits back))
+    loads ∙ ap Ok (grid-is cs lines fits back)
+
+pub typed-loads : (g : Grid) (b : List ℕ) → b ≡ typed_text g → AllText (names_of g.columns) → HasDistinctNames column_name g.columns → All (RowFits g.columns) g.lines → All (All ReadsBack) g.lines
+    → IsLoadable g.columns → loaded b ≡ Ok g
+typed-loads g b e names distinct fits back h = rw (e, ← typed-is g) (loads-typed g names distinct fits back h)
+
+pub loads-again : (g : Grid) (b : List ℕ) → b ≡ table_text g → AllText (names_of g.columns) → HasDistinctNames column_name g.columns → All (RowFits g.columns) g.lines → All (All ReadsBack) g.lines
+    → IsLoadable g.columns → loaded (with_kinds g.columns b) ≡ Ok g
+loads-again g b e names distinct fits back h =
+    rw (text-is g.columns g.lines b e) (loads-typed g names distinct fits back h)

@@ -1,9 +1,10 @@
 -- Loading what was printed.
-use Rattle.std.specs.Prelude.{◌≡◌, ◌≢◌, ◌≤◌, ◌++◌, ◌∷◌, ℕ, List, [], Some, All, IsUtf8, codes, drop, length, map}
+use Rattle.std.specs.Prelude.{◌≡◌, ◌≢◌, ◌≤◌, ◌++◌, ◌∷◌, ℕ, List, [], Some, All, IsUtf8, codes, drop, flat_map, length, map}
 use Rattle.csv.specs.Reading.{strip_bom}
 use Rattle.csv.specs.Writing.{default_writer, row_text}
 use Rattle.csv_io.specs.Cells.{read_cell}
-use Rattle.csv_io.specs.Text.{cell_text, names_of}
+use Rattle.csv_io.specs.Text.{cell_text, line_text, names_of}
+use Rattle.kql_cells.specs.Table.{Grid}
 use Rattle.kql_cells.specs.Values.{IsOfKind}
 use Rattle.kql_cells.specs.declared.schema.Column.{Column}
 use Rattle.kql_cells.specs.declared.value.Kind.{Kind}
@@ -26,6 +27,10 @@ typed_name c = c.name ++ 58 ∷ word_of c.kind
 -- a printed text with the types written into its header
 abbrev pub with_kinds : List Column → List ℕ → List ℕ
 with_kinds columns text = row_text default_writer (map typed_name columns) ++ drop (length (row_text default_writer (names_of columns))) text
+
+-- the text of a table with the types of its columns in its header
+abbrev pub typed_text : Grid → List ℕ
+typed_text g = row_text default_writer (map typed_name g.columns) ++ flat_map line_text g.lines
 
 abbrev pub first_name : List Column → List ℕ
 first_name [] = []

@@ -17,4 +17,4 @@ mod print;
 
 pub use fault::DataFault;
 pub use loading::load;
-pub use print::table_text;
+pub use print::{table_text, typed_text};

@@ -1,16 +1,16 @@
-ghost use Rattle.std.specs.Prelude.{◌≡◌, ◌<◌, ◌++◌, All, IfOk, IsUtf8, Ok, OnOk, length};
+ghost use Rattle.std.specs.Prelude.{◌≡◌, ◌<◌, ◌++◌, All, IfOk, IsUtf8, Ok, OnOk, flat_map, length, map, string_bytes};
 ghost use Rattle.csv.specs.Records.{AllText};
 ghost use Rattle.csv.specs.Writing.{default_writer, field_text, row_text};
 ghost use Rattle.kql_cells.specs.Seen.{row_at, seen};
 ghost use Rattle.kql_cells.specs.Values.{IsMoment, IsWellFormed};
 ghost use Rattle.kql_cells.specs.declared.value.Value.TheVariants as value;
 ghost use Rattle.csv_io.specs.Load.{loaded};
-ghost use Rattle.csv_io.specs.Reload.{IsLoadable, ReadsBack, with_kinds};
+ghost use Rattle.csv_io.specs.Reload.{IsLoadable, ReadsBack, typed_name, typed_text, with_kinds, word_of};
 ghost use Rattle.csv_io.specs.Text.{cell_text, line_text, names_of, table_text};
 
 use crate::output::{end_line, push_field, push_separator};
 use itoa::Buffer;
-use kql_cells::{Bytes, CellRef, Column, Dyn};
+use kql_cells::{Bytes, CellRef, Column, Dyn, Kind};
 use kql_dynamic::print_json;
 use kql_items::Items;
 use kql_ticks::{push_moment, push_span};
@@ -29,10 +29,71 @@ pub fn table_text(alloc: Global, t: &Table) -> Result<Bytes, AllocError>
 {
     let mut out = Vec::new(alloc);
     push_names(&mut out, t.schema().columns())?;
-    for i in 0..t.len() {
-        push_line(alloc, &mut out, t, i)?;
-    }
+    push_lines(alloc, &mut out, t)?;
     Ok(Items::from_vec(out))
+}
+
+/// The same text with the types of the columns in its header, as `ms:long`: it loads as the table, where there are from one column to
+/// 256, each has a name, and the first name does not begin with a byte order mark.
+pub fn typed_text(alloc: Global, t: &Table) -> Result<Bytes, AllocError>
+    ensures text { IfOk result (λ b. b ≡ typed_text t.now) }
+    ensures loads { IfOk result (λ b. IsLoadable t.now.columns → loaded b ≡ Ok t.now) }
+{
+    let mut out = Vec::new(alloc);
+    push_typed_names(alloc, &mut out, t.schema().columns())?;
+    push_lines(alloc, &mut out, t)?;
+    Ok(Items::from_vec(out))
+}
+
+// Adds a line for each row.
+fn push_lines(alloc: Global, out: &mut Vec<u8>, t: &Table) -> Result<(), AllocError>
+    ensures text { OnOk result (out.new.items ≡ out.old.items ++ flat_map line_text t.now.lines) }
+    ensures back { OnOk result (All (All ReadsBack) t.now.lines) }
+{
+    let _ = t.schema();
+    for i in 0..t.len() {
+        push_line(alloc, out, t, i)?;
+    }
+    Ok(())
+}
+
+// Adds a line of the columns' names, each with its type.
+fn push_typed_names(alloc: Global, out: &mut Vec<u8>, columns: &[Column]) -> Result<(), AllocError>
+    ensures text { OnOk result (out.new.items ≡ out.old.items ++ row_text default_writer (map typed_name columns.now)) }
+    ensures utf8 { OnOk result (AllText (names_of columns.now)) }
+{
+    let start = out.len();
+    for j in 0..columns.len() {
+        push_separator(out, j)?;
+        let field = typed_name(alloc, &columns[j])?;
+        push_field(out, field.as_str())?;
+    }
+    end_line(out, start)?;
+    Ok(())
+}
+
+// The field of a header for a column: its name, a colon and its type.
+fn typed_name(alloc: Global, column: &Column) -> Result<String, AllocError>
+    ensures field { IfOk result (λ f. string_bytes f ≡ typed_name column.now) }
+    ensures utf8 { IsUtf8 column.now.name }
+{
+    let name = column.name.as_str();
+    let word = word_of(column.kind);
+    format!(in alloc; "{name}:{word}")
+}
+
+// The word for a type in a header.
+fn word_of(kind: Kind) -> &'static str
+    ensures { result.now ≡ word_of kind }
+{
+    match kind {
+        Kind::Bool => "bool",
+        Kind::Long => "long",
+        Kind::Text => "string",
+        Kind::Moment => "datetime",
+        Kind::Span => "timespan",
+        Kind::Dynamic => "dynamic",
+    }
 }
 
 // Adds a line of the columns' names.

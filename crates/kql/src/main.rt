@@ -29,6 +29,8 @@ answers. trial answers five stored queries over a log of ROWS lines that SEED
 makes up, with a line for each.
 
     --now T           the datetime that now() is, as 2024-03-01 or 2024-03-01T10:00
+    --limit SIZE      how many bytes the files may have together, as 2GiB; else 64MiB
+    --types           the types of the columns in the header of the answer
     --workers N       how many workers share the work, 1 to 64; without effect yet
     kql --help        this text
     kql --version     the version

@@ -15,7 +15,7 @@ use Rattle.kql_lexer.specs.declared.lexer.LexFault.TheVariants as lex
 use Rattle.kql_lexer.specs.declared.token.Token.{Token}
 use Rattle.kql_outside.specs.Told.{file_of}
 use Rattle.kql_cells.specs.Table.{Grid}
-use Rattle.kql_program.specs.Files.{Files, ReadsFront, ReadsTable, bytes_top, file_bytes, file_tokens, found_as, lexed_as, loaded_as, query_tokens, table_in, table_of}
+use Rattle.kql_program.specs.Files.{Files, ReadsFront, ReadsTable, file_bytes, file_tokens, found_as, lexed_as, loaded_as, query_tokens, table_in, table_of}
 use Rattle.kql_program.specs.Refusals.{Computes, Gives}
 use Rattle.kql_words.specs.Refusals.{Answer, ◌>>=◌}
 use Rattle.kql_program.specs.Stops.{lex_stop}
@@ -75,57 +75,57 @@ take-long n m xs ys e h =
     omega arith
 
 -- so many bytes that the table files have too many together
-too-long-of : (a : Answer (List ℕ)) (number used : ℕ) (bytes : List ℕ) → used ≤ bytes_top → ReadsFront (bytes_top - used + 1) a (Ok bytes) → bytes_top < used + length bytes
-    → (a >>= table_in number used) ≡ Err (refusal.Data number 308 0 0)
+too-long-of : (a : Answer (List ℕ)) (number room : ℕ) (bytes : List ℕ) → ReadsFront (room + 1) a (Ok bytes) → room < length bytes
+    → (a >>= table_in number room) ≡ Err (refusal.Data number 308 0 0)
 unfolding table_in
-too-long-of a number used bytes few front over =
-    let long : bytes_top - used < length front.0 = take-long (bytes_top - used + 1) (bytes_top - used) front.0 bytes front.2 (omega arith) in
-    let no : nat_le (used + length front.0) bytes_top ≡ false = grind (arith, nat_tests) in
+too-long-of a number room bytes front over =
+    let long : room < length front.0 = take-long (room + 1) room front.0 bytes front.2 (omega arith) in
+    let no : nat_le (length front.0) room ≡ false = grind (arith, nat_tests) in
     rw (front.1, no) refl
 
-pub too-long : (told : Option Files) (number used : ℕ) (path bytes : List ℕ) → used ≤ bytes_top
-    → IfSome told (λ files. ReadsFront (bytes_top - used + 1) (file_bytes number files path) (Ok bytes)) → bytes_top < used + length bytes
-    → IfSome told (λ files. ReadsTable files number used path (Err (stop.Refused (refusal.Data number 308 0 0))))
-too-long None number used path bytes few front over = tt
-too-long (Some files) number used path bytes few front over = too-long-of (file_bytes number files path) number used bytes few front over
+pub too-long : (told : Option Files) (number room : ℕ) (path bytes : List ℕ)
+    → IfSome told (λ files. ReadsFront (room + 1) (file_bytes number files path) (Ok bytes)) → room < length bytes
+    → IfSome told (λ files. ReadsTable files number room path (Err (stop.Refused (refusal.Data number 308 0 0))))
+too-long None number room path bytes front over = tt
+too-long (Some files) number room path bytes front over = too-long-of (file_bytes number files path) number room bytes front over
 
 -- not too many bytes: the file was read whole, and its table is what its bytes load as
-whole-of : (a : Answer (List ℕ)) (number used : ℕ) (bytes : List ℕ) → used ≤ bytes_top → ReadsFront (bytes_top - used + 1) a (Ok bytes) → used + length bytes ≤ bytes_top
-    → (a ≡ Ok bytes) × (table_in number used bytes ≡ loaded_as number (loaded bytes))
+whole-of : (a : Answer (List ℕ)) (number room : ℕ) (bytes : List ℕ) → ReadsFront (room + 1) a (Ok bytes) → length bytes ≤ room
+    → (a ≡ Ok bytes) × (table_in number room bytes ≡ loaded_as number (loaded bytes))
 unfolding table_in
-whole-of a number used bytes few front within =
-    let same : bytes ≡ front.0 = take-short (bytes_top - used + 1) (bytes_top - used) front.0 bytes front.2 (omega arith) (omega arith) in
-    let yes : nat_le (used + length bytes) bytes_top ≡ true = grind (arith, nat_tests) in
+whole-of a number room bytes front within =
+    let same : bytes ≡ front.0 = take-short (room + 1) room front.0 bytes front.2 (omega arith) (omega arith) in
+    let yes : nat_le (length bytes) room ≡ true = grind (arith, nat_tests) in
     (front.1 ∙ ap Ok (sym same), rw yes refl)
 
 -- what holds of the table of those bytes holds of the table of the file
-loads-of : (a : Answer (List ℕ)) (number used : ℕ) (bytes : List ℕ) (r : Result Grid Stop) → used ≤ bytes_top → ReadsFront (bytes_top - used + 1) a (Ok bytes) → used + length bytes ≤ bytes_top
-    → Gives (loaded_as number (loaded bytes)) r → Computes (a >>= table_in number used) r
-loads-of a number used bytes r few front within g =
-    let whole = whole-of a number used bytes few front within in
+loads-of : (a : Answer (List ℕ)) (number room : ℕ) (bytes : List ℕ) (r : Result Grid Stop) → ReadsFront (room + 1) a (Ok bytes) → length bytes ≤ room
+    → Gives (loaded_as number (loaded bytes)) r → Computes (a >>= table_in number room) r
+loads-of a number room bytes r front within g =
+    let whole = whole-of a number room bytes front within in
     rw (whole.0, whole.1) (computes (loaded_as number (loaded bytes)) r g)
 
-raised-table : (files : Files) (number used : ℕ) (path : List ℕ) (r : Result (Grid × ℕ) Stop) (s : Stop) → IsErrAnd r (λ e. e ≡ s) → Computes (table_of files number used path) (Err s) → ReadsTable files number used path r
-raised-table files number used path (Ok x) s i h = absurd i
-raised-table files number used path (Err e) s i h = rw i h
+raised-table : (files : Files) (number room : ℕ) (path : List ℕ) (r : Result (Grid × ℕ) Stop) (s : Stop) → IsErrAnd r (λ e. e ≡ s) → Computes (table_of files number room path) (Err s) → ReadsTable files number room path r
+raised-table files number room path (Ok x) s i h = absurd i
+raised-table files number room path (Err e) s i h = rw i h
 
 -- a file whose bytes do not load
-pub table-raised : (told : Option Files) (number used : ℕ) (path bytes : List ℕ) (r : Result (Grid × ℕ) Stop) (s : Stop) → used ≤ bytes_top
-    → IfSome told (λ files. ReadsFront (bytes_top - used + 1) (file_bytes number files path) (Ok bytes)) → used + length bytes ≤ bytes_top
+pub table-raised : (told : Option Files) (number room : ℕ) (path bytes : List ℕ) (r : Result (Grid × ℕ) Stop) (s : Stop)
+    → IfSome told (λ files. ReadsFront (room + 1) (file_bytes number files path) (Ok bytes)) → length bytes ≤ room
     → Gives (loaded_as number (loaded bytes)) (Err s) → IsErrAnd r (λ e. e ≡ s)
-    → IfSome told (λ files. ReadsTable files number used path r)
-table-raised None number used path bytes r s few front within g i = tt
-table-raised (Some files) number used path bytes r s few front within g i =
-    raised-table files number used path r s i (loads-of (file_bytes number files path) number used bytes (Err s) few front within g)
+    → IfSome told (λ files. ReadsTable files number room path r)
+table-raised None number room path bytes r s front within g i = tt
+table-raised (Some files) number room path bytes r s front within g i =
+    raised-table files number room path r s i (loads-of (file_bytes number files path) number room bytes (Err s) front within g)
 
 -- a file that loads
-pub table-ok : (told : Option Files) (number used more : ℕ) (path bytes : List ℕ) (grid : Grid) → used ≤ bytes_top
-    → IfSome told (λ files. ReadsFront (bytes_top - used + 1) (file_bytes number files path) (Ok bytes)) → used + length bytes ≤ bytes_top
-    → loaded_as number (loaded bytes) ≡ Ok grid → more ≡ used + length bytes
-    → IfSome told (λ files. ReadsTable files number used path (Ok (grid, more)))
-table-ok None number used more path bytes grid few front within g m = tt
-table-ok (Some files) number used more path bytes grid few front within g m =
-    let whole = whole-of (file_bytes number files path) number used bytes few front within in
+pub table-ok : (told : Option Files) (number room more : ℕ) (path bytes : List ℕ) (grid : Grid)
+    → IfSome told (λ files. ReadsFront (room + 1) (file_bytes number files path) (Ok bytes)) → length bytes ≤ room
+    → loaded_as number (loaded bytes) ≡ Ok grid → more ≡ room - length bytes
+    → IfSome told (λ files. ReadsTable files number room path (Ok (grid, more)))
+table-ok None number room more path bytes grid front within g m = tt
+table-ok (Some files) number room more path bytes grid front within g m =
+    let whole = whole-of (file_bytes number files path) number room bytes front within in
     (bytes, whole.0, whole.1 ∙ g, m)
 
 is-below : (n m : ℕ) → nat_lt n m ≡ true → n < m

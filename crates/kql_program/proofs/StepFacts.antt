@@ -27,22 +27,22 @@ use Rattle.kql_program.proofs.AnswerFacts.{computes, goes_on, raised, raised-fin
 -- A query, and the tables of words.
 
 -- the tables can't be had
-pub asked-stop : (told : Option Files) (query : Query) (moment : Option ℤ) (words : List (List ℕ)) (r : Result BoundQuery Stop) (s : Stop)
-    → IfSome told (λ files. Computes (tables_from files 1 0 words) (Err s)) → IsErrAnd r (λ e. e ≡ s)
-    → IfSome told (λ files. Computes (bound_with (tables_from files 1 0 words) moment query) r)
+pub asked-stop : (told : Option Files) (query : Query) (limit : ℕ) (moment : Option ℤ) (words : List (List ℕ)) (r : Result BoundQuery Stop) (s : Stop)
+    → IfSome told (λ files. Computes (tables_from files 1 limit words) (Err s)) → IsErrAnd r (λ e. e ≡ s)
+    → IfSome told (λ files. Computes (bound_with (tables_from files 1 limit words) moment query) r)
 unfolding bound_with
-asked-stop None query moment words r s h i = tt
-asked-stop (Some files) query moment words r s h i =
-    raised (bound_with (tables_from files 1 0 words) moment query) r s i (stops (tables_from files 1 0 words) (λ tables. bound_over query moment tables) s h)
+asked-stop None query limit moment words r s h i = tt
+asked-stop (Some files) query limit moment words r s h i =
+    raised (bound_with (tables_from files 1 limit words) moment query) r s i (stops (tables_from files 1 limit words) (λ tables. bound_over query moment tables) s h)
 
 -- the query bound to the tables
-pub asked-bound : (told : Option Files) (query : Query) (moment : Option ℤ) (words : List (List ℕ)) (tables : List Named) (r : Result BoundQuery Stop)
-    → IfSome told (λ files. tables_from files 1 0 words ≡ Ok tables) → Gives (bound_over query moment tables) r
-    → IfSome told (λ files. Computes (bound_with (tables_from files 1 0 words) moment query) r)
+pub asked-bound : (told : Option Files) (query : Query) (limit : ℕ) (moment : Option ℤ) (words : List (List ℕ)) (tables : List Named) (r : Result BoundQuery Stop)
+    → IfSome told (λ files. tables_from files 1 limit words ≡ Ok tables) → Gives (bound_over query moment tables) r
+    → IfSome told (λ files. Computes (bound_with (tables_from files 1 limit words) moment query) r)
 unfolding bound_with
-asked-bound None query moment words tables r h g = tt
-asked-bound (Some files) query moment words tables r h g =
-    goes_on (tables_from files 1 0 words) (λ tables. bound_over query moment tables) tables r h (computes (bound_over query moment tables) r g)
+asked-bound None query limit moment words tables r h g = tt
+asked-bound (Some files) query limit moment words tables r h g =
+    goes_on (tables_from files 1 limit words) (λ tables. bound_over query moment tables) tables r h (computes (bound_over query moment tables) r g)
 
 -- Tokens, and the query that they are.
 
@@ -56,11 +56,11 @@ fault-reaches : (tables : Answer (List Named)) (tokens : List Token) (moment : O
 fault-reaches tables tokens moment (syntax.Refused code place) h = fault-bound tables tokens moment (syntax.Refused code place) h
 fault-reaches tables tokens moment syntax.OutOfMemory h = tt
 
-pub parsed-fault : (told : Option Files) (tokens : List Token) (moment : Option ℤ) (words : List (List ℕ)) (fault : SyntaxFault) (r : Result BoundQuery Stop) → Parses tokens (Err fault) → IsErrAnd r (λ e. e ≡ syntax_stop fault)
-    → IfSome told (λ files. Reaches (IsBound (Ok tokens) (tables_from files 1 0 words) moment) r)
-parsed-fault None tokens moment words fault r h i = tt
-parsed-fault (Some files) tokens moment words fault r h i =
-    raised-reaches (IsBound (Ok tokens) (tables_from files 1 0 words) moment) r (syntax_stop fault) i (fault-reaches (tables_from files 1 0 words) tokens moment fault h)
+pub parsed-fault : (told : Option Files) (tokens : List Token) (limit : ℕ) (moment : Option ℤ) (words : List (List ℕ)) (fault : SyntaxFault) (r : Result BoundQuery Stop) → Parses tokens (Err fault) → IsErrAnd r (λ e. e ≡ syntax_stop fault)
+    → IfSome told (λ files. Reaches (IsBound (Ok tokens) (tables_from files 1 limit words) moment) r)
+parsed-fault None tokens limit moment words fault r h i = tt
+parsed-fault (Some files) tokens limit moment words fault r h i =
+    raised-reaches (IsBound (Ok tokens) (tables_from files 1 limit words) moment) r (syntax_stop fault) i (fault-reaches (tables_from files 1 limit words) tokens moment fault h)
 
 -- they are a query
 query-reaches : (tables : Answer (List Named)) (tokens : List Token) (moment : Option ℤ) (query : Query) (r : Result BoundQuery Stop) → Parsed tokens query → Computes (bound_with tables moment query) r → Reaches (IsBound (Ok tokens) tables moment) r
@@ -70,11 +70,11 @@ query-reaches tables tokens moment query (Err (stop.Refused q)) p h = record { v
 query-reaches tables tokens moment query (Err stop.ReadFault) p h = tt
 query-reaches tables tokens moment query (Err stop.OutOfMemory) p h = tt
 
-pub parsed-bound : (told : Option Files) (tokens : List Token) (moment : Option ℤ) (words : List (List ℕ)) (query : Query) (r : Result BoundQuery Stop) → Parsed tokens query
-    → IfSome told (λ files. Computes (bound_with (tables_from files 1 0 words) moment query) r)
-    → IfSome told (λ files. Reaches (IsBound (Ok tokens) (tables_from files 1 0 words) moment) r)
-parsed-bound None tokens moment words query r p h = tt
-parsed-bound (Some files) tokens moment words query r p h = query-reaches (tables_from files 1 0 words) tokens moment query r p h
+pub parsed-bound : (told : Option Files) (tokens : List Token) (limit : ℕ) (moment : Option ℤ) (words : List (List ℕ)) (query : Query) (r : Result BoundQuery Stop) → Parsed tokens query
+    → IfSome told (λ files. Computes (bound_with (tables_from files 1 limit words) moment query) r)
+    → IfSome told (λ files. Reaches (IsBound (Ok tokens) (tables_from files 1 limit words) moment) r)
+parsed-bound None tokens limit moment words query r p h = tt
+parsed-bound (Some files) tokens limit moment words query r p h = query-reaches (tables_from files 1 limit words) tokens moment query r p h
 
 -- The tokens of the query that a command asks for.
 
@@ -95,21 +95,21 @@ asked-tokens None words asked d path r s lt p h i = tt
 asked-tokens (Some files) words asked d path r s lt p h i =
     let there : Computes (file_tokens files (query_path (texts words) asked)) (Err s) = subst (λ (at : List ℕ). Computes (file_tokens files at) (Err s)) (sym (path-asked words asked d path lt p)) h in
     raised-reaches (IsBoundAsked (texts words) files asked) r s i
-    (tokens-reach (file_tokens files (query_path (texts words) asked)) (tables_from files 1 0 (table_words (texts words) asked)) asked.moment s there)
+    (tokens-reach (file_tokens files (query_path (texts words) asked)) (tables_from files 1 asked.options.limit (table_words (texts words) asked)) asked.options.moment s there)
 
 -- the query that the tokens are
 pub asked-parsed : (told now-told : Option Files) (words rest : List (String Global)) (asked : Asked) (d : String Global) (path : List ℕ) (tokens : List Token) (r : Result BoundQuery Stop)
     → asked.query < length words → path ≡ string_bytes (get_or words asked.query d) → rest ≡ take (length words - (asked.query + 1)) (drop (asked.query + 1) words)
-    → IfSome told (λ files. file_tokens files path ≡ Ok tokens) → now-told ≡ told → IfSome now-told (λ files. Reaches (IsBound (Ok tokens) (tables_from files 1 0 (texts rest)) asked.moment) r)
+    → IfSome told (λ files. file_tokens files path ≡ Ok tokens) → now-told ≡ told → IfSome now-told (λ files. Reaches (IsBound (Ok tokens) (tables_from files 1 asked.options.limit (texts rest)) asked.options.moment) r)
     → IfSome told (λ files. Reaches (IsBoundAsked (texts words) files asked) r)
 asked-parsed None now-told words rest asked d path tokens r lt p w t n h = tt
 asked-parsed (Some files) now-told words rest asked d path tokens r lt p w t n h =
     let tables : table_words (texts words) asked ≡ texts rest = sym (texts-rest words rest (asked.query + 1) w) in
     let read : file_tokens files (query_path (texts words) asked) ≡ Ok tokens = ap (file_tokens files) (path-asked words asked d path lt p) ∙ t in
-    let there : Reaches (IsBound (Ok tokens) (tables_from files 1 0 (texts rest)) asked.moment) r = rw n at h in
-    let over : Reaches (IsBound (Ok tokens) (tables_from files 1 0 (table_words (texts words) asked)) asked.moment) r =
-    subst (λ (ws : List (List ℕ)). Reaches (IsBound (Ok tokens) (tables_from files 1 0 ws) asked.moment) r) (sym tables) there in
-    subst (λ (ts : Answer (List Token)). Reaches (IsBound ts (tables_from files 1 0 (table_words (texts words) asked)) asked.moment) r) (sym read) over
+    let there : Reaches (IsBound (Ok tokens) (tables_from files 1 asked.options.limit (texts rest)) asked.options.moment) r = rw n at h in
+    let over : Reaches (IsBound (Ok tokens) (tables_from files 1 asked.options.limit (table_words (texts words) asked)) asked.options.moment) r =
+    subst (λ (ws : List (List ℕ)). Reaches (IsBound (Ok tokens) (tables_from files 1 asked.options.limit ws) asked.options.moment) r) (sym tables) there in
+    subst (λ (ts : Answer (List Token)). Reaches (IsBound ts (tables_from files 1 asked.options.limit (table_words (texts words) asked)) asked.options.moment) r) (sym read) over
 
 -- A stored query.
 

@@ -1,5 +1,5 @@
 -- The tables of the words, one after another.
-use Rattle.std.proofs.Common.{◌≡◌, ◌≤◌, ◌<◌, ◌+◌, ◌∙◌, ℕ, zero, suc, true, false, get_or, List, [], ◌∷◌, ◌++◌, length, map, take, drop, refl, ap, sym, inl, inr, arith, append_assoc}
+use Rattle.std.proofs.Common.{◌≡◌, ◌≤◌, ◌<◌, ◌+◌, ◌-◌, ◌∙◌, ℕ, zero, suc, true, false, get_or, List, [], ◌∷◌, ◌++◌, length, map, take, drop, refl, ap, sym, inl, inr, arith, append_assoc}
 use Rattle.std.specs.Prelude.{Option, Some, None, IfSome, IsErrAnd, Result, Ok, Err, String, string_bytes, nat_le}
 use Rattle.std.specs.Global.{Global}
 use Rattle.std.specs.List.{list_any}
@@ -89,14 +89,14 @@ absent tables name e k d lt same =
     cc
 
 -- one more table
-pub tables-next : (files : Files) (i used more : ℕ) (words : List (String Global)) (d : String Global) (word : List ℕ) (before now : List Named) (all : Answer (List Named)) → i < length words
-    → word ≡ string_bytes (get_or words i d) → AddsTable files (i + 1) used word before now (Ok more)
-    → after before (tables_from files (i + 1) used (drop i (texts words))) ≡ all
+pub tables-next : (files : Files) (i room more : ℕ) (words : List (String Global)) (d : String Global) (word : List ℕ) (before now : List Named) (all : Answer (List Named)) → i < length words
+    → word ≡ string_bytes (get_or words i d) → AddsTable files (i + 1) room word before now (Ok more)
+    → after before (tables_from files (i + 1) room (drop i (texts words))) ≡ all
     → after now (tables_from files (i + 1 + 1) more (drop (i + 1) (texts words))) ≡ all
 unfolding tables_from
-tables-next files i used more words d word before now all lt w (bytes, grid, found, loads, m, n) h =
+tables-next files i room more words d word before now all lt w (bytes, grid, found, loads, m, n) h =
     let at = words-at words i d lt in
-    let step : tables_from files (i + 1) used (drop i (texts words)) ≡ with_first (named_as (name_in word) grid) (tables_from files (i + 1 + 1) more (drop (i + 1) (texts words))) = rw (at, ← w, found, loads, ← m) refl in
+    let step : tables_from files (i + 1) room (drop i (texts words)) ≡ with_first (named_as (name_in word) grid) (tables_from files (i + 1 + 1) more (drop (i + 1) (texts words))) = rw (at, ← w, found, loads, ← m) refl in
     rw (n, ← after-first before (named_as (name_in word) grid) (tables_from files (i + 1 + 1) more (drop (i + 1) (texts words))), ← step) h
 
 -- what stops the first two steps stops all three
@@ -105,48 +105,48 @@ stops-three (Ok x) f g q e = rw e refl
 stops-three (Err r) f g q e = cc
 
 -- the first table that can't be had
-pub tables-stop : (files : Files) (i used : ℕ) (words : List (String Global)) (d : String Global) (word : List ℕ) (before now : List Named) (all : Answer (List Named)) (r : Result (List Named) Stop) (s : Stop) → i < length words
-    → word ≡ string_bytes (get_or words i d) → AddsTable files (i + 1) used word before now (Err s)
-    → after before (tables_from files (i + 1) used (drop i (texts words))) ≡ all → IsErrAnd r (λ e. e ≡ s) → Computes all r
+pub tables-stop : (files : Files) (i room : ℕ) (words : List (String Global)) (d : String Global) (word : List ℕ) (before now : List Named) (all : Answer (List Named)) (r : Result (List Named) Stop) (s : Stop) → i < length words
+    → word ≡ string_bytes (get_or words i d) → AddsTable files (i + 1) room word before now (Err s)
+    → after before (tables_from files (i + 1) room (drop i (texts words))) ≡ all → IsErrAnd r (λ e. e ≡ s) → Computes all r
 unfolding tables_from
-tables-stop files i used words d word before now all (Ok x) s lt w a h q = absurd q
-tables-stop files i used words d word before now all (Err e) stop.ReadFault lt w a h q = rw q tt
-tables-stop files i used words d word before now all (Err e) stop.OutOfMemory lt w a h q = rw q tt
-tables-stop files i used words d word before now all (Err e) (stop.Refused refusal) lt w a h q =
+tables-stop files i room words d word before now all (Ok x) s lt w a h q = absurd q
+tables-stop files i room words d word before now all (Err e) stop.ReadFault lt w a h q = rw q tt
+tables-stop files i room words d word before now all (Err e) stop.OutOfMemory lt w a h q = rw q tt
+tables-stop files i room words d word before now all (Err e) (stop.Refused refusal) lt w a h q =
     let at = words-at words i d lt in
-    let three = stops-three (file_bytes (i + 1) files (path_in word)) (table_in (i + 1) used)
-    (λ bytes grid. with_first (named_as (name_in word) grid) (tables_from files (i + 1 + 1) (used + length bytes) (drop (i + 1) (texts words)))) refusal a in
-    let none : tables_from files (i + 1) used (drop i (texts words)) ≡ Err refusal = rw (at, ← w) three in
+    let three = stops-three (file_bytes (i + 1) files (path_in word)) (table_in (i + 1) room)
+    (λ bytes grid. with_first (named_as (name_in word) grid) (tables_from files (i + 1 + 1) (room - length bytes) (drop (i + 1) (texts words)))) refusal a in
+    let none : tables_from files (i + 1) room (drop i (texts words)) ≡ Err refusal = rw (at, ← w) three in
     rw q (sym h ∙ ap (after before) none)
 
 -- and the end of the words
-pub tables-end : (files : Files) (i used : ℕ) (words : List (String Global)) (tables : List Named) (all : Answer (List Named)) → length words ≤ i
-    → after tables (tables_from files (i + 1) used (drop i (texts words))) ≡ all → Computes all (Ok tables)
+pub tables-end : (files : Files) (i room : ℕ) (words : List (String Global)) (tables : List Named) (all : Answer (List Named)) → length words ≤ i
+    → after tables (tables_from files (i + 1) room (drop i (texts words))) ≡ all → Computes all (Ok tables)
 unfolding tables_from
-tables-end files i used words tables all le h =
+tables-end files i room words tables all le h =
     let size = length-map words string_bytes in
     let none : drop i (texts words) ≡ [] = drop_all i (texts words) (omega arith) in
     sym h ∙ (rw none (ap Ok (append-nil tables)))
 
 -- the same where the files are told or not
-pub told-next : (now-told told : Option Files) (i used more : ℕ) (words : List (String Global)) (d : String Global) (word : List ℕ) (before now : List Named) → i < length words
-    → word ≡ string_bytes (get_or words i d) → now-told ≡ told → IfSome now-told (λ files. AddsTable files (i + 1) used word before now (Ok more))
-    → IfSome told (λ files. after before (tables_from files (i + 1) used (drop i (texts words))) ≡ tables_from files 1 0 (texts words))
-    → IfSome told (λ files. after now (tables_from files (i + 1 + 1) more (drop (i + 1) (texts words))) ≡ tables_from files 1 0 (texts words))
-told-next now-told None i used more words d word before now lt w e a h = tt
-told-next now-told (Some files) i used more words d word before now lt w e a h =
-    tables-next files i used more words d word before now (tables_from files 1 0 (texts words)) lt w (rw e at a) h
+pub told-next : (now-told told : Option Files) (limit i room more : ℕ) (words : List (String Global)) (d : String Global) (word : List ℕ) (before now : List Named) → i < length words
+    → word ≡ string_bytes (get_or words i d) → now-told ≡ told → IfSome now-told (λ files. AddsTable files (i + 1) room word before now (Ok more))
+    → IfSome told (λ files. after before (tables_from files (i + 1) room (drop i (texts words))) ≡ tables_from files 1 limit (texts words))
+    → IfSome told (λ files. after now (tables_from files (i + 1 + 1) more (drop (i + 1) (texts words))) ≡ tables_from files 1 limit (texts words))
+told-next now-told None limit i room more words d word before now lt w e a h = tt
+told-next now-told (Some files) limit i room more words d word before now lt w e a h =
+    tables-next files i room more words d word before now (tables_from files 1 limit (texts words)) lt w (rw e at a) h
 
-pub told-stop : (now-told told : Option Files) (i used : ℕ) (words : List (String Global)) (d : String Global) (word : List ℕ) (before now : List Named) (r : Result (List Named) Stop) (s : Stop) → i < length words
-    → word ≡ string_bytes (get_or words i d) → now-told ≡ told → IfSome now-told (λ files. AddsTable files (i + 1) used word before now (Err s))
-    → IfSome told (λ files. after before (tables_from files (i + 1) used (drop i (texts words))) ≡ tables_from files 1 0 (texts words)) → IsErrAnd r (λ e. e ≡ s)
-    → IfSome told (λ files. Computes (tables_from files 1 0 (texts words)) r)
-told-stop now-told None i used words d word before now r s lt w e a h q = tt
-told-stop now-told (Some files) i used words d word before now r s lt w e a h q =
-    tables-stop files i used words d word before now (tables_from files 1 0 (texts words)) r s lt w (rw e at a) h q
+pub told-stop : (now-told told : Option Files) (limit i room : ℕ) (words : List (String Global)) (d : String Global) (word : List ℕ) (before now : List Named) (r : Result (List Named) Stop) (s : Stop) → i < length words
+    → word ≡ string_bytes (get_or words i d) → now-told ≡ told → IfSome now-told (λ files. AddsTable files (i + 1) room word before now (Err s))
+    → IfSome told (λ files. after before (tables_from files (i + 1) room (drop i (texts words))) ≡ tables_from files 1 limit (texts words)) → IsErrAnd r (λ e. e ≡ s)
+    → IfSome told (λ files. Computes (tables_from files 1 limit (texts words)) r)
+told-stop now-told None limit i room words d word before now r s lt w e a h q = tt
+told-stop now-told (Some files) limit i room words d word before now r s lt w e a h q =
+    tables-stop files i room words d word before now (tables_from files 1 limit (texts words)) r s lt w (rw e at a) h q
 
-pub told-end : (told : Option Files) (i used : ℕ) (words : List (String Global)) (tables : List Named) → length words ≤ i
-    → IfSome told (λ files. after tables (tables_from files (i + 1) used (drop i (texts words))) ≡ tables_from files 1 0 (texts words))
-    → IfSome told (λ files. Computes (tables_from files 1 0 (texts words)) (Ok tables))
-told-end None i used words tables le h = tt
-told-end (Some files) i used words tables le h = tables-end files i used words tables (tables_from files 1 0 (texts words)) le h
+pub told-end : (told : Option Files) (limit i room : ℕ) (words : List (String Global)) (tables : List Named) → length words ≤ i
+    → IfSome told (λ files. after tables (tables_from files (i + 1) room (drop i (texts words))) ≡ tables_from files 1 limit (texts words))
+    → IfSome told (λ files. Computes (tables_from files 1 limit (texts words)) (Ok tables))
+told-end None limit i room words tables le h = tt
+told-end (Some files) limit i room words tables le h = tables-end files i room words tables (tables_from files 1 limit (texts words)) le h

@@ -1,7 +1,6 @@
 -- What a command makes of a query that is bound.
 use Rattle.std.proofs.Common.{◌≡◌, ℕ, true, List, refl, ap, subst, sym}
 use Rattle.std.specs.Prelude.{Option, Some, None, IfSome, IsErrAnd, Result, Ok, Err}
-use Rattle.csv_io.specs.Text.{table_text}
 use Rattle.kql_bound.specs.declared.plan.Program.{Program}
 use Rattle.kql_meaning.specs.Plans.{means}
 use Rattle.kql_plan_text.specs.Plans.{plan_text}
@@ -14,7 +13,7 @@ use Rattle.kql_program.specs.Answer.{AnswersCommand}
 use Rattle.kql_program.specs.Files.{Files}
 use Rattle.kql_program.specs.Outcomes.{IsDone, IsPlanFor, text_in}
 use Rattle.kql_program.specs.Plans.{AnswersExplain, IsExplainedBy, IsPlanOf, IsRunBy}
-use Rattle.kql_program.specs.Queries.{AnswersQuery, IsBoundAsked}
+use Rattle.kql_program.specs.Queries.{AnswersQuery, IsBoundAsked, text_as}
 use Rattle.kql_program.specs.Refusals.{Finds, Reaches}
 use Rattle.kql_program.specs.Trials.{AnswersTrial}
 use Rattle.kql_program.specs.declared.bound.BoundQuery.{BoundQuery}
@@ -52,7 +51,7 @@ explain-stop None words asked r s h i = tt
 explain-stop (Some files) words asked r s h i = raised-text (AnswersExplain words files asked) r s i (explain-refused words files asked s h)
 
 -- the text of its rows
-pub text-ok : (told : Option Files) (words : List (List ℕ)) (asked : Asked) (bound : BoundQuery) (text : List ℕ) → IfSome told (λ files. IsBoundAsked words files asked (Ok bound)) → text ≡ table_text (means bound.program bound.catalogue)
+pub text-ok : (told : Option Files) (words : List (List ℕ)) (asked : Asked) (bound : BoundQuery) (text : List ℕ) → IfSome told (λ files. IsBoundAsked words files asked (Ok bound)) → text ≡ text_as asked.options.types (means bound.program bound.catalogue)
     → IfSome told (λ files. AnswersQuery words files asked (Ok text))
 text-ok None words asked bound text h e = tt
 text-ok (Some files) words asked bound text h e = record { rows = Ok (means bound.program bound.catalogue); are = record { bound = Ok bound; is_bound = h; is = refl }; is = ap Ok e }
@@ -64,7 +63,7 @@ planned None words asked bound plan h i = i.is_settled
 planned (Some files) words asked bound plan h i = record { bound = bound; is_bound = h; is = i }
 
 pub run-done : (told : Option Files) (words : List (List ℕ)) (asked : Asked) (bound : BoundQuery) (text : List ℕ) (e : Ended) → IfSome told (λ files. IsBoundAsked words files asked (Ok bound))
-    → IsRunBy bound.program bound.catalogue text e → IsDone words told (command.Run asked) text e
+    → IsRunBy asked.options.types bound.program bound.catalogue text e → IsDone words told (command.Run asked) text e
 run-done told words asked bound text (ended.Table plan) h i = record { ends = tt; plan = planned told words asked bound plan h i.0; explained = tt }
 run-done told words asked bound text _ h i = absurd i
 

@@ -1,5 +1,5 @@
 -- The files of the command: the query file, and the table files in the order of the words.
-use Rattle.std.specs.Prelude.{◌≡◌, ℕ, ◌+◌, nat_le, List, [], ◌∷◌, ◌++◌, length, take, Option, Some, None, Result, Ok, Err, if◌then◌else◌}
+use Rattle.std.specs.Prelude.{◌≡◌, ℕ, ◌+◌, ◌-◌, nat_le, List, [], ◌∷◌, ◌++◌, length, take, Option, Some, None, Result, Ok, Err, if◌then◌else◌}
 use Rattle.csv_io.specs.Faults.{Fault}
 use Rattle.csv_io.specs.Load.{loaded}
 use Rattle.kql_lexer.specs.Lexing as lexing
@@ -40,47 +40,43 @@ file_tokens files path = do
   bytes ← file_bytes 0 files path
   query_tokens bytes
 
--- how many bytes the table files may have together
-abbrev pub bytes_top : ℕ
-bytes_top = 67108864
-
 abbrev pub loaded_as : ℕ → Result Grid Fault → Answer Grid
 loaded_as number (Ok grid) = Ok grid
 loaded_as number (Err fault) = Err (Data number fault.code fault.row fault.column)
 
--- the table in a file's bytes, behind so many bytes of table files; too many together are 308
+-- the table in a file's bytes, where the table files may have so many bytes more; a file with more than these is 308
 unfoldable pub table_in : ℕ → ℕ → List ℕ → Answer Grid
-table_in number used bytes = if nat_le (used + length bytes) bytes_top then loaded_as number (loaded bytes) else Err (Data number 308 0 0)
+table_in number room bytes = if nat_le (length bytes) room then loaded_as number (loaded bytes) else Err (Data number 308 0 0)
 
 abbrev pub named_as : List ℕ → Grid → Named
 named_as name grid = record { name = name; table = grid }
 
--- the table of a file, behind so many bytes of table files
+-- the table of a file, where the table files may have so many bytes more
 abbrev pub table_of : Files → ℕ → ℕ → List ℕ → Answer Grid
-table_of files number used path = file_bytes number files path >>= table_in number used
+table_of files number room path = file_bytes number files path >>= table_in number room
 
--- the tables of the words from this file on, behind so many bytes of table files
+-- the tables of the words from this file on, whose files may have so many bytes together
 unfoldable pub tables_from : Files → ℕ → ℕ → List (List ℕ) → Answer (List Named)
-tables_from files number used [] = Ok []
-tables_from files number used (word ∷ words) =
+tables_from files number room [] = Ok []
+tables_from files number room (word ∷ words) =
     file_bytes number files (path_in word) >>= λ bytes.
-    table_in number used bytes >>= λ grid.
-    with_first (named_as (name_in word) grid) (tables_from files (number + 1) (used + length bytes) words)
+    table_in number room bytes >>= λ grid.
+    with_first (named_as (name_in word) grid) (tables_from files (number + 1) (room - length bytes) words)
 
 -- a call gave a front of so many bytes of what the answer is
 abbrev pub ReadsFront : ℕ → Answer (List ℕ) → Result (List ℕ) Stop → Type 0
 ReadsFront limit answer (Ok bytes) = (all : List ℕ) × (answer ≡ Ok all) × (bytes ≡ take limit all)
 ReadsFront limit answer (Err stop) = Computes answer (Err stop)
 
--- a call gave the table of a file, and how many bytes the table files have with it
+-- a call gave the table of a file, and how many bytes the table files behind it may have
 abbrev pub ReadsTable : Files → ℕ → ℕ → List ℕ → Result (Grid × ℕ) Stop → Type 0
-ReadsTable files number used path (Ok read) =
-    (bytes : List ℕ) × (file_bytes number files path ≡ Ok bytes) × (table_in number used bytes ≡ Ok read.0) × (read.1 ≡ used + length bytes)
-ReadsTable files number used path (Err stop) = Computes (table_of files number used path) (Err stop)
+ReadsTable files number room path (Ok read) =
+    (bytes : List ℕ) × (file_bytes number files path ≡ Ok bytes) × (table_in number room bytes ≡ Ok read.0) × (read.1 ≡ room - length bytes)
+ReadsTable files number room path (Err stop) = Computes (table_of files number room path) (Err stop)
 
 -- a call added the table of a word to the others
 abbrev pub AddsTable : Files → ℕ → ℕ → List ℕ → List Named → List Named → Result ℕ Stop → Type 0
-AddsTable files number used word before now (Ok more) =
-    (bytes : List ℕ) × (grid : Grid) × (file_bytes number files (path_in word) ≡ Ok bytes) × (table_in number used bytes ≡ Ok grid)
-    × (more ≡ used + length bytes) × (now ≡ before ++ named_as (name_in word) grid ∷ [])
-AddsTable files number used word before now (Err stop) = Computes (table_of files number used (path_in word)) (Err stop)
+AddsTable files number room word before now (Ok left) =
+    (bytes : List ℕ) × (grid : Grid) × (file_bytes number files (path_in word) ≡ Ok bytes) × (table_in number room bytes ≡ Ok grid)
+    × (left ≡ room - length bytes) × (now ≡ before ++ named_as (name_in word) grid ∷ [])
+AddsTable files number room word before now (Err stop) = Computes (table_of files number room (path_in word)) (Err stop)

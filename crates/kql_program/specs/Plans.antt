@@ -1,6 +1,5 @@
 -- What `explain` asks for: the text of a plan of the query's program, or the first refusal, which is that of the answer.
-use Rattle.std.specs.Prelude.{◌≡◌, ℕ, true, List, Ok, Err}
-use Rattle.csv_io.specs.Text.{table_text}
+use Rattle.std.specs.Prelude.{◌≡◌, ℕ, Bool, true, List, Ok, Err}
 use Rattle.kql_bound.specs.declared.plan.Program.{Program}
 use Rattle.kql_cells.specs.Catalogues.{Named}
 use Rattle.kql_meaning.specs.Plans.{means}
@@ -11,7 +10,7 @@ use Rattle.plan_push.specs.Settled.{settled}
 use Rattle.plan_rules.specs.Becomes.{ProgramBecomes}
 use Rattle.plan_rules.specs.Improves.{IsNoLonger}
 use Rattle.kql_program.specs.Files.{Files}
-use Rattle.kql_program.specs.Queries.{IsBoundAsked}
+use Rattle.kql_program.specs.Queries.{IsBoundAsked, text_as}
 use Rattle.kql_program.specs.declared.bound.BoundQuery.{BoundQuery}
 use Rattle.kql_program.specs.declared.ended.Ended.{Ended}
 use Rattle.kql_program.specs.declared.ended.Ended.TheVariants as ended
@@ -48,9 +47,9 @@ pub record ExplainOne (words : List (List ℕ)) (files : Files) (asked : Asked) 
   pub second : Explains (Ok bound) (Ok t)
 
 -- The ending after `run` wrote a table: a plan of the program, and the text is that of the table which this very plan means over the tables.
-abbrev pub IsRunBy : Program → List Named → List ℕ → Ended → Type 0
-IsRunBy program tables text (ended.Table plan) = IsPlanOf program plan × (text ≡ table_text (means plan tables))
-IsRunBy program tables text _ = ⊥
+abbrev pub IsRunBy : Bool → Program → List Named → List ℕ → Ended → Type 0
+IsRunBy types program tables text (ended.Table plan) = IsPlanOf program plan × (text ≡ text_as types (means plan tables))
+IsRunBy types program tables text _ = ⊥
 
 -- the ending after `explain` wrote a text: that of a plan of the program
 abbrev pub IsExplainedBy : Program → List ℕ → Ended → Type 0

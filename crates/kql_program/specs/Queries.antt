@@ -1,9 +1,10 @@
 -- What a query's command asks for: the text of a table, or the first refusal. In this order: the query file's fault, its tokens', its
 -- syntax's, the table files', binding's, and else the text of the table that the program means.
-use Rattle.std.specs.Prelude.{◌≡◌, ℕ, ℤ, List, Option, Ok, Err, IfOk}
+use Rattle.std.specs.Prelude.{◌≡◌, ℕ, ℤ, Bool, true, false, List, Option, Ok, Err, IfOk}
 use Rattle.bind_expr.specs.Outcome.{Outcome}
 use Rattle.bind_expr.specs.declared.fault.BindFault.TheVariants as bind
 use Rattle.bind_query.specs.Bound.{bound}
+use Rattle.csv_io.specs.Reload.{typed_text}
 use Rattle.csv_io.specs.Text.{table_text}
 use Rattle.kql_bound.specs.declared.plan.Program.{Program}
 use Rattle.kql_cells.specs.Table.{Grid}
@@ -60,7 +61,7 @@ pub record IsBound (tokens : Answer (List Token)) (tables : Answer (List Named))
 
 -- this is the query of a command, bound, or the first refusal
 abbrev pub IsBoundAsked : List (List ℕ) → Files → Asked → Answer BoundQuery → Type 0
-IsBoundAsked words files asked a = IsBound (file_tokens files (query_path words asked)) (tables_from files 1 0 (table_words words asked)) asked.moment a
+IsBoundAsked words files asked a = IsBound (file_tokens files (query_path words asked)) (tables_from files 1 asked.options.limit (table_words words asked)) asked.options.moment a
 
 -- The rows of a query that is bound: those that its program means. What is bound fits the schemas of its tables, so that it has rows.
 abbrev pub rows_of : Answer BoundQuery → Answer Grid
@@ -78,14 +79,19 @@ pub record AreRows (tokens : Answer (List Token)) (tables : Answer (List Named))
 
 -- these are the rows that a query's command asks for, or the first refusal
 abbrev pub AreRowsAsked : List (List ℕ) → Files → Asked → Answer Grid → Type 0
-AreRowsAsked words files asked a = AreRows (file_tokens files (query_path words asked)) (tables_from files 1 0 (table_words words asked)) asked.moment a
+AreRowsAsked words files asked a = AreRows (file_tokens files (query_path words asked)) (tables_from files 1 asked.options.limit (table_words words asked)) asked.options.moment a
+
+-- the text of a table, with the types of its columns in the header or without
+abbrev pub text_as : Bool → Grid → List ℕ
+text_as true grid = typed_text grid
+text_as false grid = table_text grid
 
 -- the text of rows as a table
-abbrev pub text_of : Answer Grid → Answer (List ℕ)
-text_of rows = rows >>= λ grid. Ok (table_text grid)
+abbrev pub text_of : Bool → Answer Grid → Answer (List ℕ)
+text_of types rows = rows >>= λ grid. Ok (text_as types grid)
 
 -- this is the text that a query's command asks for, or the first refusal
 pub record AnswersQuery (words : List (List ℕ)) (files : Files) (asked : Asked) (a : Answer (List ℕ)) : Type 0 where
   pub rows : Answer Grid
   pub are : AreRowsAsked words files asked rows
-  pub is : a ≡ text_of rows
+  pub is : a ≡ text_of asked.options.types rows

@@ -4,8 +4,9 @@ ghost use Rattle.kql_outside.specs.Causes.{Rose};
 ghost use Rattle.kql_cells.specs.Named.{IsAbsent};
 ghost use Rattle.kql_cells.specs.Catalogues.{table_name};
 ghost use Rattle.kql_words.specs.Command.{AreTables, name_in, names_table, texts};
+ghost use Rattle.kql_words.specs.Sizes.{size_top};
 ghost use Rattle.kql_program.specs.Calls.{StopsAtRead};
-ghost use Rattle.kql_program.specs.Files.{AddsTable, ReadsFront, ReadsTable, bytes_top, file_bytes, file_tokens, loaded_as, query_tokens, tables_from};
+ghost use Rattle.kql_program.specs.Files.{AddsTable, ReadsFront, ReadsTable, file_bytes, file_tokens, loaded_as, query_tokens, tables_from};
 ghost use Rattle.kql_program.specs.Outcomes.{RefusesNoWord};
 ghost use Rattle.kql_program.specs.Refusals.{Computes, Gives};
 ghost use Rattle.csv_io.specs.Load.{loaded};
@@ -20,9 +21,6 @@ use kql_outside::{Shelf, read_up_to};
 use kql_values::{Catalogue, Named, Table};
 use kql_words::{Refusal, table_parts};
 use std::alloc::Global;
-
-/// How many bytes the table files may have together.
-const BYTES_TOP: usize = 67_108_864;
 
 // Reads a file's first bytes, at most so many; a path without a file is 307.
 fn read_file<F: Shelf>(
@@ -74,84 +72,85 @@ pub(crate) fn read_tokens(alloc: Global, text: &[u8]) -> Result<Tokens, Stop>
     Ok(lex(alloc, text)?)
 }
 
-/// The tables of the words NAME=PATH, each file started, read and loaded before the next.
+/// The tables of the words NAME=PATH, each file started, read and loaded before the next. The files may have `limit` bytes together.
 pub(crate) fn read_tables<F: Shelf>(
     alloc: Global,
     shelf: &mut F,
     words: &[String],
+    limit: u64,
 ) -> Result<Catalogue, Stop>
-    requires { AreTables (texts words.now) }
+    requires tables { AreTables (texts words.now) }
+    requires limit { limit ≤ size_top }
     ensures files { F.files shelf.new ≡ F.files shelf.old }
     ensures later { F.faults shelf.old ≤ F.faults shelf.new }
     ensures failed { result ≡ Err stop.ReadFault → Rose (F.faults shelf.old) (F.faults shelf.new) }
     ensures stops { StopsAtRead (F.calls shelf.old) (F.calls shelf.new) result }
-    ensures tables { IfSome (F.files shelf.old) (λ files. Computes (tables_from files 1 0 (texts words.now)) result) }
+    ensures tables { IfSome (F.files shelf.old) (λ files. Computes (tables_from files 1 limit (texts words.now)) result) }
     ensures words { RefusesNoWord result }
 {
     let mut catalogue = Catalogue::new(alloc);
-    let mut used = 0;
+    let mut room = limit as usize;
     for i in 0..words.len() {
         let number = i as u32 + 1;
-        used = add_table(
+        room = add_table(
             alloc,
             shelf,
             words[i].as_str(),
             number,
-            used,
+            room,
             &mut catalogue,
         )?;
     }
     Ok(catalogue)
 }
 
-// Adds the table of a word, behind so many bytes of table files; answers how many they are with its own.
+// Adds the table of a word, whose file may have so many bytes; answers how many those behind it may have.
 fn add_table<F: Shelf>(
     alloc: Global,
     shelf: &mut F,
     word: &str,
     number: u32,
-    used: usize,
+    room: usize,
     catalogue: &mut Catalogue,
 ) -> Result<usize, Stop>
     requires names { names_table word.now ≡ true }
     requires fresh { IsAbsent table_name (name_in word.now) catalogue.old }
-    requires few { used ≤ bytes_top }
+    requires few { room ≤ size_top }
     ensures files { F.files shelf.new ≡ F.files shelf.old }
     ensures later { F.faults shelf.old ≤ F.faults shelf.new }
     ensures failed { result ≡ Err stop.ReadFault → Rose (F.faults shelf.old) (F.faults shelf.new) }
     ensures stops { StopsAtRead (F.calls shelf.old) (F.calls shelf.new) result }
-    ensures few { IfOk result (λ more. more ≤ bytes_top) }
+    ensures few { IfOk result (λ left. left ≤ size_top) }
     ensures names { OnOk result (map table_name catalogue.new ≡ map table_name catalogue.old ++ name_in word.now ∷ []) }
-    ensures table { IfSome (F.files shelf.old) (λ files. AddsTable files number used word.now catalogue.old catalogue.new result) }
+    ensures table { IfSome (F.files shelf.old) (λ files. AddsTable files number room word.now catalogue.old catalogue.new result) }
     ensures words { RefusesNoWord result }
 {
     let (name, path) = table_parts(word).unwrap();
-    let (table, used) = read_table(alloc, shelf, path, number, used)?;
+    let (table, left) = read_table(alloc, shelf, path, number, room)?;
     let name = KText::from_str(alloc, name)?;
     catalogue.push(Named { name, table })?;
-    Ok(used)
+    Ok(left)
 }
 
-// The table of a file, behind so many bytes of table files, with how many they are then; above 67,108,864 is 308.
+// The table of a file of so many bytes at the most, and how many the files behind it may have; one byte more is 308.
 fn read_table<F: Shelf>(
     alloc: Global,
     shelf: &mut F,
     path: &str,
     number: u32,
-    used: usize,
+    room: usize,
 ) -> Result<(Table, usize), Stop>
-    requires { used ≤ bytes_top }
+    requires few { room ≤ size_top }
     ensures files { F.files shelf.new ≡ F.files shelf.old }
     ensures later { F.faults shelf.old ≤ F.faults shelf.new }
     ensures failed { result ≡ Err stop.ReadFault → Rose (F.faults shelf.old) (F.faults shelf.new) }
     ensures stops { StopsAtRead (F.calls shelf.old) (F.calls shelf.new) result }
-    ensures few { IfOk result (λ read. read.1 ≤ bytes_top) }
-    ensures table { IfSome (F.files shelf.old) (λ files. ReadsTable files number used path.now result) }
+    ensures few { IfOk result (λ read. read.1 ≤ size_top) }
+    ensures table { IfSome (F.files shelf.old) (λ files. ReadsTable files number room path.now result) }
     ensures words { RefusesNoWord result }
 {
-    let bytes = read_file(alloc, shelf, path, number, BYTES_TOP - used + 1)?;
-    let used = used + bytes.len();
-    if used > BYTES_TOP {
+    let bytes = read_file(alloc, shelf, path, number, room + 1)?;
+    if bytes.len() > room {
         return Err(Stop::Refused(Refusal::Data {
             file: number,
             code: 308,
@@ -159,8 +158,9 @@ fn read_table<F: Shelf>(
             column: 0,
         }));
     }
+    let left = room - bytes.len();
     let table = load_table(alloc, number, bytes.as_slice())?;
-    Ok((table, used))
+    Ok((table, left))
 }
 
 fn load_table(alloc: Global, number: u32, bytes: &[u8]) -> Result<Table, Stop>

@@ -1,6 +1,5 @@
 //! The steps of the answer: query file, syntax, table files, binding, and then the text that the command asks for. The first fault stops them.
 ghost use Rattle.std.specs.Prelude.{◌≡◌, ◌≤◌, ◌<◌, ◌+◌, Err, IfOk, IfSome, IsTrue, Ok, drop, length, true, ℕ};
-ghost use Rattle.csv_io.specs.Text.{table_text};
 ghost use Rattle.kql_cells.specs.Catalogues.{schemas_of};
 ghost use Rattle.kql_cells.specs.Values.{IsMoment};
 ghost use Rattle.kql_meaning.specs.Fits.{fits};
@@ -16,12 +15,13 @@ ghost use Rattle.kql_program.specs.Calls.{HasOwnFault, StartsFor, StopsAtRead};
 ghost use Rattle.kql_program.specs.Files.{tables_from};
 ghost use Rattle.kql_program.specs.Outcomes.{IsDone, ReadsFor, RefusesNoWord, TriesFor, asked_in, text_in};
 ghost use Rattle.kql_program.specs.Plans.{AnswersExplain, IsExplainedBy, IsRunBy};
-ghost use Rattle.kql_program.specs.Queries.{AnswersQuery, IsBound, IsBoundAsked, bound_with};
+ghost use Rattle.kql_program.specs.Queries.{AnswersQuery, IsBound, IsBoundAsked, bound_with, text_as};
 ghost use Rattle.kql_program.specs.Refusals.{Computes, Finds, Reaches};
 ghost use Rattle.kql_program.specs.Trials.{AnswersTrial};
 ghost use Rattle.kql_program.specs.declared.ended.Ended.TheVariants as ended;
 ghost use Rattle.kql_program.specs.declared.refusal.Stop.TheVariants as stop;
 ghost use Rattle.kql_words.specs.Command.{AreTables, IfAsks, texts};
+ghost use Rattle.kql_words.specs.Sizes.{size_top};
 ghost use Rattle.kql_words.specs.declared.command.Command.TheVariants as command;
 
 use crate::bound::{BoundQuery, Done};
@@ -30,7 +30,7 @@ use crate::evaluate::{bound_over, plan_of, planned_rows};
 use crate::files::{read_query, read_tables};
 use crate::refusal::Stop;
 use crate::trial::trial_text;
-use csv_io::table_text;
+use csv_io::{table_text, typed_text};
 use kql_bound::Program;
 use kql_cells::Bytes;
 use kql_items::Items;
@@ -41,7 +41,8 @@ use kql_parser_laws::law_of_patterns;
 use kql_plain::plain;
 use kql_plan_text::plan_text;
 use kql_syntax::Query;
-use kql_words::{Asked, Command, Trial};
+use kql_values::Table;
+use kql_words::{Asked, Command, Options, Trial};
 use std::alloc::{AllocError, Global};
 
 /// The text that a command asks for, which these words are, and the ending after it.
@@ -53,7 +54,8 @@ pub(crate) fn command_text<F: Shelf>(
 ) -> Result<Done, Stop>
     requires within { IfAsks (λ a. a.query < length words.now) command }
     requires tables { IfAsks (λ a. AreTables (texts (drop (a.query + 1) words.now))) command }
-    requires moment { IfAsks (λ a. IfSome a.moment IsMoment) command }
+    requires moment { IfAsks (λ a. IfSome a.options.moment IsMoment) command }
+    requires limit { IfAsks (λ a. a.options.limit ≤ size_top) command }
     ensures files { F.files shelf.new ≡ F.files shelf.old }
     ensures failed { result ≡ Err stop.ReadFault → Rose (F.faults shelf.old) (F.faults shelf.new) }
     ensures stops { StopsAtRead (F.calls shelf.old) (F.calls shelf.new) result }
@@ -81,7 +83,8 @@ fn query_run<F: Shelf>(
 ) -> Result<Done, Stop>
     requires within { asked.query < length words.now }
     requires tables { AreTables (texts (drop (asked.query + 1) words.now)) }
-    requires moment { IfSome asked.moment IsMoment }
+    requires moment { IfSome asked.options.moment IsMoment }
+    requires limit { asked.options.limit ≤ size_top }
     ensures files { F.files shelf.new ≡ F.files shelf.old }
     ensures failed { result ≡ Err stop.ReadFault → Rose (F.faults shelf.old) (F.faults shelf.new) }
     ensures stops { StopsAtRead (F.calls shelf.old) (F.calls shelf.new) result }
@@ -91,7 +94,7 @@ fn query_run<F: Shelf>(
     ensures words { RefusesNoWord result }
 {
     let bound = query_bound(alloc, words, asked, shelf)?;
-    Ok(bound_run(alloc, &bound)?)
+    Ok(bound_run(alloc, &bound, asked.options.types)?)
 }
 
 // The same, answered operator by operator, as the query is written.
@@ -103,7 +106,8 @@ fn query_plain<F: Shelf>(
 ) -> Result<Done, Stop>
     requires within { asked.query < length words.now }
     requires tables { AreTables (texts (drop (asked.query + 1) words.now)) }
-    requires moment { IfSome asked.moment IsMoment }
+    requires moment { IfSome asked.options.moment IsMoment }
+    requires limit { asked.options.limit ≤ size_top }
     ensures files { F.files shelf.new ≡ F.files shelf.old }
     ensures failed { result ≡ Err stop.ReadFault → Rose (F.faults shelf.old) (F.faults shelf.new) }
     ensures stops { StopsAtRead (F.calls shelf.old) (F.calls shelf.new) result }
@@ -113,7 +117,7 @@ fn query_plain<F: Shelf>(
     ensures words { RefusesNoWord result }
 {
     let bound = query_bound(alloc, words, asked, shelf)?;
-    Ok(bound_plain(alloc, &bound)?)
+    Ok(bound_plain(alloc, &bound, asked.options.types)?)
 }
 
 // The text of a plan of the query.
@@ -125,7 +129,8 @@ fn query_explained<F: Shelf>(
 ) -> Result<Done, Stop>
     requires within { asked.query < length words.now }
     requires tables { AreTables (texts (drop (asked.query + 1) words.now)) }
-    requires moment { IfSome asked.moment IsMoment }
+    requires moment { IfSome asked.options.moment IsMoment }
+    requires limit { asked.options.limit ≤ size_top }
     ensures files { F.files shelf.new ≡ F.files shelf.old }
     ensures failed { result ≡ Err stop.ReadFault → Rose (F.faults shelf.old) (F.faults shelf.new) }
     ensures stops { StopsAtRead (F.calls shelf.old) (F.calls shelf.new) result }
@@ -152,13 +157,13 @@ fn trial_done(alloc: Global, trial: Trial) -> Result<Done, Stop>
 }
 
 // What `run` makes of a query that is bound.
-fn bound_run(alloc: Global, bound: &BoundQuery) -> Result<Done, AllocError>
+fn bound_run(alloc: Global, bound: &BoundQuery, types: bool) -> Result<Done, AllocError>
     requires fits { IsTrue (fits bound.now.program (schemas_of bound.now.catalogue)) }
-    ensures text { IfOk result (λ done. done.text ≡ table_text (means bound.now.program bound.now.catalogue)) }
-    ensures plan { IfOk result (λ done. IsRunBy bound.now.program bound.now.catalogue done.text done.ended) }
+    ensures text { IfOk result (λ done. done.text ≡ text_as types (means bound.now.program bound.now.catalogue)) }
+    ensures plan { IfOk result (λ done. IsRunBy types bound.now.program bound.now.catalogue done.text done.ended) }
 {
     let (rows, plan) = planned_rows(alloc, bound.program.get(), &bound.catalogue)?;
-    let text = table_text(alloc, &rows)?;
+    let text = text_as(alloc, &rows, types)?;
     Ok(Done {
         text,
         ended: Ended::Table { plan },
@@ -166,13 +171,13 @@ fn bound_run(alloc: Global, bound: &BoundQuery) -> Result<Done, AllocError>
 }
 
 // What `plain` makes of it.
-fn bound_plain(alloc: Global, bound: &BoundQuery) -> Result<Done, AllocError>
+fn bound_plain(alloc: Global, bound: &BoundQuery, types: bool) -> Result<Done, AllocError>
     requires fits { IsTrue (fits bound.now.program (schemas_of bound.now.catalogue)) }
-    ensures text { IfOk result (λ done. done.text ≡ table_text (means bound.now.program bound.now.catalogue)) }
+    ensures text { IfOk result (λ done. done.text ≡ text_as types (means bound.now.program bound.now.catalogue)) }
     ensures ended { IfOk result (λ done. done.ended ≡ ended.PlainTable) }
 {
     let rows = plain(alloc, bound.program.get(), &bound.catalogue)?;
-    let text = table_text(alloc, &rows)?;
+    let text = text_as(alloc, &rows, types)?;
     Ok(Done {
         text,
         ended: Ended::PlainTable,
@@ -193,6 +198,17 @@ fn bound_explained(alloc: Global, bound: &BoundQuery) -> Result<Done, AllocError
     })
 }
 
+// The text of a table, with the types of its columns in the header where they are asked for.
+fn text_as(alloc: Global, rows: &Table, types: bool) -> Result<Bytes, AllocError>
+    ensures text { IfOk result (λ text. text ≡ text_as types rows.now) }
+{
+    if types {
+        typed_text(alloc, rows)
+    } else {
+        table_text(alloc, rows)
+    }
+}
+
 // The text of a plan, as bytes.
 fn text_of(alloc: Global, plan: &Program) -> Result<Bytes, AllocError>
     ensures text { IfOk result (λ text. text ≡ plan_text plan.now) }
@@ -211,7 +227,8 @@ fn query_bound<F: Shelf>(
 ) -> Result<BoundQuery, Stop>
     requires within { asked.query < length words.now }
     requires tables { AreTables (texts (drop (asked.query + 1) words.now)) }
-    requires moment { IfSome asked.moment IsMoment }
+    requires moment { IfSome asked.options.moment IsMoment }
+    requires limit { asked.options.limit ≤ size_top }
     ensures files { F.files shelf.new ≡ F.files shelf.old }
     ensures later { F.faults shelf.old ≤ F.faults shelf.new }
     ensures failed { result ≡ Err stop.ReadFault → Rose (F.faults shelf.old) (F.faults shelf.new) }
@@ -223,7 +240,7 @@ fn query_bound<F: Shelf>(
 {
     let tokens = read_query(alloc, shelf, words[asked.query].as_str())?;
     let tables = &words[asked.query + 1..];
-    parsed_bound(alloc, shelf, &tokens, asked.moment, tables)
+    parsed_bound(alloc, shelf, &tokens, asked.options, tables)
 }
 
 // The query that tokens are, bound to the tables that words name.
@@ -231,23 +248,24 @@ fn parsed_bound<F: Shelf>(
     alloc: Global,
     shelf: &mut F,
     tokens: &Tokens,
-    moment: Option<i64>,
+    options: Options,
     words: &[String],
 ) -> Result<BoundQuery, Stop>
-    requires moment { IfSome moment IsMoment }
+    requires moment { IfSome options.moment IsMoment }
+    requires limit { options.limit ≤ size_top }
     requires tables { AreTables (texts words.now) }
     ensures files { F.files shelf.new ≡ F.files shelf.old }
     ensures later { F.faults shelf.old ≤ F.faults shelf.new }
     ensures failed { result ≡ Err stop.ReadFault → Rose (F.faults shelf.old) (F.faults shelf.new) }
     ensures stops { StopsAtRead (F.calls shelf.old) (F.calls shelf.new) result }
     ensures starts { (code : ℕ) (place : Place) → Refuses tokens.now code place → F.starts shelf.new ≡ F.starts shelf.old }
-    ensures bound { IfSome (F.files shelf.old) (λ files. Reaches (IsBound (Ok tokens.now) (tables_from files 1 0 (texts words.now)) moment) result) }
+    ensures bound { IfSome (F.files shelf.old) (λ files. Reaches (IsBound (Ok tokens.now) (tables_from files 1 options.limit (texts words.now)) options.moment) result) }
     ensures fits { IfOk result (λ b. IsTrue (fits b.program (schemas_of b.catalogue))) }
     ensures words { RefusesNoWord result }
 {
     let query = parse(alloc, tokens)?;
     law_of_patterns();
-    let bound = asked_bound(alloc, shelf, &query, moment, words);
+    let bound = asked_bound(alloc, shelf, &query, options, words);
     drop(query);
     bound
 }
@@ -257,20 +275,21 @@ fn asked_bound<F: Shelf>(
     alloc: Global,
     shelf: &mut F,
     query: &Query,
-    moment: Option<i64>,
+    options: Options,
     words: &[String],
 ) -> Result<BoundQuery, Stop>
-    requires moment { IfSome moment IsMoment }
+    requires moment { IfSome options.moment IsMoment }
+    requires limit { options.limit ≤ size_top }
     requires patterns { has_patterns query.now ≡ true }
     requires tables { AreTables (texts words.now) }
     ensures files { F.files shelf.new ≡ F.files shelf.old }
     ensures later { F.faults shelf.old ≤ F.faults shelf.new }
     ensures failed { result ≡ Err stop.ReadFault → Rose (F.faults shelf.old) (F.faults shelf.new) }
     ensures stops { StopsAtRead (F.calls shelf.old) (F.calls shelf.new) result }
-    ensures bound { IfSome (F.files shelf.old) (λ files. Computes (bound_with (tables_from files 1 0 (texts words.now)) moment query.now) result) }
+    ensures bound { IfSome (F.files shelf.old) (λ files. Computes (bound_with (tables_from files 1 options.limit (texts words.now)) options.moment query.now) result) }
     ensures fits { IfOk result (λ b. IsTrue (fits b.program (schemas_of b.catalogue))) }
     ensures words { RefusesNoWord result }
 {
-    let catalogue = read_tables(alloc, shelf, words)?;
-    bound_over(alloc, query, moment, catalogue)
+    let catalogue = read_tables(alloc, shelf, words, options.limit)?;
+    bound_over(alloc, query, options.moment, catalogue)
 }

@@ -1,8 +1,9 @@
-ghost use Rattle.std.specs.Prelude.{◌≡◌, ◌<◌, ◌+◌, IfSome, Ok, drop, length};
+ghost use Rattle.std.specs.Prelude.{◌≡◌, ◌≤◌, ◌<◌, ◌+◌, IfSome, Ok, drop, length};
 ghost use Rattle.kql_cells.specs.Values.{IsMoment};
 ghost use Rattle.kql_program.specs.Answer.{HasOneAnswer};
 ghost use Rattle.kql_program.specs.Calls.{EndsAtWrite, HeedsFaults, LineEndsAtWrite, StartsFor, calls_now};
 ghost use Rattle.kql_words.specs.Command.{AreTables, IfAsks, command_of, texts};
+ghost use Rattle.kql_words.specs.Sizes.{size_top};
 ghost use Rattle.kql_program.specs.Outcomes.{HasOutcome, SinkNow, Writes, WritesStop, asked_in, outside, sink_now};
 ghost use Rattle.kql_program.specs.declared.refusal.Stop.TheVariants as stop;
 
@@ -78,7 +79,8 @@ fn answer_command<F: Shelf, O: Sink, E: Sink>(
     requires read { Ok command ≡ command_of (texts words.now) }
     requires within { IfAsks (λ a. a.query < length words.now) command }
     requires tables { IfAsks (λ a. AreTables (texts (drop (a.query + 1) words.now))) command }
-    requires moment { IfAsks (λ a. IfSome a.moment IsMoment) command }
+    requires moment { IfAsks (λ a. IfSome a.options.moment IsMoment) command }
+    requires limit { IfAsks (λ a. a.options.limit ≤ size_top) command }
     ensures files { F.files shelf.new ≡ F.files shelf.old }
     ensures outcome { let out_at : O → SinkNow = λ o. sink_now (O.written o) (O.room o) (O.faults o) in
         let err_at : E → SinkNow = λ e. sink_now (E.written e) (E.room e) (E.faults e) in

@@ -49,10 +49,10 @@ numbered m n names (word ∷ words) e =
     let parts = both-empty (table_faults m names word) (tables_faults (m + 1) (names ++ name_in word ∷ []) words) e in
     rw (word-numbered m n names word parts.0, numbered (m + 1) (n + 1) (names ++ name_in word ∷ []) words parts.1) refl
 
-pub asked-ok : (words rest : List (String Global)) (c : Asked) (x : Unit {0}) → Ok c ≡ asked_from 1 no_options (texts words) → rest ≡ take (length words - c.query) (drop c.query words)
-    → Ok x ≡ unless (tables_faults (c.query + 1) [] (texts rest)) (tt {0}) → Ok c ≡ asked_of (texts words)
+pub asked-ok : (types : Bool) (words rest : List (String Global)) (c : Asked) (x : Unit {0}) → Ok c ≡ asked_from types 1 no_options (texts words) → rest ≡ take (length words - c.query) (drop c.query words)
+    → Ok x ≡ unless (tables_faults (c.query + 1) [] (texts rest)) (tt {0}) → Ok c ≡ asked_of types (texts words)
 unfolding asked_of
-asked-ok words rest c x e r h =
+asked-ok types words rest c x e r h =
     rw (← e, ← texts-rest words rest c.query r) (sym (unless-ok (tables_faults (c.query + 1) [] (texts rest)) c x h))
 
 pub asked-tables : (words rest : List (String Global)) (c : Asked) (x : Unit {0}) → rest ≡ take (length words - c.query) (drop c.query words)
@@ -60,8 +60,8 @@ pub asked-tables : (words rest : List (String Global)) (c : Asked) (x : Unit {0}
 asked-tables words rest c x r h =
     numbered (c.query + 1) 0 [] (texts (drop c.query words)) (rw (← rest-of words c.query, ← r) (no-faults (tables_faults (c.query + 1) [] (texts rest)) (tt {0}) x h))
 
-pub asked-err : (words rest : List (String Global)) (c : Asked) (r : Refusal) → Ok c ≡ asked_from 1 no_options (texts words) → rest ≡ take (length words - c.query) (drop c.query words)
-    → Err r ≡ unless (tables_faults (c.query + 1) [] (texts rest)) (tt {0}) → asked_of (texts words) ≡ Err r
+pub asked-err : (types : Bool) (words rest : List (String Global)) (c : Asked) (r : Refusal) → Ok c ≡ asked_from types 1 no_options (texts words) → rest ≡ take (length words - c.query) (drop c.query words)
+    → Err r ≡ unless (tables_faults (c.query + 1) [] (texts rest)) (tt {0}) → asked_of types (texts words) ≡ Err r
 unfolding asked_of
-asked-err words rest c r e s h =
+asked-err types words rest c r e s h =
     rw (← e, ← texts-rest words rest c.query s) (unless-err (tables_faults (c.query + 1) [] (texts rest)) c (tt {0}) r h)

@@ -2,3 +2,4 @@ pub mod AskedLaws
 pub mod CommandLaws
 pub mod TrialFacts
 pub mod UnlessFacts
+mod SizeFacts

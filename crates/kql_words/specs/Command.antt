@@ -1,5 +1,5 @@
 -- The words of the command: `run`, `plain` or `explain`, options, QUERY, and then NAME=PATH ..; or `trial` and its words.
-use Rattle.std.specs.Prelude.{◌≡◌, ℕ, ◌+◌, ◌==◌, ◌&&◌, not, nat_le, Bool, List, [], ◌∷◌, ◌++◌, String, string_bytes, Ok, Err, drop, length, map, slice_index_or, codes, if◌then◌else◌}
+use Rattle.std.specs.Prelude.{◌≡◌, ℕ, ◌+◌, ◌==◌, ◌&&◌, not, nat_le, Bool, true, false, List, [], ◌∷◌, ◌++◌, String, string_bytes, Option, Ok, Err, drop, length, map, slice_index_or, codes, if◌then◌else◌}
 use Rattle.std.specs.Global.{Global}
 use Rattle.std.specs.List.{after_first, before_first, list_any}
 use Rattle.std.specs.Str.{bytes_eq}
@@ -55,10 +55,10 @@ tables_faults number names (word ∷ words) = table_faults number names word ++ 
 abbrev pub AreTables : List (List ℕ) → Type 0
 AreTables words = tables_faults 0 [] words ≡ []
 
--- what the words behind `run`, `plain` or `explain` ask for: options, QUERY, and words that name tables
-unfoldable pub asked_of : List (List ℕ) → Answer Asked
-asked_of words = do
-  asked ← asked_from 1 no_options words
+-- what the words behind `run`, `plain` or `explain` ask for: options, with `--types` where they may ask for types, QUERY, and words that name tables
+unfoldable pub asked_of : Bool → List (List ℕ) → Answer Asked
+asked_of may_have_types words = do
+  asked ← asked_from may_have_types 1 no_options words
   unless (tables_faults (asked.query + 1) [] (drop asked.query words)) asked
 
 -- commands of what is asked for
@@ -78,9 +78,9 @@ trial_as trial = trial >>= λ t. Ok (command.Trial t)
 unfoldable pub command_of : List (List ℕ) → Answer Command
 command_of [] = Err (Usage 0 601)
 command_of (word ∷ words) =
-    if bytes_eq word (codes "run") then run_as (asked_of words)
-    else if bytes_eq word (codes "plain") then plain_as (asked_of words)
-    else if bytes_eq word (codes "explain") then explain_as (asked_of words)
+    if bytes_eq word (codes "run") then run_as (asked_of true words)
+    else if bytes_eq word (codes "plain") then plain_as (asked_of true words)
+    else if bytes_eq word (codes "explain") then explain_as (asked_of false words)
     else if bytes_eq word (codes "trial") then trial_as (trial_of words)
     else Err (Usage 0 602)
 
@@ -97,3 +97,10 @@ query_path words asked = slice_index_or words asked.query []
 
 abbrev pub table_words : List (List ℕ) → Asked → List (List ℕ)
 table_words words asked = drop (asked.query + 1) words
+
+-- how many workers a command asks for, where a number is given
+abbrev pub workers_of : Command → Option ℕ
+workers_of (command.Run a) = a.options.workers
+workers_of (command.Plain a) = a.options.workers
+workers_of (command.Explain a) = a.options.workers
+workers_of (command.Trial t) = t.workers

@@ -1,4 +1,5 @@
 pub mod Command
 pub mod Options
 pub mod Refusals
+pub mod Sizes
 pub mod TrialWords

@@ -2,10 +2,12 @@ ghost use Rattle.std.specs.Prelude.{◌≡◌, ◌≤◌, ◌<◌, ◌+◌, [], 
 ghost use Rattle.std.specs.List.{list_any};
 ghost use Rattle.std.specs.Str.{bytes_eq};
 ghost use Rattle.kql_cells.specs.Values.{IsMoment};
-ghost use Rattle.kql_words.specs.Command.{AreTables, IfAsks, asked_of, command_of, name_in, names_table, path_in, table_faults, tables_faults, texts};
+ghost use Rattle.kql_words.specs.Command.{AreTables, IfAsks, asked_of, command_of, name_in, names_table, path_in, table_faults, tables_faults, texts, workers_of};
+ghost use Rattle.kql_words.specs.Options.{AreWorkers};
 ghost use Rattle.kql_words.specs.Refusals.{unless};
+ghost use Rattle.kql_words.specs.Sizes.{size_top};
 
-use crate::options::read_options;
+use crate::options::{Options, read_options};
 use crate::refusal::Refusal;
 use crate::trial::{Trial, read_trial};
 use kql_lexer::{is_reserved, is_word};
@@ -18,10 +20,8 @@ const TABLES_TOP: usize = 64;
 pub struct Asked {
     /// The number of the word QUERY, from 0; the words behind it name tables.
     pub query: usize,
-    /// How many workers are asked for, 1 to 64.
-    pub workers: u32,
-    /// The moment that `now()` stands for, in ticks and in the range of a datetime, where one is given.
-    pub moment: Option<i64>,
+    /// What the options in front of QUERY say.
+    pub options: Options,
 }
 
 /// The words of a command that has no fault.
@@ -43,17 +43,19 @@ pub fn read_command(words: &[String]) -> Result<Command, Refusal>
     ensures read { result ≡ command_of (texts words.now) }
     ensures within { IfOk result (IfAsks (λ a. a.query < length words.now)) }
     ensures tables { IfOk result (IfAsks (λ a. AreTables (texts (drop (a.query + 1) words.now)))) }
-    ensures moment { IfOk result (IfAsks (λ a. IfSome a.moment IsMoment)) }
+    ensures moment { IfOk result (IfAsks (λ a. IfSome a.options.moment IsMoment)) }
+    ensures limit { IfOk result (IfAsks (λ a. a.options.limit ≤ size_top)) }
+    ensures workers { IfOk result (λ c. IfSome (workers_of c) AreWorkers) }
 {
     match words {
         [] => Err(Refusal::Usage { word: 0, code: 601 }),
         [command, rest @ ..] => {
             if command.as_str() == "run" {
-                Ok(Command::Run(read_asked(rest)?))
+                Ok(Command::Run(read_asked(rest, true)?))
             } else if command.as_str() == "plain" {
-                Ok(Command::Plain(read_asked(rest)?))
+                Ok(Command::Plain(read_asked(rest, true)?))
             } else if command.as_str() == "explain" {
-                Ok(Command::Explain(read_asked(rest)?))
+                Ok(Command::Explain(read_asked(rest, false)?))
             } else if command.as_str() == "trial" {
                 Ok(Command::Trial(read_trial(rest)?))
             } else {
@@ -63,22 +65,24 @@ pub fn read_command(words: &[String]) -> Result<Command, Refusal>
     }
 }
 
-// What the words behind `run`, `plain` or `explain` ask for.
+// What the words behind `run`, `plain` or `explain` ask for, whether or not they may ask for types.
 #[tactic(auto, unfolding(crate::specs::Command::asked_of))]
-fn read_asked(words: &[String]) -> Result<Asked, Refusal>
-    ensures read { result ≡ asked_of (texts words.now) }
+fn read_asked(words: &[String], may_have_types: bool) -> Result<Asked, Refusal>
+    ensures read { result ≡ asked_of may_have_types (texts words.now) }
     ensures within { IfOk result (λ a. a.query ≤ length words.now) }
     ensures tables { IfOk result (λ a. AreTables (texts (drop a.query words.now))) }
-    ensures moment { IfOk result (λ a. IfSome a.moment IsMoment) }
+    ensures moment { IfOk result (λ a. IfSome a.options.moment IsMoment) }
+    ensures limit { IfOk result (λ a. a.options.limit ≤ size_top) }
+    ensures workers { IfOk result (λ a. IfSome a.options.workers AreWorkers) }
 {
-    let asked = read_options(words)?;
+    let asked = read_options(words, may_have_types)?;
     check_tables(&words[asked.query..], asked.query as u32 + 1)?;
     Ok(asked)
 }
 
 // The words NAME=PATH, of which the first has this number.
 fn check_tables(words: &[String], first: u32) -> Result<(), Refusal>
-    requires { first ≤ 6 }
+    requires { first ≤ 9 }
     ensures checked { result ≡ unless (tables_faults first [] (texts words.now)) tt }
 {
     for i in 0..words.len() {

@@ -1,20 +1,36 @@
+//! The options of a command, in front of QUERY.
 ghost use Rattle.std.specs.Prelude.{◌≡◌, ◌≤◌, ◌+◌, length, IfOk, IfSome};
 ghost use Rattle.kql_cells.specs.Values.{IsMoment};
 ghost use Rattle.kql_words.specs.Command.{texts};
-ghost use Rattle.kql_words.specs.Options.{IfGiven, asked_at, asked_from, due, is_due, is_option, missing_code, no_options, options_after, value_of, value_or, valued, with_moment, with_workers, words_in, workers_in};
+ghost use Rattle.kql_words.specs.Options.{AreWorkers, IfGiven, asked_at, asked_from, due, flagged, is_due, is_option, missing_code, no_options, options_after, valued, with_limit, with_moment, with_types, with_workers, words_in, workers_in};
+ghost use Rattle.kql_words.specs.Sizes.{size_top};
 
 use crate::command::Asked;
 use crate::refusal::Refusal;
+use crate::size::size_in;
 use kql_cells::read_long;
 use kql_ticks::read_moment;
 
 /// How many workers a command may ask for.
 const WORKERS_TOP: i64 = 64;
 
-/// How many workers a command has that asks for none.
-pub(crate) const WORKERS_UNGIVEN: u32 = 4;
+/// How many bytes table files may have together where no limit is given.
+const LIMIT_UNGIVEN: u64 = 67_108_864;
 
-/// What is known of an option.
+/// What the options of a command say.
+#[derive(Clone, Copy, Debug)]
+pub struct Options {
+    /// How many workers are asked for, 1 to 64, where a number is given.
+    pub workers: Option<u32>,
+    /// The moment that `now()` stands for, in ticks and in the range of a datetime, where one is given.
+    pub moment: Option<i64>,
+    /// How many bytes the table files may have together, up to 1 TiB.
+    pub limit: u64,
+    /// Whether the header of the answer has the types of its columns.
+    pub types: bool,
+}
+
+/// What is known of an option with a value.
 #[derive(Clone, Copy, Debug, PartialEq, Eq)]
 pub(crate) enum Given<T> {
     /// It was not given.
@@ -25,29 +41,35 @@ pub(crate) enum Given<T> {
     Is(T),
 }
 
-/// The options of a command.
+/// The options so far.
 #[derive(Clone, Copy, Debug)]
-pub(crate) struct Options {
+pub(crate) struct SoFar {
     pub workers: Given<u32>,
     pub moment: Given<i64>,
+    pub limit: Given<u64>,
+    pub types: bool,
 }
 
 /// What the words behind `run`, `plain` or `explain` ask for, up to QUERY: the words in front of it are options.
 #[tactic(auto, unfolding(crate::specs::Options::asked_from))]
-pub(crate) fn read_options(words: &[String]) -> Result<Asked, Refusal>
-    ensures read { result ≡ asked_from 1 no_options (texts words.now) }
-    ensures first { IfOk result (λ c. (1 ≤ c.query) × (c.query ≤ 5)) }
+pub(crate) fn read_options(words: &[String], may_have_types: bool) -> Result<Asked, Refusal>
+    ensures read { result ≡ asked_from may_have_types 1 no_options (texts words.now) }
+    ensures first { IfOk result (λ c. (1 ≤ c.query) × (c.query ≤ 8)) }
     ensures within { IfOk result (λ c. c.query ≤ length words.now) }
-    ensures moment { IfOk result (λ c. IfSome c.moment IsMoment) }
+    ensures moment { IfOk result (λ c. IfSome c.options.moment IsMoment) }
+    ensures limit { IfOk result (λ c. c.options.limit ≤ size_top) }
+    ensures workers { IfOk result (λ c. IfSome c.options.workers AreWorkers) }
 {
-    let mut options = Options {
+    let mut options = SoFar {
         workers: Given::Missing,
         moment: Given::Missing,
+        limit: Given::Missing,
+        types: false,
     };
     let mut number = 1u32;
     let mut left = words;
     'words: while let Some((word, more)) = left.split_first() {
-        let Some(next) = options_after(options, word.as_str(), number)? else {
+        let Some(next) = options_after(options, word.as_str(), number, may_have_types)? else {
             return Ok(asked_at(options, number));
         };
         options = next;
@@ -60,29 +82,37 @@ pub(crate) fn read_options(words: &[String]) -> Result<Asked, Refusal>
     })
 }
 
-fn asked_at(options: Options, number: u32) -> Asked
+fn asked_at(options: SoFar, number: u32) -> Asked
     ensures { result ≡ asked_at number options }
 {
     let workers = match options.workers {
-        Given::Is(n) => n,
-        _ => WORKERS_UNGIVEN,
+        Given::Is(n) => Some(n),
+        _ => None,
     };
     let moment = match options.moment {
         Given::Is(x) => Some(x),
         _ => None,
     };
+    let limit = match options.limit {
+        Given::Is(n) => n,
+        _ => LIMIT_UNGIVEN,
+    };
     Asked {
         query: number as usize,
-        workers,
-        moment,
+        options: Options {
+            workers,
+            moment,
+            limit,
+            types: options.types,
+        },
     }
 }
 
 // The code of a word that is missing behind the last one.
-fn missing_code(options: Options) -> u32
+fn missing_code(options: SoFar) -> u32
     ensures { result ≡ missing_code options }
 {
-    if is_due(&options.workers) || is_due(&options.moment) {
+    if is_due(&options.workers) || is_due(&options.moment) || is_due(&options.limit) {
         605
     } else {
         606
@@ -91,19 +121,32 @@ fn missing_code(options: Options) -> u32
 
 // What the word of a number makes of the options before it; none where it is no part of them.
 #[tactic(auto, unfolding(crate::specs::Options::options_after))]
-fn options_after(options: Options, word: &str, number: u32) -> Result<Option<Options>, Refusal>
-    ensures after { result ≡ options_after number options word.now }
+fn options_after(
+    options: SoFar,
+    word: &str,
+    number: u32,
+    may_have_types: bool,
+) -> Result<Option<SoFar>, Refusal>
+    ensures after { result ≡ options_after may_have_types number options word.now }
     ensures counted { IfOk result (λ next. IfSome next (λ o. words_in o ≡ words_in options + 1)) }
     ensures moment { IfGiven IsMoment options.moment → IfOk result (λ next. IfSome next (λ o. IfGiven IsMoment o.moment)) }
+    ensures limit { IfGiven (λ n. n ≤ size_top) options.limit → IfOk result (λ next. IfSome next (λ o. IfGiven (λ n. n ≤ size_top) o.limit)) }
+    ensures workers { IfGiven AreWorkers options.workers → IfOk result (λ next. IfSome next (λ o. IfGiven AreWorkers o.workers)) }
 {
     if is_due(&options.workers) {
         with_workers(options, valued(workers_in(word), number))
     } else if is_due(&options.moment) {
         with_moment(options, valued(read_moment(word), number))
+    } else if is_due(&options.limit) {
+        with_limit(options, valued(size_in(word), number))
     } else if word == "--workers" {
         with_workers(options, due(&options.workers, number))
     } else if word == "--now" {
         with_moment(options, due(&options.moment, number))
+    } else if word == "--limit" {
+        with_limit(options, due(&options.limit, number))
+    } else if word == "--types" && may_have_types {
+        with_types(options, flagged(options.types, number))
     } else if is_option(word) {
         Err(Refusal::Usage {
             word: number,
@@ -115,27 +158,37 @@ fn options_after(options: Options, word: &str, number: u32) -> Result<Option<Opt
 }
 
 fn with_workers(
-    options: Options,
+    options: SoFar,
     workers: Result<Given<u32>, Refusal>,
-) -> Result<Option<Options>, Refusal>
+) -> Result<Option<SoFar>, Refusal>
     ensures { result ≡ with_workers options workers }
 {
-    Ok(Some(Options {
-        workers: workers?,
-        moment: options.moment,
-    }))
+    let workers = workers?;
+    Ok(Some(SoFar { workers, ..options }))
 }
 
 fn with_moment(
-    options: Options,
+    options: SoFar,
     moment: Result<Given<i64>, Refusal>,
-) -> Result<Option<Options>, Refusal>
+) -> Result<Option<SoFar>, Refusal>
     ensures { result ≡ with_moment options moment }
 {
-    Ok(Some(Options {
-        workers: options.workers,
-        moment: moment?,
-    }))
+    let moment = moment?;
+    Ok(Some(SoFar { moment, ..options }))
+}
+
+fn with_limit(options: SoFar, limit: Result<Given<u64>, Refusal>) -> Result<Option<SoFar>, Refusal>
+    ensures { result ≡ with_limit options limit }
+{
+    let limit = limit?;
+    Ok(Some(SoFar { limit, ..options }))
+}
+
+fn with_types(options: SoFar, types: Result<bool, Refusal>) -> Result<Option<SoFar>, Refusal>
+    ensures { result ≡ with_types options types }
+{
+    let types = types?;
+    Ok(Some(SoFar { types, ..options }))
 }
 
 fn is_due<T>(given: &Given<T>) -> bool
@@ -157,6 +210,20 @@ fn due<T>(before: &Given<T>, number: u32) -> Result<Given<T>, Refusal>
     }
 }
 
+// At the name of an option without a value.
+fn flagged(before: bool, number: u32) -> Result<bool, Refusal>
+    ensures { result ≡ flagged number before }
+{
+    if before {
+        Err(Refusal::Usage {
+            word: number,
+            code: 604,
+        })
+    } else {
+        Ok(true)
+    }
+}
+
 fn valued<T>(value: Option<T>, number: u32) -> Result<Given<T>, Refusal>
     ensures { result ≡ valued number value }
 {
@@ -172,7 +239,8 @@ fn valued<T>(value: Option<T>, number: u32) -> Result<Given<T>, Refusal>
 /// The number of workers that a word writes.
 #[tactic(auto, unfolding(crate::specs::Options::workers_in))]
 pub(crate) fn workers_in(word: &str) -> Option<u32>
-    ensures { result ≡ workers_in word.now }
+    ensures number { result ≡ workers_in word.now }
+    ensures few { IfSome result AreWorkers }
 {
     let n = read_long(word)?;
     if 1 <= n && n <= WORKERS_TOP {

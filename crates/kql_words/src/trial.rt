@@ -1,10 +1,12 @@
 //! The words behind `trial`: ROWS, SEED, and then `--workers N` or nothing.
-ghost use Rattle.std.specs.Prelude.{◌≡◌, ◌≤◌, ◌==◌, IfOk, slice_index};
+ghost use Rattle.std.specs.Prelude.{◌≡◌, ◌≤◌, ◌==◌, IfOk, IfSome, slice_index};
 ghost use Rattle.kql_words.specs.Command.{texts};
+ghost use Rattle.kql_words.specs.Options.{AreWorkers};
 ghost use Rattle.kql_words.specs.declared.refusal.Refusal.TheVariants as usage;
-ghost use Rattle.kql_words.specs.TrialWords.{count_in, counted, end_of, rows_in, seed_of, trial_of, workers_given, workers_of};
+ghost use Rattle.kql_words.specs.Sizes.{count_in};
+ghost use Rattle.kql_words.specs.TrialWords.{counted, end_of, rows_in, seed_of, trial_of, workers_given, workers_of};
 
-use crate::options::{WORKERS_UNGIVEN, is_option, workers_in};
+use crate::options::{is_option, workers_in};
 use crate::refusal::Refusal;
 
 /// How many rows a trial may have.
@@ -17,14 +19,15 @@ pub struct Trial {
     pub rows: u32,
     /// The state that the log's recurrence begins with.
     pub seed: u64,
-    /// How many workers are asked for, 1 to 64.
-    pub workers: u32,
+    /// How many workers are asked for, 1 to 64, where a number is given.
+    pub workers: Option<u32>,
 }
 
 /// The trial that the words behind `trial` ask for, or their first fault.
 #[tactic(auto, unfolding(crate::specs::TrialWords::trial_of))]
 pub(crate) fn read_trial(words: &[String]) -> Result<Trial, Refusal>
     ensures read { result ≡ trial_of (texts words.now) }
+    ensures workers { IfOk result (λ t. IfSome t.workers AreWorkers) }
 {
     match words {
         [] => Err(refused(1, 609)),
@@ -39,6 +42,7 @@ pub(crate) fn read_trial(words: &[String]) -> Result<Trial, Refusal>
 #[tactic(auto, unfolding(crate::specs::TrialWords::seed_of))]
 fn read_seed(rows: u32, words: &[String]) -> Result<Trial, Refusal>
     ensures read { result ≡ seed_of rows (texts words.now) }
+    ensures workers { IfOk result (λ t. IfSome t.workers AreWorkers) }
 {
     match words {
         [] => Err(refused(2, 609)),
@@ -56,11 +60,12 @@ fn read_seed(rows: u32, words: &[String]) -> Result<Trial, Refusal>
 
 // The words behind SEED.
 #[tactic(auto, unfolding(crate::specs::TrialWords::workers_of))]
-fn read_workers(words: &[String]) -> Result<u32, Refusal>
+fn read_workers(words: &[String]) -> Result<Option<u32>, Refusal>
     ensures read { result ≡ workers_of (texts words.now) }
+    ensures workers { IfOk result (λ n. IfSome n AreWorkers) }
 {
     match words {
-        [] => Ok(WORKERS_UNGIVEN),
+        [] => Ok(None),
         [word, more @ ..] => {
             if word.as_str() == "--workers" {
                 read_given(more)
@@ -75,8 +80,9 @@ fn read_workers(words: &[String]) -> Result<u32, Refusal>
 
 // The words behind `--workers`.
 #[tactic(auto, unfolding(crate::specs::TrialWords::workers_given))]
-fn read_given(words: &[String]) -> Result<u32, Refusal>
+fn read_given(words: &[String]) -> Result<Option<u32>, Refusal>
     ensures read { result ≡ workers_given (texts words.now) }
+    ensures workers { IfOk result (λ n. IfSome n AreWorkers) }
 {
     match words {
         [] => Err(refused(4, 605)),
@@ -89,11 +95,13 @@ fn read_given(words: &[String]) -> Result<u32, Refusal>
 
 // The words behind the number of workers, where none may stand.
 #[tactic(auto, unfolding(crate::specs::TrialWords::end_of))]
-fn read_end(workers: u32, words: &[String]) -> Result<u32, Refusal>
+fn read_end(workers: u32, words: &[String]) -> Result<Option<u32>, Refusal>
+    requires workers { AreWorkers workers }
     ensures read { result ≡ end_of workers (texts words.now) }
+    ensures workers { IfOk result (λ n. IfSome n AreWorkers) }
 {
     match words {
-        [] => Ok(workers),
+        [] => Ok(Some(workers)),
         [word, ..] => {
             if word.as_str() == "--workers" {
                 Err(refused(5, 604))
@@ -133,7 +141,7 @@ fn rows_in(word: &str) -> Option<u32>
 
 // The number that a word writes in digits.
 #[tactic(auto, using(crate::proofs::TrialFacts::count_facts))]
-fn count_in(word: &str) -> Option<u64>
+pub(crate) fn count_in(word: &str) -> Option<u64>
     ensures { result ≡ count_in word.now }
 {
     if begins_with_plus(word) {

@@ -68,9 +68,10 @@ pipe: echo 'T | count' | kql run /dev/stdin T=t.csv
 pub(crate) const TOO_LONG: &str = "\
 308 TooLong
 
-The table files have more than 67,108,864 bytes together.
+The table files have more bytes together than --limit says, or more than
+67,108,864 where it is not given.
 
-Leave out rows or columns before.
+Give --limit 2GiB in front of the query, or leave out rows or columns before.
 ";
 
 /// The topics of these texts.

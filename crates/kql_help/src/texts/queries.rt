@@ -3,25 +3,27 @@
 use crate::topic::Topic;
 
 pub(crate) const RUN: &str = "\
-kql run [--workers N] [--now T] QUERY NAME=PATH ..
+kql run [--now T] [--limit SIZE] [--types] [--workers N] QUERY NAME=PATH ..
 
 Answers the query of the file QUERY over the tables of the words NAME=PATH, each
 a CSV file, and writes its table as CSV to standard output. --now gives the
-datetime that now() stands for; --workers, from 1 to 64, has no effect yet. The
-options stand before QUERY, in any order. A path may be /dev/stdin.
+datetime that now() stands for. --limit is how many bytes the files may have
+together, as 2GiB, up to 1024GiB; 64MiB where it is not given. --types writes the
+types into the header of the answer. --workers, from 1 to 64, has no effect yet.
+The options stand before QUERY, in any order. A path may be /dev/stdin.
 
     kql run examples/errors.kql Requests=examples/requests.csv
 ";
 
 pub(crate) const PLAIN: &str = "\
-kql plain [--workers N] [--now T] QUERY NAME=PATH ..
+kql plain [--now T] [--limit SIZE] [--types] [--workers N] QUERY NAME=PATH ..
 
 Takes the words of run and answers the same: it evaluates one operator after
 another on one thread.
 ";
 
 pub(crate) const EXPLAIN: &str = "\
-kql explain [--workers N] [--now T] QUERY NAME=PATH ..
+kql explain [--now T] [--limit SIZE] [--workers N] QUERY NAME=PATH ..
 
 Takes the words of run and prints the plan by which run answers the query: the
 query's operators as they are evaluated, a line for each, behind a line for the
@@ -222,7 +224,7 @@ are names, or NAME:TYPE; a field without a type is a column of strings.
 An empty cell is null, and the empty string in a column of strings. Blanks round
 a cell are passed over, but of types string and dynamic. The answer
 is CSV with a header without types; null is an empty cell. At most 64 tables, of
-67,108,864 bytes together.
+67,108,864 bytes together, or what --limit says.
 ";
 
 /// The topics of these texts.

@@ -41,7 +41,8 @@ The option stood before.
 pub(crate) const OPTION_VALUE: &str = "\
 605 OptionValue
 
-The value of the option is missing, or not of its form: 1 to 64, or a datetime.
+The value of the option is missing, or not of its form: 1 to 64, a datetime, or a
+size from 1 byte to 1 TiB, as 2GiB.
 
     kql run --workers 65 q                     at word 2
 ";

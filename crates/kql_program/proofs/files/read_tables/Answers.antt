@@ -9,52 +9,52 @@ use Rattle.kql_program.proofs.files.read_tables.Goals as goal
 
 pub overflow_cast-number : goal.overflow_cast-number
 overflow_cast-number g c =
-    let few = few-words c.args.words.now c.loop-i.i c.requires c.loop-i-test.true in
+    let few = few-words c.args.words.now c.loop-i.i c.requires.tables c.loop-i-test.true in
     grind (arith, common_steps)
 
 pub overflow_add-number : goal.overflow_add-number
 overflow_add-number g c =
-    let few = few-words c.args.words.now c.loop-i.i c.requires c.loop-i-test.true in
+    let few = few-words c.args.words.now c.loop-i.i c.requires.tables c.loop-i-test.true in
     grind (arith, common_steps)
 
 pub add_table-requires-clause-names : goal.add_table-requires-clause-names
 add_table-requires-clause-names g c =
     let word = c.as_str.ensures.value ∙ ap string_bytes c.index-words-i.is in
-    (clean c.args.words.now c.loop-i.i c.index-words-i.result c.as_str.result.now c.requires c.loop-i-test.true word).names
+    (clean c.args.words.now c.loop-i.i c.index-words-i.result c.as_str.result.now c.requires.tables c.loop-i-test.true word).names
 
 pub add_table-requires-clause-fresh : goal.add_table-requires-clause-fresh
 add_table-requires-clause-fresh g c =
     let word = c.as_str.ensures.value ∙ ap string_bytes c.index-words-i.is in
-    let fresh = (clean c.args.words.now c.loop-i.i c.index-words-i.result c.as_str.result.now c.requires c.loop-i-test.true word).fresh in
+    let fresh = (clean c.args.words.now c.loop-i.i c.index-words-i.result c.as_str.result.now c.requires.tables c.loop-i-test.true word).fresh in
     absent c.loop-i.catalogue (name_in c.as_str.result.now) (rw (← c.loop-i.invariant.names) at fresh)
 
-pub returns-in_err-used-clause-tables : goal.returns-in_err-used-clause-tables
-returns-in_err-used-clause-tables g c =
+pub returns-in_err-room-clause-tables : goal.returns-in_err-room-clause-tables
+returns-in_err-room-clause-tables g c =
     let lt : c.loop-i.i < length c.args.words.now = grind (arith, common_steps) in
     let word = c.as_str.ensures.value ∙ ap string_bytes c.index-words-i.is in
-    told-stop _ _ c.loop-i.i c.loop-i.used c.args.words.now c.index-words-i.result c.as_str.result.now c.loop-i.catalogue c.add_table.new.catalogue _ _ lt word c.loop-i.invariant.files c.in_err-used.ensures.table c.loop-i.invariant.left c.from_residual.ensures.1
+    told-stop _ _ c.args.limit c.loop-i.i c.loop-i.room c.args.words.now c.index-words-i.result c.as_str.result.now c.loop-i.catalogue c.add_table.new.catalogue _ _ lt word c.loop-i.invariant.files c.in_err-room.ensures.table c.loop-i.invariant.left c.from_residual.ensures.1
 
 pub loop-i-preserved : goal.loop-i-preserved
 loop-i-preserved g c =
     let lt : c.loop-i.i < length c.args.words.now = grind (arith, common_steps) in
     let word = c.as_str.ensures.value ∙ ap string_bytes c.index-words-i.is in
     record {
-      few = c.in_ok-used.ensures.few;
-      names = c.in_ok-used.ensures.names ∙ (ap (λ names. names ++ name_in c.as_str.result.now ∷ []) c.loop-i.invariant.names
+      few = c.in_ok-room.ensures.few;
+      names = c.in_ok-room.ensures.names ∙ (ap (λ names. names ++ name_in c.as_str.result.now ∷ []) c.loop-i.invariant.names
           ∙ (ap (λ name. map name_in (texts (take c.loop-i.i c.args.words.now)) ++ name_in name ∷ []) word ∙ sym (names-more c.args.words.now c.loop-i.i c.index-words-i.result lt)));
-      files = c.in_ok-used.ensures.files ∙ c.loop-i.invariant.files;
-      calls = c.in_ok-used.ensures.stops ∙ c.loop-i.invariant.calls;
-      later = grind (arith, common_steps, c.in_ok-used.ensures.later);
-      left = told-next _ _ c.loop-i.i c.loop-i.used c.in_ok-used.used c.args.words.now c.index-words-i.result c.as_str.result.now c.loop-i.catalogue c.add_table.new.catalogue lt word c.loop-i.invariant.files c.in_ok-used.ensures.table c.loop-i.invariant.left;
+      files = c.in_ok-room.ensures.files ∙ c.loop-i.invariant.files;
+      calls = c.in_ok-room.ensures.stops ∙ c.loop-i.invariant.calls;
+      later = grind (arith, common_steps, c.in_ok-room.ensures.later);
+      left = told-next _ _ c.args.limit c.loop-i.i c.loop-i.room c.in_ok-room.room c.args.words.now c.index-words-i.result c.as_str.result.now c.loop-i.catalogue c.add_table.new.catalogue lt word c.loop-i.invariant.files c.in_ok-room.ensures.table c.loop-i.invariant.left;
     }
 
 pub returns-clause-tables : goal.returns-clause-tables
 returns-clause-tables g c =
     let over : length c.args.words.now ≤ c.loop-i.i = grind (arith, common_steps) in
-    told-end _ c.loop-i.i c.loop-i.used c.args.words.now c.loop-i.catalogue over c.loop-i.invariant.left
+    told-end _ c.args.limit c.loop-i.i c.loop-i.room c.args.words.now c.loop-i.catalogue over c.loop-i.invariant.left
 
-pub returns-in_err-used-clause-stops : goal.returns-in_err-used-clause-stops
-returns-in_err-used-clause-stops g c = raised-stops _ _ _ _ c.from_residual.ensures.1 (stops-behind _ _ _ _ c.loop-i.invariant.calls c.in_err-used.ensures.stops)
+pub returns-in_err-room-clause-stops : goal.returns-in_err-room-clause-stops
+returns-in_err-room-clause-stops g c = raised-stops _ _ _ _ c.from_residual.ensures.1 (stops-behind _ _ _ _ c.loop-i.invariant.calls c.in_err-room.ensures.stops)
 
 pub returns-clause-stops : goal.returns-clause-stops
 returns-clause-stops g c = c.loop-i.invariant.calls

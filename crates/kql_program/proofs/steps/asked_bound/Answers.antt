@@ -5,10 +5,10 @@ use Rattle.kql_program.proofs.CallFacts.{given-stops, raised-stops}
 use Rattle.kql_program.proofs.steps.asked_bound.Goals as goal
 
 pub returns-in_err-catalogue-clause-bound : goal.returns-in_err-catalogue-clause-bound
-returns-in_err-catalogue-clause-bound g c = asked-stop _ c.args.query.now c.args.moment (texts c.args.words.now) _ _ c.in_err-catalogue.ensures.tables c.from_residual.ensures.1
+returns-in_err-catalogue-clause-bound g c = asked-stop _ c.args.query.now c.args.options.limit c.args.options.moment (texts c.args.words.now) _ _ c.in_err-catalogue.ensures.tables c.from_residual.ensures.1
 
 pub returns-clause-bound : goal.returns-clause-bound
-returns-clause-bound g c = asked-bound _ c.args.query.now c.args.moment (texts c.args.words.now) _ _ c.in_ok-catalogue.ensures.tables c.bound_over.ensures.bound
+returns-clause-bound g c = asked-bound _ c.args.query.now c.args.options.limit c.args.options.moment (texts c.args.words.now) _ _ c.in_ok-catalogue.ensures.tables c.bound_over.ensures.bound
 
 pub returns-in_err-catalogue-clause-words : goal.returns-in_err-catalogue-clause-words
 returns-in_err-catalogue-clause-words g c = raised-words _ _ c.from_residual.ensures.1 (stopped-words _ c.in_err-catalogue.ensures.words)
