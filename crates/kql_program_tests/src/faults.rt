@@ -1,7 +1,7 @@
 //! Calls of the outside that fail, and files and sinks in memory.
 use crate::calls::{NUMBERS, QUERY, call, files, name_of, no_faults, words_of};
-use kql_outside::{CleanShelf, CleanSink, OpenGate};
-use kql_program::kql_in_memory;
+use kql_outside::{CleanShelf, CleanSink, MemShelf, MemSink, OpenGate, Shelf};
+use kql_program::{kql, kql_in_memory};
 use std::alloc::{AllocError, Global};
 use std::process::Abort;
 use std::test::Fail;
@@ -198,5 +198,63 @@ fn meets_a_fault_at_a_refusal(rt: HostRuntime) -> Result<(), Fail> {
     assert_eq!(rt; left.status, 5);
     assert_eq!(rt; left.out.as_str(), "");
     assert_eq!(rt; left.err.as_str(), "");
+    Ok(())
+}
+
+// How a call over the first files ended, and whether the call of the shelf behind its last is the one of this number. The first write of one of
+// these sinks may fail.
+fn ending_and_next(
+    rt: &(impl Threads + Sync),
+    alloc: Global,
+    query: &str,
+    number: u64,
+    out: Vec<u64>,
+    err: Vec<u64>,
+) -> Result<(&'static str, bool), AllocError> {
+    let words = words_of(alloc, "run q T=t")?;
+    let mut failing = Vec::new(alloc);
+    failing.push(number)?;
+    let mut shelf = MemShelf::new(files(alloc, query, NUMBERS.as_bytes())?, failing);
+    let mut out = MemSink::new(alloc, 4096, 4096, out)?;
+    let mut err = MemSink::new(alloc, 4096, 4096, err)?;
+    let ended = kql(rt, alloc, &words, &mut shelf, &mut out, &mut err, &OpenGate);
+    let name = name_of(&ended);
+    drop(ended);
+    Ok((name, shelf.start("q").is_err()))
+}
+
+// How many calls of the shelf a query makes.
+fn reads_of(rt: &(impl Threads + Sync), alloc: Global, query: &str) -> Result<u64, AllocError> {
+    for number in 0..100 {
+        let (ended, _) = ending_and_next(
+            rt,
+            alloc,
+            query,
+            number,
+            Vec::new(alloc),
+            Vec::new(alloc),
+        )?;
+        if ended != "ReadFault" {
+            return Ok(number);
+        }
+    }
+    Ok(0)
+}
+
+// The shelf is not called again once the first write failed, of an answer or of the line of a refusal.
+#[test]
+fn reads_nothing_after_a_failed_write(rt: HostRuntime) -> Result<(), Fail> {
+    let alloc = rt.alloc();
+    for query in [QUERY, "T | where y == 5"] {
+        let reads = reads_of(&rt, alloc, query)?;
+        assert!(rt; reads >= 4, "{query}");
+        let mut out = Vec::new(alloc);
+        out.push(0)?;
+        let mut err = Vec::new(alloc);
+        err.push(0)?;
+        let (ended, is_next) = ending_and_next(&rt, alloc, query, reads, out, err)?;
+        assert_eq!(rt; ended, "WriteFault", "{query}");
+        assert!(rt; is_next, "{query}");
+    }
     Ok(())
 }
