@@ -4,6 +4,7 @@ pub mod ColumnSteps
 pub mod FormFacts
 pub mod JoinSteps
 pub mod LentSteps
+pub mod ListSteps
 pub mod LocatedSteps
 pub mod MeansSteps
 pub mod NodeSteps

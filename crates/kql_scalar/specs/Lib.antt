@@ -3,6 +3,7 @@ pub mod Choices
 pub mod Evaluated
 pub mod Held
 pub mod Joins
+pub mod Lists
 pub mod Means
 pub mod Opposites
 pub mod Placed

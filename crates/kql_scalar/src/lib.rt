@@ -11,6 +11,8 @@ mod columns;
 mod laws;
 mod lent;
 mod lent_column;
+mod list_keys;
+mod lists;
 mod locate;
 mod node;
 mod opposites;

@@ -12,6 +12,7 @@ ghost use Rattle.kql_scalar.specs.Rows.{AreBelow, IsColumnTest, call_passes, cel
 
 use crate::calls::truth_of_value;
 use crate::cells::cell_in;
+use crate::lists::kept_by_list;
 use crate::node::Node;
 use crate::opposites::opposite_test;
 use crate::pairs::apply_pair;
@@ -55,7 +56,7 @@ fn passes(alloc: Global, node: &Node, t: &Table, i: usize) -> Result<bool, Alloc
 
 // Whether a call is true at a row.
 #[tactic(auto, using(crate::proofs::RowSteps::sound_none), unfolding(crate::specs::Rows::call_passes, kql_meaning::specs::Values::holds))]
-fn call_passes(
+pub(crate) fn call_passes(
     alloc: Global,
     f: Func,
     args: &[Node],
@@ -274,7 +275,8 @@ fn kept_by_call_rows(
     Ok(kept)
 }
 
-// Those at which a comparison is true: over the column where it is one of a column with a constant.
+// Those at which a comparison is true: by the keys of a long list of constants, or over the column where it is one of a column with a
+// constant.
 #[tactic(auto, using(crate::proofs::RowSteps::comparison_steps))]
 fn kept_by_comparison(
     alloc: Global,
@@ -287,6 +289,9 @@ fn kept_by_comparison(
     requires within { AreBelow (length t.now.lines) places.now }
     ensures places { IfOk result (λ ps. ps.items ≡ filter (call_passes (func.Comparison f) args.now t.now) places.now) }
 {
+    if let Some(kept) = kept_by_list(alloc, f, args, t, places)? {
+        return Ok(kept);
+    }
     match column_test(args, t) {
         Some((place, value)) => kept_by_cells(alloc, f, t, place, value, places),
         None => kept_by_call_rows(alloc, Func::Comparison(f), args, t, places),
