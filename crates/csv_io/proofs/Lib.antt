@@ -6,10 +6,12 @@ pub mod FeedFacts
 pub mod FieldFacts
 pub mod HeaderFacts
 pub mod LaneFacts
+pub mod LentFacts
 pub mod LoadFacts
 pub mod MarkFacts
 pub mod OutputFacts
 pub mod PlainFacts
+pub mod PrintedDayFacts
 pub mod RecordsLeftFacts
 pub mod Reloaded
 pub mod TextFacts

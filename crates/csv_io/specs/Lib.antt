@@ -4,6 +4,7 @@ pub mod Cuts
 pub mod Days
 pub mod Faults
 pub mod Header
+pub mod Lending
 pub mod Lines
 pub mod Load
 pub mod Next

@@ -10,10 +10,12 @@ mod feed;
 mod fields;
 mod header;
 mod lanes;
+mod lent;
 mod line;
 mod loading;
 mod output;
 mod print;
+mod printed_day;
 
 pub use fault::DataFault;
 pub use loading::load;

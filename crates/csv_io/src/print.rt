@@ -1,19 +1,22 @@
 ghost use Rattle.std.specs.Prelude.{◌≡◌, ◌<◌, ◌++◌, All, IfOk, IsUtf8, Ok, OnOk, flat_map, length, map, string_bytes};
 ghost use Rattle.csv.specs.Records.{AllText};
 ghost use Rattle.csv.specs.Writing.{default_writer, field_text, row_text};
-ghost use Rattle.kql_cells.specs.Seen.{row_at, seen};
+ghost use Rattle.kql_cells.specs.Seen.{seen};
 ghost use Rattle.kql_cells.specs.Values.{IsMoment, IsWellFormed};
 ghost use Rattle.kql_cells.specs.declared.value.Value.TheVariants as value;
+ghost use Rattle.kql_values.specs.Grids.{row_of};
 ghost use Rattle.csv_io.specs.Load.{loaded};
 ghost use Rattle.csv_io.specs.Reload.{IsLoadable, ReadsBack, typed_name, typed_text, with_kinds, word_of};
 ghost use Rattle.csv_io.specs.Text.{cell_text, line_text, names_of, table_text};
 
+use crate::lent::{Lent, lent_columns};
 use crate::output::{end_line, push_field, push_separator};
+use crate::printed_day::PrintedDay;
 use itoa::Buffer;
 use kql_cells::{Bytes, CellRef, Column, Dyn, Kind};
 use kql_dynamic::print_json;
 use kql_items::Items;
-use kql_ticks::{push_moment, push_span};
+use kql_ticks::push_span;
 use kql_values::Table;
 use std::alloc::{AllocError, Global};
 
@@ -51,8 +54,10 @@ fn push_lines(alloc: Global, out: &mut Vec<u8>, t: &Table) -> Result<(), AllocEr
     ensures back { OnOk result (All (All ReadsBack) t.now.lines) }
 {
     let _ = t.schema();
+    let lent = lent_columns(alloc, t.columns())?;
+    let mut day = PrintedDay::new();
     for i in 0..t.len() {
-        push_line(alloc, out, t, i)?;
+        push_line(alloc, out, lent.as_slice(), i, &mut day)?;
     }
     Ok(())
 }
@@ -111,24 +116,36 @@ fn push_names(out: &mut Vec<u8>, columns: &[Column]) -> Result<(), AllocError>
 }
 
 // Adds a line of the cells of a row.
-fn push_line(alloc: Global, out: &mut Vec<u8>, t: &Table, i: usize) -> Result<(), AllocError>
-    requires row { i < length t.now.lines }
-    requires width { length (row_at t.now.lines i) ≡ length t.now.columns }
-    requires forms { All IsWellFormed (row_at t.now.lines i) }
-    ensures text { OnOk result (out.new.items ≡ out.old.items ++ line_text (row_at t.now.lines i)) }
-    ensures back { OnOk result (All ReadsBack (row_at t.now.lines i)) }
+#[inline(always)]
+fn push_line(
+    alloc: Global,
+    out: &mut Vec<u8>,
+    columns: &[Lent<'_>],
+    i: usize,
+    day: &mut PrintedDay,
+) -> Result<(), AllocError>
+    requires within { All (λ c. i < length c) columns.now }
+    requires forms { All IsWellFormed (row_of columns.now i) }
+    ensures text { OnOk result (out.new.items ≡ out.old.items ++ line_text (row_of columns.now i)) }
+    ensures back { OnOk result (All ReadsBack (row_of columns.now i)) }
 {
     let start = out.len();
-    let width = t.schema().len();
-    for j in 0..width {
+    for j in 0..columns.len() {
         push_separator(out, j)?;
-        push_cell(alloc, out, t.cell(i, j))?;
+        push_cell(alloc, out, columns[j].cell(i), day)?;
     }
     end_line(out, start)?;
     Ok(())
 }
 
-fn push_cell(alloc: Global, out: &mut Vec<u8>, cell: CellRef<'_>) -> Result<(), AllocError>
+// Adds a cell.
+#[inline(always)]
+fn push_cell(
+    alloc: Global,
+    out: &mut Vec<u8>,
+    cell: CellRef<'_>,
+    day: &mut PrintedDay,
+) -> Result<(), AllocError>
     requires form { IsWellFormed (seen cell) }
     ensures added { OnOk result (out.new.items ≡ out.old.items ++ field_text default_writer (cell_text (seen cell.entry))) }
     ensures back { OnOk result (ReadsBack (seen cell.entry)) }
@@ -139,7 +156,7 @@ fn push_cell(alloc: Global, out: &mut Vec<u8>, cell: CellRef<'_>) -> Result<(), 
         CellRef::Bool(false) => push_field(out, "false"),
         CellRef::Long(n) => push_long(out, n),
         CellRef::Text(t) => push_field(out, t),
-        CellRef::Moment(x) => push_datetime(out, x),
+        CellRef::Moment(x) => push_datetime(out, x, day),
         CellRef::Span(x) => push_timespan(out, x),
         CellRef::Dynamic(d) => push_dynamic(alloc, out, d),
     }
@@ -153,12 +170,13 @@ fn push_long(out: &mut Vec<u8>, n: i64) -> Result<(), AllocError>
     out.extend_from_slice(buffer.format(n).as_bytes())
 }
 
-fn push_datetime(out: &mut Vec<u8>, x: i64) -> Result<(), AllocError>
+#[inline(always)]
+fn push_datetime(out: &mut Vec<u8>, x: i64, day: &mut PrintedDay) -> Result<(), AllocError>
     requires { IsMoment x }
     ensures added { OnOk result (out.new.items ≡ out.old.items ++ field_text default_writer (cell_text (value.Moment x))) }
     ensures back { OnOk result (ReadsBack (value.Moment x)) }
 {
-    push_moment(out, x)
+    day.push(out, x)
 }
 
 fn push_timespan(out: &mut Vec<u8>, x: i64) -> Result<(), AllocError>
@@ -168,6 +186,7 @@ fn push_timespan(out: &mut Vec<u8>, x: i64) -> Result<(), AllocError>
     push_span(out, x)
 }
 
+#[inline(never)]
 fn push_dynamic(alloc: Global, out: &mut Vec<u8>, d: &Dyn) -> Result<(), AllocError>
     requires { IsWellFormed (value.Dynamic d.now) }
     ensures added { OnOk result (out.new.items ≡ out.old.items ++ field_text default_writer (cell_text (value.Dynamic d.now))) }

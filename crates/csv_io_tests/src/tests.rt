@@ -170,6 +170,18 @@ const TABLES: &[(&str, &str, &str)] = &[
         "tttttt",
         "a,b,c\nabcdefghijklmno,abcdefghijklmnop,abcdefghijklmnopq\n0123456789abcdef0123456789abcde,0123456789abcdef0123456789abcdef,0123456789abcdef0123456789abcdef0\n",
     ),
+    // A byte that calls for quotes, at either end of 16, 17, 32 and 33 bytes.
+    (
+        "a\n\"abcdefghijklmno,\"\n\",abcdefghijklmno\"\n\"abcdefghijklmnop,\"\n\",abcdefghijklmnop\"\n\"0123456789abcdef0123456789abcde,\"\n\"0123456789abcdef0123456789abcdef,\"\nabcdefghijklmnop\n",
+        "ttttttt",
+        "a\n\"abcdefghijklmno,\"\n\",abcdefghijklmno\"\n\"abcdefghijklmnop,\"\n\",abcdefghijklmnop\"\n\"0123456789abcdef0123456789abcde,\"\n\"0123456789abcdef0123456789abcdef,\"\nabcdefghijklmnop\n",
+    ),
+    // From day to day and back.
+    (
+        "t:datetime,x\n2024-03-01T23:59:59.9999999Z,a\n2024-03-02T00:00:00.0000000Z,b\n2024-03-02T00:00:00.0000001Z,c\n2024-03-01T23:59:59.9999999Z,d\n,e\n0001-01-01T00:00:00.0000000Z,f\n9999-12-31T23:59:59.9999999Z,g\n",
+        "mtmtmtmt-tmtmt",
+        "t,x\n2024-03-01T23:59:59.9999999Z,a\n2024-03-02T00:00:00.0000000Z,b\n2024-03-02T00:00:00.0000001Z,c\n2024-03-01T23:59:59.9999999Z,d\n,e\n0001-01-01T00:00:00.0000000Z,f\n9999-12-31T23:59:59.9999999Z,g\n",
+    ),
 ];
 
 #[test]

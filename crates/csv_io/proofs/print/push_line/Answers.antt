@@ -1,40 +1,62 @@
-use Rattle.std.proofs.Common.{◌≡◌, ◌≤◌, ◌<◌, ◌∙◌, [], ap, arith, get_or, length, map, rules, sym}
+use Rattle.std.proofs.Common.{◌≡◌, ◌≤◌, ◌<◌, ◌∙◌, [], ap, arith, get_or, length, map, rules, subst, sym}
 use Rattle.std.proofs.lemmas.List.{get_or-map, length-map, take_all}
 use Rattle.std.proofs.lemmas.List.Elements.{All-more}
 use Rattle.csv_io.specs.Reload.{ReadsBack}
 use Rattle.csv_io.specs.Text.{cell_text}
 use Rattle.csv_io.proofs.OutputFacts.{line-end, line-step}
-use Rattle.kql_cells.specs.Seen.{row_at, seen}
+use Rattle.kql_cells.specs.Seen.{seen, value_at}
+use Rattle.kql_cells.specs.Values.{IsWellFormed}
 use Rattle.kql_cells.specs.declared.value.Value.TheVariants as value
+use Rattle.kql_values.proofs.GridLaws.{row_of-at, row_of-length}
+use Rattle.kql_values.specs.Grids.{row_of}
 use Rattle.csv_io.proofs.print.push_line.Goals as goal
+
+pub cell-requires : goal.cell-requires
+cell-requires c =
+    let column = c.index-columns-j.result in
+    subst (λ vs. c.args.i < length vs) (sym c.index-columns-j.is) (c.requires.within c.loop-j.j column c.loop-j-test.true)
+
+pub push_cell-requires : goal.push_cell-requires
+push_cell-requires c =
+    let columns = c.args.columns.now in
+    let j = c.loop-j.j in
+    let column = c.index-columns-j.result in
+    let lt : j < length columns = c.loop-j-test.true in
+    let width = row_of-length columns c.args.i in
+    let form = c.requires.forms j value.Null (omega (arith, lt, width)) in
+    let same = row_of-at columns c.args.i j column value.Null lt ∙ ap (λ vs. value_at vs c.args.i) (sym c.index-columns-j.is) ∙ sym c.cell.ensures in
+    record { form = subst IsWellFormed same form }
 
 pub loop-j-preserved : goal.loop-j-preserved
 loop-j-preserved c =
-    let row = row_at c.args.t.now.lines c.args.i in
+    let columns = c.args.columns.now in
+    let row = row_of columns c.args.i in
     let texts = map cell_text row in
     let j = c.loop-j.j in
-    let width : c.len-width.result ≡ length row = c.len-width.ensures.count ∙ (ap length c.schema.ensures.columns ∙ sym c.requires.width) in
-    let lt : j < length row = omega (arith, c.loop-j-test.true) in
-    let within : j < length texts = omega (arith, length-map row cell_text) in
-    let text : cell_text (seen c.cell.result) ≡ get_or texts j [] = ap cell_text c.cell.ensures.same ∙ sym (get_or-map cell_text row j value.Null [] lt) in
+    let column = c.index-columns-j.result in
+    let lt : j < length columns = c.loop-j-test.true in
+    let here : j < length row = omega (arith, lt, row_of-length columns c.args.i) in
+    let within : j < length texts = omega (arith, here, length-map row cell_text) in
+    let same : get_or row j value.Null ≡ seen c.cell.result = row_of-at columns c.args.i j column value.Null lt ∙ ap (λ vs. value_at vs c.args.i) (sym c.index-columns-j.is) ∙ sym c.cell.ensures in
+    let text : cell_text (seen c.cell.result) ≡ get_or texts j [] = ap cell_text (sym same) ∙ sym (get_or-map cell_text row j value.Null [] here) in
     record {
       text = line-step c.args.out.now.items _ _ _ (cell_text (seen c.cell.result)) texts j within c.loop-j.invariant.text c.in_ok-push_separator.ensures text c.in_ok-push_cell.ensures.added;
-      back = All-more ReadsBack row j value.Null lt c.loop-j.invariant.back (rw c.cell.ensures.same at c.in_ok-push_cell.ensures.back);
+      back = All-more ReadsBack row j value.Null here c.loop-j.invariant.back (subst ReadsBack (sym same) c.in_ok-push_cell.ensures.back);
     }
 
 pub returns-clause-text : goal.returns-clause-text
 returns-clause-text c =
-    let row = row_at c.args.t.now.lines c.args.i in
+    let columns = c.args.columns.now in
+    let row = row_of columns c.args.i in
     let texts = map cell_text row in
-    let width : c.len-width.result ≡ length row = c.len-width.ensures.count ∙ (ap length c.schema.ensures.columns ∙ sym c.requires.width) in
-    let all : length texts ≤ c.loop-j.j = omega (arith, length-map row cell_text, c.loop-j-test.false) in
+    let all : length texts ≤ c.loop-j.j = omega (arith, length-map row cell_text, row_of-length columns c.args.i, c.loop-j-test.false) in
     let start : c.len-start.result ≡ length c.args.out.now.items = search rules in
     let text = rw (take_all c.loop-j.j texts all) at c.loop-j.invariant.text in
     line-end c.args.out.now.items _ _ texts c.len-start.result start text c.in_ok-end_line.ensures
 
 pub returns-clause-back : goal.returns-clause-back
 returns-clause-back c =
-    let row = row_at c.args.t.now.lines c.args.i in
-    let width : c.len-width.result ≡ length row = c.len-width.ensures.count ∙ (ap length c.schema.ensures.columns ∙ sym c.requires.width) in
-    let all : length row ≤ c.loop-j.j = omega (arith, c.loop-j-test.false) in
+    let columns = c.args.columns.now in
+    let row = row_of columns c.args.i in
+    let all : length row ≤ c.loop-j.j = omega (arith, row_of-length columns c.args.i, c.loop-j-test.false) in
     rw (take_all c.loop-j.j row all) at c.loop-j.invariant.back
