@@ -1,0 +1,2 @@
+mod CatalogueFacts
+mod JsonFacts

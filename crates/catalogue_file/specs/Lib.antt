@@ -1,0 +1,4 @@
+pub mod Catalogue
+pub mod Columns
+pub mod Entries
+pub mod Json
