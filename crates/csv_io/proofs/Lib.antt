@@ -16,4 +16,5 @@ pub mod RecordsLeftFacts
 pub mod Reloaded
 pub mod TextFacts
 pub mod TypedHeader
+pub mod TypedLoadFacts
 pub mod WrittenText

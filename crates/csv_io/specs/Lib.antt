@@ -13,3 +13,4 @@ pub mod Reload
 pub mod Runs
 pub mod Text
 pub mod TextRecords
+pub mod TypedLoad

@@ -36,6 +36,8 @@ pub(crate) const BAD_LENGTH: u32 = 305;
 
 pub(crate) const BAD_CELL: u32 = 306;
 
+pub(crate) const HEADER_DIFFERS: u32 = 312;
+
 pub(crate) fn refused(code: u32, row: u64, column: usize) -> DataFault
     ensures { result ≡ Refused code row column }
 {

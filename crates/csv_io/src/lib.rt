@@ -16,7 +16,9 @@ mod loading;
 mod output;
 mod print;
 mod printed_day;
+mod typed_load;
 
 pub use fault::DataFault;
 pub use loading::load;
 pub use print::{table_text, typed_text};
+pub use typed_load::load_typed;

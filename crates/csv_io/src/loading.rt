@@ -57,7 +57,7 @@ fn load_text(alloc: Global, text: &str) -> Result<Table, DataFault>
 }
 
 // The table of the records that are left; `line` is used again for each.
-fn load_rows<'a>(
+pub(crate) fn load_rows<'a>(
     alloc: Global,
     schema: Schema,
     feed: Feed<'a>,

@@ -78,7 +78,7 @@ fn push_typed_names(alloc: Global, out: &mut Vec<u8>, columns: &[Column]) -> Res
 }
 
 // The field of a header for a column: its name, a colon and its type.
-fn typed_name(alloc: Global, column: &Column) -> Result<String, AllocError>
+pub(crate) fn typed_name(alloc: Global, column: &Column) -> Result<String, AllocError>
     ensures field { IfOk result (λ f. string_bytes f ≡ typed_name column.now) }
     ensures utf8 { IsUtf8 column.now.name }
 {
