@@ -2,4 +2,5 @@ pub mod AskedLaws
 pub mod CommandLaws
 pub mod TrialFacts
 pub mod UnlessFacts
+mod OptionFacts
 mod SizeFacts

@@ -1,5 +1,5 @@
 -- The words of the command: `run`, `plain` or `explain`, options, QUERY, and then NAME=PATH ..; or `trial` and its words.
-use Rattle.std.specs.Prelude.{◌≡◌, ℕ, ◌+◌, ◌==◌, ◌&&◌, not, nat_le, Bool, true, false, List, [], ◌∷◌, ◌++◌, String, string_bytes, Option, Ok, Err, drop, length, map, slice_index_or, codes, if◌then◌else◌}
+use Rattle.std.specs.Prelude.{◌≡◌, ℕ, ◌+◌, ◌==◌, ◌&&◌, not, nat_le, Bool, true, false, List, [], ◌∷◌, ◌++◌, String, string_bytes, Option, Ok, Err, drop, length, map, option_map, slice_index_or, codes, if◌then◌else◌}
 use Rattle.std.specs.Global.{Global}
 use Rattle.std.specs.List.{after_first, before_first, list_any}
 use Rattle.std.specs.Str.{bytes_eq}
@@ -97,6 +97,10 @@ query_path words asked = slice_index_or words asked.query []
 
 abbrev pub table_words : List (List ℕ) → Asked → List (List ℕ)
 table_words words asked = drop (asked.query + 1) words
+
+-- the path of its catalogue file, where one is given
+abbrev pub catalogue_path : List (List ℕ) → Asked → Option (List ℕ)
+catalogue_path words asked = option_map (λ k. slice_index_or words k []) asked.options.catalogue
 
 -- how many workers a command asks for, where a number is given
 abbrev pub workers_of : Command → Option ℕ

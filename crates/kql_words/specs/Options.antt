@@ -1,5 +1,5 @@
--- The options of a command, which stand in front of QUERY: `--workers N`, `--now T`, `--limit SIZE` and, where a command may have it, `--types`, in any
--- order, each at most once.
+-- The options of a command, which stand in front of QUERY: `--workers N`, `--now T`, `--limit SIZE`, `--catalogue PATH` and, where a command may have it,
+-- `--types`, in any order, each at most once.
 use Rattle.std.specs.Prelude.{◌<◌, ◌≤◌, ℕ, ℤ, pos, negsuc, ◌+◌, ◌&&◌, nat_eq, nat_le, Bool, true, false, List, [], ◌∷◌, Option, Some, None, Ok, Err, codes, option_map, if◌then◌else◌}
 use Rattle.std.specs.List.{starts_with}
 use Rattle.std.specs.Option.{option_and_then, option_map_or}
@@ -38,9 +38,14 @@ workers_in word = option_and_then workers_at (long_written word)
 abbrev pub moment_of : List ℕ → Option ℤ
 moment_of word = option_map pos (moment_in word)
 
+-- the number of a word that is a path: any but the empty one
+abbrev pub path_at : ℕ → List ℕ → Option ℕ
+path_at number [] = None
+path_at number (b ∷ bs) = Some number
+
 -- no option so far
 abbrev pub no_options : SoFar
-no_options = record { workers = given.Missing; moment = given.Missing; limit = given.Missing; types = false }
+no_options = record { workers = given.Missing; moment = given.Missing; limit = given.Missing; catalogue = given.Missing; types = false }
 
 abbrev pub is_option : List ℕ → Bool
 is_option word = starts_with nat_eq word (codes "--")
@@ -72,6 +77,9 @@ with_moment o moment = moment >>= λ m. Ok (Some (record o { moment = m }))
 abbrev pub with_limit : SoFar → Answer (Given ℕ) → Answer (Option SoFar)
 with_limit o limit = limit >>= λ n. Ok (Some (record o { limit = n }))
 
+abbrev pub with_catalogue : SoFar → Answer (Given ℕ) → Answer (Option SoFar)
+with_catalogue o catalogue = catalogue >>= λ k. Ok (Some (record o { catalogue = k }))
+
 abbrev pub with_types : SoFar → Answer Bool → Answer (Option SoFar)
 with_types o types = types >>= λ t. Ok (Some (record o { types = t }))
 
@@ -82,9 +90,11 @@ options_after may_have_types number o word =
     if is_due o.workers then with_workers o (valued number (workers_in word))
     else if is_due o.moment then with_moment o (valued number (moment_of word))
     else if is_due o.limit then with_limit o (valued number (size_in word))
+    else if is_due o.catalogue then with_catalogue o (valued number (path_at number word))
     else if bytes_eq word (codes "--workers") then with_workers o (due number o.workers)
     else if bytes_eq word (codes "--now") then with_moment o (due number o.moment)
     else if bytes_eq word (codes "--limit") then with_limit o (due number o.limit)
+    else if bytes_eq word (codes "--catalogue") then with_catalogue o (due number o.catalogue)
     else if bytes_eq word (codes "--types") && may_have_types then with_types o (flagged number o.types)
     else if is_option word then Err (Usage number 603)
     else Ok None
@@ -101,12 +111,12 @@ value_of _ = None
 abbrev pub asked_at : ℕ → SoFar → Asked
 asked_at number o = record {
   query = number;
-  options = record { workers = value_of o.workers; moment = value_of o.moment; limit = value_or limit_ungiven o.limit; types = o.types };
+  options = record { workers = value_of o.workers; moment = value_of o.moment; limit = value_or limit_ungiven o.limit; catalogue = value_of o.catalogue; types = o.types };
 }
 
 -- what is missing behind the last word: a value that is due, or QUERY
 abbrev pub missing_code : SoFar → ℕ
-missing_code o = if is_due o.workers then 605 else if is_due o.moment then 605 else if is_due o.limit then 605 else 606
+missing_code o = if is_due o.workers then 605 else if is_due o.moment then 605 else if is_due o.limit then 605 else if is_due o.catalogue then 605 else 606
 
 -- what the words from this number on ask for, behind these options: to QUERY
 unfoldable pub asked_from : Bool → ℕ → SoFar → List (List ℕ) → Answer Asked
@@ -122,7 +132,7 @@ words_of (given.Is x) = 2
 
 -- and all options
 abbrev pub words_in : SoFar → ℕ
-words_in o = words_of o.workers + words_of o.moment + words_of o.limit + (if o.types then 1 else 0)
+words_in o = words_of o.workers + words_of o.moment + words_of o.limit + words_of o.catalogue + (if o.types then 1 else 0)
 
 -- of an option that was given, this holds of its value
 abbrev pub IfGiven : {T : Type 0} → (T → Type 0) → Given T → Type 0

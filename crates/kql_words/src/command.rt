@@ -45,6 +45,7 @@ pub fn read_command(words: &[String]) -> Result<Command, Refusal>
     ensures tables { IfOk result (IfAsks (λ a. AreTables (texts (drop (a.query + 1) words.now)))) }
     ensures moment { IfOk result (IfAsks (λ a. IfSome a.options.moment IsMoment)) }
     ensures limit { IfOk result (IfAsks (λ a. a.options.limit ≤ size_top)) }
+    ensures catalogue { IfOk result (IfAsks (λ a. IfSome a.options.catalogue (λ k. k < length words.now))) }
     ensures workers { IfOk result (λ c. IfSome (workers_of c) AreWorkers) }
 {
     match words {
@@ -73,6 +74,7 @@ fn read_asked(words: &[String], may_have_types: bool) -> Result<Asked, Refusal>
     ensures tables { IfOk result (λ a. AreTables (texts (drop a.query words.now))) }
     ensures moment { IfOk result (λ a. IfSome a.options.moment IsMoment) }
     ensures limit { IfOk result (λ a. a.options.limit ≤ size_top) }
+    ensures catalogue { IfOk result (λ a. IfSome a.options.catalogue (λ k. k < 1 + length words.now)) }
     ensures workers { IfOk result (λ a. IfSome a.options.workers AreWorkers) }
 {
     let asked = read_options(words, may_have_types)?;
@@ -82,7 +84,7 @@ fn read_asked(words: &[String], may_have_types: bool) -> Result<Asked, Refusal>
 
 // The words NAME=PATH, of which the first has this number.
 fn check_tables(words: &[String], first: u32) -> Result<(), Refusal>
-    requires { first ≤ 9 }
+    requires { first ≤ 11 }
     ensures checked { result ≡ unless (tables_faults first [] (texts words.now)) tt }
 {
     for i in 0..words.len() {

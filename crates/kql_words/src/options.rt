@@ -1,8 +1,8 @@
 //! The options of a command, in front of QUERY.
-ghost use Rattle.std.specs.Prelude.{◌≡◌, ◌≤◌, ◌+◌, length, IfOk, IfSome};
+ghost use Rattle.std.specs.Prelude.{◌≡◌, ◌≤◌, ◌<◌, ◌+◌, ℕ, length, IfOk, IfSome};
 ghost use Rattle.kql_cells.specs.Values.{IsMoment};
 ghost use Rattle.kql_words.specs.Command.{texts};
-ghost use Rattle.kql_words.specs.Options.{AreWorkers, IfGiven, asked_at, asked_from, due, flagged, is_due, is_option, missing_code, no_options, options_after, valued, with_limit, with_moment, with_types, with_workers, words_in, workers_in};
+ghost use Rattle.kql_words.specs.Options.{AreWorkers, IfGiven, asked_at, asked_from, due, flagged, is_due, is_option, missing_code, no_options, options_after, path_at, valued, with_catalogue, with_limit, with_moment, with_types, with_workers, words_in, workers_in};
 ghost use Rattle.kql_words.specs.Sizes.{size_top};
 
 use crate::command::Asked;
@@ -26,6 +26,8 @@ pub struct Options {
     pub moment: Option<i64>,
     /// How many bytes the table files may have together, up to 1 TiB.
     pub limit: u64,
+    /// The number of the word that is the path of the catalogue file, from 0, where one is given; it is not empty.
+    pub catalogue: Option<usize>,
     /// Whether the header of the answer has the types of its columns.
     pub types: bool,
 }
@@ -47,6 +49,7 @@ pub(crate) struct SoFar {
     pub workers: Given<u32>,
     pub moment: Given<i64>,
     pub limit: Given<u64>,
+    pub catalogue: Given<usize>,
     pub types: bool,
 }
 
@@ -54,16 +57,18 @@ pub(crate) struct SoFar {
 #[tactic(auto, unfolding(crate::specs::Options::asked_from))]
 pub(crate) fn read_options(words: &[String], may_have_types: bool) -> Result<Asked, Refusal>
     ensures read { result ≡ asked_from may_have_types 1 no_options (texts words.now) }
-    ensures first { IfOk result (λ c. (1 ≤ c.query) × (c.query ≤ 8)) }
+    ensures first { IfOk result (λ c. (1 ≤ c.query) × (c.query ≤ 10)) }
     ensures within { IfOk result (λ c. c.query ≤ length words.now) }
     ensures moment { IfOk result (λ c. IfSome c.options.moment IsMoment) }
     ensures limit { IfOk result (λ c. c.options.limit ≤ size_top) }
+    ensures catalogue { IfOk result (λ c. IfSome c.options.catalogue (λ k. k < 1 + length words.now)) }
     ensures workers { IfOk result (λ c. IfSome c.options.workers AreWorkers) }
 {
     let mut options = SoFar {
         workers: Given::Missing,
         moment: Given::Missing,
         limit: Given::Missing,
+        catalogue: Given::Missing,
         types: false,
     };
     let mut number = 1u32;
@@ -97,12 +102,17 @@ fn asked_at(options: SoFar, number: u32) -> Asked
         Given::Is(n) => n,
         _ => LIMIT_UNGIVEN,
     };
+    let catalogue = match options.catalogue {
+        Given::Is(k) => Some(k),
+        _ => None,
+    };
     Asked {
         query: number as usize,
         options: Options {
             workers,
             moment,
             limit,
+            catalogue,
             types: options.types,
         },
     }
@@ -112,7 +122,11 @@ fn asked_at(options: SoFar, number: u32) -> Asked
 fn missing_code(options: SoFar) -> u32
     ensures { result ≡ missing_code options }
 {
-    if is_due(&options.workers) || is_due(&options.moment) || is_due(&options.limit) {
+    if is_due(&options.workers)
+        || is_due(&options.moment)
+        || is_due(&options.limit)
+        || is_due(&options.catalogue)
+    {
         605
     } else {
         606
@@ -131,6 +145,7 @@ fn options_after(
     ensures counted { IfOk result (λ next. IfSome next (λ o. words_in o ≡ words_in options + 1)) }
     ensures moment { IfGiven IsMoment options.moment → IfOk result (λ next. IfSome next (λ o. IfGiven IsMoment o.moment)) }
     ensures limit { IfGiven (λ n. n ≤ size_top) options.limit → IfOk result (λ next. IfSome next (λ o. IfGiven (λ n. n ≤ size_top) o.limit)) }
+    ensures catalogue { (bound : ℕ) → number < bound → IfGiven (λ k. k < bound) options.catalogue → IfOk result (λ next. IfSome next (λ o. IfGiven (λ k. k < bound) o.catalogue)) }
     ensures workers { IfGiven AreWorkers options.workers → IfOk result (λ next. IfSome next (λ o. IfGiven AreWorkers o.workers)) }
 {
     if is_due(&options.workers) {
@@ -139,12 +154,16 @@ fn options_after(
         with_moment(options, valued(read_moment(word), number))
     } else if is_due(&options.limit) {
         with_limit(options, valued(size_in(word), number))
+    } else if is_due(&options.catalogue) {
+        with_catalogue(options, valued(path_at(word, number), number))
     } else if word == "--workers" {
         with_workers(options, due(&options.workers, number))
     } else if word == "--now" {
         with_moment(options, due(&options.moment, number))
     } else if word == "--limit" {
         with_limit(options, due(&options.limit, number))
+    } else if word == "--catalogue" {
+        with_catalogue(options, due(&options.catalogue, number))
     } else if word == "--types" && may_have_types {
         with_types(options, flagged(options.types, number))
     } else if is_option(word) {
@@ -182,6 +201,19 @@ fn with_limit(options: SoFar, limit: Result<Given<u64>, Refusal>) -> Result<Opti
 {
     let limit = limit?;
     Ok(Some(SoFar { limit, ..options }))
+}
+
+fn with_catalogue(
+    options: SoFar,
+    catalogue: Result<Given<usize>, Refusal>,
+) -> Result<Option<SoFar>, Refusal>
+    ensures { result ≡ with_catalogue options catalogue }
+{
+    let catalogue = catalogue?;
+    Ok(Some(SoFar {
+        catalogue,
+        ..options
+    }))
 }
 
 fn with_types(options: SoFar, types: Result<bool, Refusal>) -> Result<Option<SoFar>, Refusal>
@@ -233,6 +265,18 @@ fn valued<T>(value: Option<T>, number: u32) -> Result<Given<T>, Refusal>
             word: number,
             code: 605,
         }),
+    }
+}
+
+// The number of a word that is a path: any but the empty one.
+fn path_at(word: &str, number: u32) -> Option<usize>
+    ensures path { result ≡ path_at number word.now }
+    ensures here { IfSome result (λ k. k ≡ number) }
+{
+    if word.is_empty() {
+        None
+    } else {
+        Some(number as usize)
     }
 }
 

@@ -1,4 +1,4 @@
-use Rattle.std.proofs.Common.{◌≡◌, ◌≤◌, ◌+◌, length}
+use Rattle.std.proofs.Common.{◌≡◌, ◌≤◌, ◌<◌, ◌+◌, length}
 use Rattle.kql_cells.specs.Values.{IsMoment}
 use Rattle.kql_words.specs.Command.{texts}
 use Rattle.kql_words.specs.Sizes.{size_top}
@@ -13,6 +13,7 @@ invariant-words l = record {
   moment : IfGiven IsMoment l.options.moment;
   workers : IfGiven AreWorkers l.options.workers;
   limit : IfGiven (λ n. n ≤ size_top) l.options.limit;
+  catalogue : IfGiven (λ k. k < 1 + length l.words) l.options.catalogue;
 }
 
 abbrev pub decreases-words : goal.decreases-words
