@@ -1,0 +1,6 @@
+mod AnswerFacts
+mod CallFacts
+mod EntryFacts
+mod FileFacts
+mod RowFacts
+mod TableFacts

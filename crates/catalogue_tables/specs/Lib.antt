@@ -1,0 +1,4 @@
+pub mod Computes
+pub mod Entries
+pub mod Files
+pub mod Tables
