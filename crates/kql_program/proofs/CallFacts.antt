@@ -20,7 +20,8 @@ use Rattle.kql_words.specs.declared.refusal.Refusal.{Refusal}
 use Rattle.kql_words.specs.declared.refusal.Refusal.TheVariants as refusal
 use Rattle.kql_program.specs.Calls.{CallsNow, EndsAtWrite, HasOwnFault, HeedsFaults, IsDoneAfter, LineEndsAtWrite, MayFail, OwnFault, StartsFor, StopsAtRead, StopsBy, Uncalled, Went}
 use Rattle.kql_program.specs.Endings.{EndsAs, refused_as}
-use Rattle.kql_program.specs.Files.{Files, file_tokens}
+use Rattle.catalogue_tables.specs.Files.{Files}
+use Rattle.kql_program.specs.Files.{file_tokens}
 use Rattle.kql_program.specs.Outcomes.{asked_in, text_in}
 use Rattle.kql_program.specs.Refusals.{Finds, Gives}
 use Rattle.kql_program.specs.Stops.{read_stop, syntax_stop}

@@ -15,7 +15,8 @@ use Rattle.kql_lexer.specs.declared.lexer.LexFault.TheVariants as lex
 use Rattle.kql_lexer.specs.declared.token.Token.{Token}
 use Rattle.kql_outside.specs.Told.{file_of}
 use Rattle.kql_cells.specs.Table.{Grid}
-use Rattle.kql_program.specs.Files.{Files, ReadsFront, ReadsTable, file_bytes, file_tokens, found_as, lexed_as, loaded_as, query_tokens, table_in, table_of}
+use Rattle.catalogue_tables.specs.Files.{Files, file_bytes, found_as}
+use Rattle.kql_program.specs.Files.{ReadsFront, ReadsTable, file_tokens, lexed_as, loaded_as, query_tokens, table_in, table_of}
 use Rattle.kql_program.specs.Refusals.{Computes, Gives}
 use Rattle.kql_words.specs.Refusals.{Answer, ◌>>=◌}
 use Rattle.kql_program.specs.Stops.{lex_stop}

@@ -6,7 +6,7 @@ use Rattle.kql_outside.specs.Causes.{Rose}
 use Rattle.kql_outside.specs.Memory.{SinkState, room_left}
 use Rattle.kql_program.specs.Answer.{Answers}
 use Rattle.kql_program.specs.Endings.{refused_as}
-use Rattle.kql_program.specs.Files.{Files}
+use Rattle.catalogue_tables.specs.Files.{Files}
 use Rattle.kql_program.specs.InMemory.{Answered, HadNoRoom, HasRoomForMemoryLine, HaveRoom, RunsOut, in_memory}
 use Rattle.kql_program.specs.Lines.{line_of, memory_line}
 use Rattle.kql_program.specs.Outcomes.{Ends, IsCutText, IsErrorLine, IsText, outside}

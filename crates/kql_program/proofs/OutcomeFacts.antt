@@ -15,7 +15,7 @@ use Rattle.kql_words.specs.declared.refusal.Refusal.TheVariants as refusal
 use Rattle.kql_words.specs.declared.trial.Trial.{Trial}
 use Rattle.kql_program.specs.Answer.{Answers, AnswersCommand}
 use Rattle.kql_program.specs.Endings.{EndsAs, EndsAsAsked, IfExplained, IfPlan, IsEndingOf, IsQuiet, refused_as}
-use Rattle.kql_program.specs.Files.{Files}
+use Rattle.catalogue_tables.specs.Files.{Files}
 use Rattle.kql_program.specs.Lines.{line_of, memory_line}
 use Rattle.kql_program.specs.Outcomes.{Adds, Ends, EndsAsAnswered, FailsToRead, IsDone, IsErrorLine, HasOutcome, IsAnswer, IsFaultless, IsLineOf, IsPlanFor, IsPlanText, IsSame, IsText, IsUnfinished, OfAnswers, Outside, ReadsFiles, ReadsFor, RefusesNoWord, SinkNow, TriesFor, Writes, WritesStop, asked_in}
 use Rattle.kql_program.specs.Refusals.{Finds, Reaches}

@@ -1,5 +1,5 @@
 -- The steps of a query's answer.
-use Rattle.std.proofs.Common.{◌≡◌, ◌<◌, ◌∙◌, ◌+◌, ◌-◌, ℕ, get_or, List, [], length, drop, take, refl, ap, subst, sym}
+use Rattle.std.proofs.Common.{◌≡◌, ◌<◌, ◌∙◌, ◌+◌, ◌-◌, ℕ, get_or, List, [], length, drop, take, refl, ap, ap₂, subst, sym}
 use Rattle.std.specs.Prelude.{ℤ, Option, Some, None, IfSome, IsErrAnd, Result, Ok, Err, String, string_bytes}
 use Rattle.std.specs.Global.{Global}
 use Rattle.std.proofs.lemmas.List.{get_or-map}
@@ -10,13 +10,14 @@ use Rattle.kql_parser.specs.Parsing.{Parsed, Parses}
 use Rattle.kql_syntax.specs.declared.parse.SyntaxFault.{SyntaxFault}
 use Rattle.kql_syntax.specs.declared.parse.SyntaxFault.TheVariants as syntax
 use Rattle.kql_syntax.specs.declared.query.Query.{Query}
-use Rattle.kql_words.specs.Command.{query_path, table_words, texts}
+use Rattle.kql_words.specs.Command.{catalogue_path, query_path, table_words, texts}
 use Rattle.kql_words.specs.Refusals.{Answer}
 use Rattle.kql_words.specs.declared.command.Asked.{Asked}
 use Rattle.kql_words.specs.declared.refusal.Refusal.TheVariants as refusal
 use Rattle.kql_words.proofs.AskedLaws.{texts-rest}
-use Rattle.kql_program.specs.Files.{Files, file_tokens, query_tokens, tables_from}
-use Rattle.kql_program.specs.Queries.{AreRows, IsBound, IsBoundAsked, bound_over, bound_with, query_bound, rows_of, rows_over}
+use Rattle.catalogue_tables.specs.Files.{Files}
+use Rattle.kql_program.specs.Files.{file_tokens, query_tokens, tables_of}
+use Rattle.kql_program.specs.Queries.{AreRows, IsBound, IsBoundAsked, bound_over, bound_with, query_bound, rows_of, rows_over, tables_asked}
 use Rattle.kql_program.specs.Refusals.{Computes, Finds, Gives, Reaches}
 use Rattle.kql_program.specs.Stops.{syntax_stop}
 use Rattle.kql_program.specs.declared.bound.BoundQuery.{BoundQuery}
@@ -27,22 +28,22 @@ use Rattle.kql_program.proofs.AnswerFacts.{computes, goes_on, raised, raised-fin
 -- A query, and the tables of words.
 
 -- the tables can't be had
-pub asked-stop : (told : Option Files) (query : Query) (limit : ℕ) (moment : Option ℤ) (words : List (List ℕ)) (r : Result BoundQuery Stop) (s : Stop)
-    → IfSome told (λ files. Computes (tables_from files 1 limit words) (Err s)) → IsErrAnd r (λ e. e ≡ s)
-    → IfSome told (λ files. Computes (bound_with (tables_from files 1 limit words) moment query) r)
+pub asked-stop : (told : Option Files) (query : Query) (limit : ℕ) (catalogue : Option (List ℕ)) (moment : Option ℤ) (words : List (List ℕ)) (r : Result BoundQuery Stop) (s : Stop)
+    → IfSome told (λ files. Computes (tables_of files limit catalogue words) (Err s)) → IsErrAnd r (λ e. e ≡ s)
+    → IfSome told (λ files. Computes (bound_with (tables_of files limit catalogue words) moment query) r)
 unfolding bound_with
-asked-stop None query limit moment words r s h i = tt
-asked-stop (Some files) query limit moment words r s h i =
-    raised (bound_with (tables_from files 1 limit words) moment query) r s i (stops (tables_from files 1 limit words) (λ tables. bound_over query moment tables) s h)
+asked-stop None query limit catalogue moment words r s h i = tt
+asked-stop (Some files) query limit catalogue moment words r s h i =
+    raised (bound_with (tables_of files limit catalogue words) moment query) r s i (stops (tables_of files limit catalogue words) (λ tables. bound_over query moment tables) s h)
 
 -- the query bound to the tables
-pub asked-bound : (told : Option Files) (query : Query) (limit : ℕ) (moment : Option ℤ) (words : List (List ℕ)) (tables : List Named) (r : Result BoundQuery Stop)
-    → IfSome told (λ files. tables_from files 1 limit words ≡ Ok tables) → Gives (bound_over query moment tables) r
-    → IfSome told (λ files. Computes (bound_with (tables_from files 1 limit words) moment query) r)
+pub asked-bound : (told : Option Files) (query : Query) (limit : ℕ) (catalogue : Option (List ℕ)) (moment : Option ℤ) (words : List (List ℕ)) (tables : List Named) (r : Result BoundQuery Stop)
+    → IfSome told (λ files. tables_of files limit catalogue words ≡ Ok tables) → Gives (bound_over query moment tables) r
+    → IfSome told (λ files. Computes (bound_with (tables_of files limit catalogue words) moment query) r)
 unfolding bound_with
-asked-bound None query limit moment words tables r h g = tt
-asked-bound (Some files) query limit moment words tables r h g =
-    goes_on (tables_from files 1 limit words) (λ tables. bound_over query moment tables) tables r h (computes (bound_over query moment tables) r g)
+asked-bound None query limit catalogue moment words tables r h g = tt
+asked-bound (Some files) query limit catalogue moment words tables r h g =
+    goes_on (tables_of files limit catalogue words) (λ tables. bound_over query moment tables) tables r h (computes (bound_over query moment tables) r g)
 
 -- Tokens, and the query that they are.
 
@@ -56,11 +57,11 @@ fault-reaches : (tables : Answer (List Named)) (tokens : List Token) (moment : O
 fault-reaches tables tokens moment (syntax.Refused code place) h = fault-bound tables tokens moment (syntax.Refused code place) h
 fault-reaches tables tokens moment syntax.OutOfMemory h = tt
 
-pub parsed-fault : (told : Option Files) (tokens : List Token) (limit : ℕ) (moment : Option ℤ) (words : List (List ℕ)) (fault : SyntaxFault) (r : Result BoundQuery Stop) → Parses tokens (Err fault) → IsErrAnd r (λ e. e ≡ syntax_stop fault)
-    → IfSome told (λ files. Reaches (IsBound (Ok tokens) (tables_from files 1 limit words) moment) r)
-parsed-fault None tokens limit moment words fault r h i = tt
-parsed-fault (Some files) tokens limit moment words fault r h i =
-    raised-reaches (IsBound (Ok tokens) (tables_from files 1 limit words) moment) r (syntax_stop fault) i (fault-reaches (tables_from files 1 limit words) tokens moment fault h)
+pub parsed-fault : (told : Option Files) (tokens : List Token) (limit : ℕ) (catalogue : Option (List ℕ)) (moment : Option ℤ) (words : List (List ℕ)) (fault : SyntaxFault) (r : Result BoundQuery Stop) → Parses tokens (Err fault) → IsErrAnd r (λ e. e ≡ syntax_stop fault)
+    → IfSome told (λ files. Reaches (IsBound (Ok tokens) (tables_of files limit catalogue words) moment) r)
+parsed-fault None tokens limit catalogue moment words fault r h i = tt
+parsed-fault (Some files) tokens limit catalogue moment words fault r h i =
+    raised-reaches (IsBound (Ok tokens) (tables_of files limit catalogue words) moment) r (syntax_stop fault) i (fault-reaches (tables_of files limit catalogue words) tokens moment fault h)
 
 -- they are a query
 query-reaches : (tables : Answer (List Named)) (tokens : List Token) (moment : Option ℤ) (query : Query) (r : Result BoundQuery Stop) → Parsed tokens query → Computes (bound_with tables moment query) r → Reaches (IsBound (Ok tokens) tables moment) r
@@ -70,11 +71,11 @@ query-reaches tables tokens moment query (Err (stop.Refused q)) p h = record { v
 query-reaches tables tokens moment query (Err stop.ReadFault) p h = tt
 query-reaches tables tokens moment query (Err stop.OutOfMemory) p h = tt
 
-pub parsed-bound : (told : Option Files) (tokens : List Token) (limit : ℕ) (moment : Option ℤ) (words : List (List ℕ)) (query : Query) (r : Result BoundQuery Stop) → Parsed tokens query
-    → IfSome told (λ files. Computes (bound_with (tables_from files 1 limit words) moment query) r)
-    → IfSome told (λ files. Reaches (IsBound (Ok tokens) (tables_from files 1 limit words) moment) r)
-parsed-bound None tokens limit moment words query r p h = tt
-parsed-bound (Some files) tokens limit moment words query r p h = query-reaches (tables_from files 1 limit words) tokens moment query r p h
+pub parsed-bound : (told : Option Files) (tokens : List Token) (limit : ℕ) (catalogue : Option (List ℕ)) (moment : Option ℤ) (words : List (List ℕ)) (query : Query) (r : Result BoundQuery Stop) → Parsed tokens query
+    → IfSome told (λ files. Computes (bound_with (tables_of files limit catalogue words) moment query) r)
+    → IfSome told (λ files. Reaches (IsBound (Ok tokens) (tables_of files limit catalogue words) moment) r)
+parsed-bound None tokens limit catalogue moment words query r p h = tt
+parsed-bound (Some files) tokens limit catalogue moment words query r p h = query-reaches (tables_of files limit catalogue words) tokens moment query r p h
 
 -- The tokens of the query that a command asks for.
 
@@ -95,21 +96,27 @@ asked-tokens None words asked d path r s lt p h i = tt
 asked-tokens (Some files) words asked d path r s lt p h i =
     let there : Computes (file_tokens files (query_path (texts words) asked)) (Err s) = subst (λ (at : List ℕ). Computes (file_tokens files at) (Err s)) (sym (path-asked words asked d path lt p)) h in
     raised-reaches (IsBoundAsked (texts words) files asked) r s i
-    (tokens-reach (file_tokens files (query_path (texts words) asked)) (tables_from files 1 asked.options.limit (table_words (texts words) asked)) asked.options.moment s there)
+    (tokens-reach (file_tokens files (query_path (texts words) asked)) (tables_asked (texts words) files asked) asked.options.moment s there)
 
 -- the query that the tokens are
-pub asked-parsed : (told now-told : Option Files) (words rest : List (String Global)) (asked : Asked) (d : String Global) (path : List ℕ) (tokens : List Token) (r : Result BoundQuery Stop)
-    → asked.query < length words → path ≡ string_bytes (get_or words asked.query d) → rest ≡ take (length words - (asked.query + 1)) (drop (asked.query + 1) words)
-    → IfSome told (λ files. file_tokens files path ≡ Ok tokens) → now-told ≡ told → IfSome now-told (λ files. Reaches (IsBound (Ok tokens) (tables_from files 1 asked.options.limit (texts rest)) asked.options.moment) r)
+pub asked-parsed : (told now-told : Option Files) (words rest : List (String Global)) (asked : Asked) (d : String Global) (path : List ℕ) (catalogue : Option (List ℕ)) (tokens : List Token) (r : Result BoundQuery Stop)
+    → asked.query < length words → path ≡ string_bytes (get_or words asked.query d) → rest ≡ take (length words - (asked.query + 1)) (drop (asked.query + 1) words) → catalogue ≡ catalogue_path (texts words) asked
+    → IfSome told (λ files. file_tokens files path ≡ Ok tokens) → now-told ≡ told → IfSome now-told (λ files. Reaches (IsBound (Ok tokens) (tables_of files asked.options.limit catalogue (texts rest)) asked.options.moment) r)
     → IfSome told (λ files. Reaches (IsBoundAsked (texts words) files asked) r)
-asked-parsed None now-told words rest asked d path tokens r lt p w t n h = tt
-asked-parsed (Some files) now-told words rest asked d path tokens r lt p w t n h =
+asked-parsed None now-told words rest asked d path catalogue tokens r lt p w c t n h = tt
+asked-parsed (Some files) now-told words rest asked d path catalogue tokens r lt p w c t n h =
     let tables : table_words (texts words) asked ≡ texts rest = sym (texts-rest words rest (asked.query + 1) w) in
     let read : file_tokens files (query_path (texts words) asked) ≡ Ok tokens = ap (file_tokens files) (path-asked words asked d path lt p) ∙ t in
-    let there : Reaches (IsBound (Ok tokens) (tables_from files 1 asked.options.limit (texts rest)) asked.options.moment) r = rw n at h in
-    let over : Reaches (IsBound (Ok tokens) (tables_from files 1 asked.options.limit (table_words (texts words) asked)) asked.options.moment) r =
-    subst (λ (ws : List (List ℕ)). Reaches (IsBound (Ok tokens) (tables_from files 1 asked.options.limit ws) asked.options.moment) r) (sym tables) there in
-    subst (λ (ts : Answer (List Token)). Reaches (IsBound ts (tables_from files 1 asked.options.limit (table_words (texts words) asked)) asked.options.moment) r) (sym read) over
+    let there : Reaches (IsBound (Ok tokens) (tables_of files asked.options.limit catalogue (texts rest)) asked.options.moment) r = rw n at h in
+    let all : tables_of files asked.options.limit catalogue (texts rest) ≡ tables_asked (texts words) files asked = ap₂ (λ at ws. tables_of files asked.options.limit at ws) c (sym tables) in
+    let over : Reaches (IsBound (Ok tokens) (tables_asked (texts words) files asked) asked.options.moment) r =
+    subst (λ (ts : Answer (List Named)). Reaches (IsBound (Ok tokens) ts asked.options.moment) r) all there in
+    subst (λ (ts : Answer (List Token)). Reaches (IsBound ts (tables_asked (texts words) files asked) asked.options.moment) r) (sym read) over
+
+-- the path of its catalogue file
+pub catalogue-at : (words : List (String Global)) (asked : Asked) (k : ℕ) (d : String Global) (path : List ℕ) → asked.options.catalogue ≡ Some k → k < length words → path ≡ string_bytes (get_or words k d)
+    → Some path ≡ catalogue_path (texts words) asked
+catalogue-at words asked k d path e lt p = rw e (ap Some (p ∙ sym (get_or-map string_bytes words k d [] lt)))
 
 -- A stored query.
 

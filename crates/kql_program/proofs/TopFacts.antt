@@ -10,7 +10,7 @@ use Rattle.kql_words.specs.declared.command.Command.{Command}
 use Rattle.kql_words.specs.declared.command.Command.TheVariants as command
 use Rattle.kql_words.specs.declared.trial.Trial.{Trial}
 use Rattle.kql_program.specs.Answer.{AnswersCommand}
-use Rattle.kql_program.specs.Files.{Files}
+use Rattle.catalogue_tables.specs.Files.{Files}
 use Rattle.kql_program.specs.Outcomes.{IsDone, IsPlanFor, text_in}
 use Rattle.kql_program.specs.Plans.{AnswersExplain, IsExplainedBy, IsPlanOf, IsRunBy}
 use Rattle.kql_program.specs.Queries.{AnswersQuery, IsBoundAsked, text_as}

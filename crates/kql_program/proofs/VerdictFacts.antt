@@ -15,9 +15,10 @@ use Rattle.kql_words.specs.declared.command.Command.{Command}
 use Rattle.kql_words.specs.declared.command.Command.TheVariants as command
 use Rattle.kql_words.specs.declared.refusal.Refusal.TheVariants as refusal
 use Rattle.kql_program.specs.Answer.{AnswersCommand, AreOne, ExplainTheSame, HasOneAnswer}
-use Rattle.kql_program.specs.Files.{Files, file_tokens, query_tokens, tables_from}
+use Rattle.catalogue_tables.specs.Files.{Files}
+use Rattle.kql_program.specs.Files.{file_tokens, query_tokens}
 use Rattle.kql_program.specs.Plans.{AnswersExplain, Explains}
-use Rattle.kql_program.specs.Queries.{AnswersQuery, AreRows, IsBound, IsBoundAsked, query_bound, rows_of, text_of}
+use Rattle.kql_program.specs.Queries.{AnswersQuery, AreRows, IsBound, IsBoundAsked, query_bound, rows_of, text_of, tables_asked}
 use Rattle.kql_program.specs.Refusals.{after}
 use Rattle.kql_program.specs.Syntax.{IsVerdict, Verdict}
 use Rattle.kql_program.specs.Trials.{AreLines, IsLine, LinesFrom, line_as}
@@ -50,7 +51,7 @@ one-rows tokens tables moment a b h k = h.is ∙ (ap rows_of (one-bound tokens t
 
 one-text : (words : List (List ℕ)) (files : Files) (asked : Asked) (a b : Answer (List ℕ)) → AnswersQuery words files asked a → AnswersQuery words files asked b → a ≡ b
 one-text words files asked a b h k =
-    h.is ∙ (ap (text_of asked.options.types) (one-rows (file_tokens files (query_path words asked)) (tables_from files 1 asked.options.limit (table_words words asked)) asked.options.moment h.rows k.rows h.are k.are) ∙ sym k.is)
+    h.is ∙ (ap (text_of asked.options.types) (one-rows (file_tokens files (query_path words asked)) (tables_asked words files asked) asked.options.moment h.rows k.rows h.are k.are) ∙ sym k.is)
 
 -- there is one refusal of `explain`, and each text is of a plan of the one program that is bound
 same-explained : (words : List (List ℕ)) (files : Files) (asked : Asked) (bound : Answer BoundQuery) (a b : Answer (List ℕ)) → IsBoundAsked words files asked bound → Explains bound a → Explains bound b → ExplainTheSame words files asked a b
@@ -61,7 +62,7 @@ same-explained words files asked (Ok bound) (Err q) b i (plan, p, e) k = cc e
 
 one-explained : (words : List (List ℕ)) (files : Files) (asked : Asked) (a b : Answer (List ℕ)) → AnswersExplain words files asked a → AnswersExplain words files asked b → ExplainTheSame words files asked a b
 one-explained words files asked a b h k =
-    let same = one-bound (file_tokens files (query_path words asked)) (tables_from files 1 asked.options.limit (table_words words asked)) asked.options.moment k.bound h.bound k.is_bound h.is_bound in
+    let same = one-bound (file_tokens files (query_path words asked)) (tables_asked words files asked) asked.options.moment k.bound h.bound k.is_bound h.is_bound in
     same-explained words files asked h.bound a b h.is_bound h.is (subst (λ (x : Answer BoundQuery). Explains x b) same k.is)
 
 one-line : (tables : List Named) (number : ℕ) (text : List ℕ) (a b : Answer (List ℕ)) → IsLine tables number text a → IsLine tables number text b → a ≡ b

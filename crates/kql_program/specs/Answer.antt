@@ -5,7 +5,7 @@ use Rattle.kql_words.specs.Refusals.{Answer}
 use Rattle.kql_words.specs.declared.command.Asked.{Asked}
 use Rattle.kql_words.specs.declared.command.Command.{Command}
 use Rattle.kql_words.specs.declared.command.Command.TheVariants as command
-use Rattle.kql_program.specs.Files.{Files}
+use Rattle.catalogue_tables.specs.Files.{Files}
 use Rattle.kql_program.specs.Plans.{AnswersExplain, ExplainOne}
 use Rattle.kql_program.specs.Queries.{AnswersQuery}
 use Rattle.kql_program.specs.Trials.{AnswersTrial}

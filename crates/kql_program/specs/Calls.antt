@@ -8,7 +8,8 @@ use Rattle.kql_words.specs.Command.{query_path}
 use Rattle.kql_words.specs.Refusals.{Answer}
 use Rattle.kql_words.specs.declared.command.Asked.{Asked}
 use Rattle.kql_program.specs.Endings.{refused_as}
-use Rattle.kql_program.specs.Files.{Files, file_tokens}
+use Rattle.catalogue_tables.specs.Files.{Files}
+use Rattle.kql_program.specs.Files.{file_tokens}
 use Rattle.kql_program.specs.declared.ended.Ended.{Ended}
 use Rattle.kql_program.specs.declared.ended.Ended.TheVariants as ended
 use Rattle.kql_program.specs.declared.refusal.Stop.{Stop}

@@ -1,11 +1,12 @@
--- The files of the command: the query file, and the table files in the order of the words.
-use Rattle.std.specs.Prelude.{◌≡◌, ℕ, ◌+◌, ◌-◌, nat_le, List, [], ◌∷◌, ◌++◌, length, take, Option, Some, None, Result, Ok, Err, if◌then◌else◌}
+-- The files of the command: the query file, the table files in the order of the words, and then the catalogue file with its own.
+use Rattle.std.specs.Prelude.{◌≡◌, ℕ, ◌+◌, ◌-◌, nat_le, List, [], ◌∷◌, ◌++◌, length, map, take, Option, Some, None, Result, Ok, Err, if◌then◌else◌}
+use Rattle.catalogue_tables.specs.Files.{Files, file_bytes}
+use Rattle.catalogue_tables.specs.Tables.{catalogue_tables}
 use Rattle.csv_io.specs.Faults.{Fault}
 use Rattle.csv_io.specs.Load.{loaded}
 use Rattle.kql_lexer.specs.Lexing as lexing
 use Rattle.kql_lexer.specs.Lexing.{lexed}
 use Rattle.kql_lexer.specs.declared.token.Token.{Token}
-use Rattle.kql_outside.specs.Told.{file_of}
 use Rattle.kql_cells.specs.Table.{Grid}
 use Rattle.kql_cells.specs.Catalogues.{Named}
 use Rattle.kql_words.specs.Command.{name_in, path_in}
@@ -13,18 +14,6 @@ use Rattle.kql_words.specs.declared.refusal.Refusal.TheVariants.{Data, Query}
 use Rattle.kql_program.specs.declared.refusal.Stop.{Stop}
 use Rattle.kql_program.specs.Refusals.{Computes, with_first}
 use Rattle.kql_words.specs.Refusals.{Answer, ◌>>=◌}
-
--- files by their path: the first of a path counts
-abbrev pub Files : Type 0
-Files = List (List ℕ × List ℕ)
-
-abbrev pub found_as : ℕ → Option (List ℕ) → Answer (List ℕ)
-found_as number None = Err (Data number 307 0 0)
-found_as number (Some bytes) = Ok bytes
-
--- the bytes of the file of a path, or 307
-unfoldable pub file_bytes : ℕ → Files → List ℕ → Answer (List ℕ)
-file_bytes number files path = found_as number (file_of files path)
 
 abbrev pub lexed_as : Result (List Token) lexing.Fault → Answer (List Token)
 lexed_as (Ok tokens) = Ok tokens
@@ -55,13 +44,22 @@ named_as name grid = record { name = name; table = grid }
 abbrev pub table_of : Files → ℕ → ℕ → List ℕ → Answer Grid
 table_of files number room path = file_bytes number files path >>= table_in number room
 
--- the tables of the words from this file on, whose files may have so many bytes together
-unfoldable pub tables_from : Files → ℕ → ℕ → List (List ℕ) → Answer (List Named)
-tables_from files number room [] = Ok []
-tables_from files number room (word ∷ words) =
+-- what follows the tables of the words, where the table files may have so many bytes more: the tables of the catalogue file, where one is given
+abbrev pub tables_behind : Files → List (List ℕ) → Option (List ℕ) → ℕ → Answer (List Named)
+tables_behind files names None room = Ok []
+tables_behind files names (Some path) room = catalogue_tables files names room path
+
+-- the tables of the words from this file on, and what follows them; the table files may have so many bytes together
+unfoldable pub tables_from : Files → (ℕ → Answer (List Named)) → ℕ → ℕ → List (List ℕ) → Answer (List Named)
+tables_from files behind number room [] = behind room
+tables_from files behind number room (word ∷ words) =
     file_bytes number files (path_in word) >>= λ bytes.
     table_in number room bytes >>= λ grid.
-    with_first (named_as (name_in word) grid) (tables_from files (number + 1) (room - length bytes) words)
+    with_first (named_as (name_in word) grid) (tables_from files behind (number + 1) (room - length bytes) words)
+
+-- the tables of the words and of a catalogue file, whose files may have so many bytes together
+abbrev pub tables_of : Files → ℕ → Option (List ℕ) → List (List ℕ) → Answer (List Named)
+tables_of files limit catalogue words = tables_from files (tables_behind files (map name_in words) catalogue) 1 limit words
 
 -- a call gave a front of so many bytes of what the answer is
 abbrev pub ReadsFront : ℕ → Answer (List ℕ) → Result (List ℕ) Stop → Type 0

@@ -5,7 +5,7 @@ use Rattle.kql_program.specs.Answer.{Answers}
 use Rattle.kql_program.specs.declared.ended.Ended.{Ended}
 use Rattle.kql_program.specs.declared.ended.Ended.TheVariants.{OutOfMemory, WriteFault}
 use Rattle.kql_program.specs.Endings.{IsEndingOf}
-use Rattle.kql_program.specs.Files.{Files}
+use Rattle.catalogue_tables.specs.Files.{Files}
 use Rattle.kql_program.specs.Lines.{line_of, memory_line}
 use Rattle.kql_program.specs.Outcomes.{SinkNow, sink_now}
 use Rattle.kql_words.specs.Refusals.{Answer}

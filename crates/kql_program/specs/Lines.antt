@@ -65,9 +65,9 @@ usage_name code =
     else if code == 610 then codes "TooManyTables"
     else []
 
--- the name of a code of a refused file
-abbrev pub data_name : ℕ → List ℕ
-data_name code =
+-- the name of a code of a refused file, up to 308
+abbrev pub file_name : ℕ → List ℕ
+file_name code =
     if code == 301 then codes "NotUtf8"
     else if code == 302 then codes "NoHeader"
     else if code == 303 then codes "BadColumn"
@@ -77,6 +77,21 @@ data_name code =
     else if code == 307 then codes "NoFile"
     else if code == 308 then codes "TooLong"
     else []
+
+-- and 309 to 314
+abbrev pub catalogue_name : ℕ → List ℕ
+catalogue_name code =
+    if code == 309 then codes "NotJson"
+    else if code == 310 then codes "BadCatalogue"
+    else if code == 311 then codes "BadTableName"
+    else if code == 312 then codes "HeaderDiffers"
+    else if code == 313 then codes "TooManyFiles"
+    else if code == 314 then codes "CatalogueTooLong"
+    else []
+
+-- the name of a code of a refused file
+abbrev pub data_name : ℕ → List ℕ
+data_name code = if nat_lt code 309 then file_name code else catalogue_name code
 
 -- texts one after another
 abbrev pub joined : List (List ℕ) → List ℕ

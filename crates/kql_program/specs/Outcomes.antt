@@ -19,7 +19,7 @@ use Rattle.kql_program.specs.Answer.{Answers}
 use Rattle.kql_program.specs.Trials.{AnswersTrial}
 use Rattle.kql_words.specs.Command.{command_of}
 use Rattle.kql_program.specs.Endings.{EndsAs, EndsAsAsked, IfExplained, IfPlan, IsEndingOf, IsQuiet, refused_as}
-use Rattle.kql_program.specs.Files.{Files}
+use Rattle.catalogue_tables.specs.Files.{Files}
 use Rattle.kql_program.specs.Lines.{line_of, memory_line, read_fault_line}
 use Rattle.kql_program.specs.Plans.{IsPlanAsked}
 use Rattle.kql_program.specs.Refusals.{Finds}

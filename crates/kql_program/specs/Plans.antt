@@ -9,7 +9,7 @@ use Rattle.kql_words.specs.declared.command.Asked.{Asked}
 use Rattle.plan_push.specs.Settled.{settled}
 use Rattle.plan_rules.specs.Becomes.{ProgramBecomes}
 use Rattle.plan_rules.specs.Improves.{IsNoLonger}
-use Rattle.kql_program.specs.Files.{Files}
+use Rattle.catalogue_tables.specs.Files.{Files}
 use Rattle.kql_program.specs.Queries.{IsBoundAsked, text_as}
 use Rattle.kql_program.specs.declared.bound.BoundQuery.{BoundQuery}
 use Rattle.kql_program.specs.declared.ended.Ended.{Ended}

@@ -13,9 +13,10 @@ use Rattle.kql_lexer.specs.declared.place.Place.{Place}
 use Rattle.kql_lexer.specs.declared.token.Token.{Token}
 use Rattle.kql_meaning.specs.Plans.{means}
 use Rattle.kql_syntax.specs.declared.query.Query.{Query}
-use Rattle.kql_words.specs.Command.{query_path, table_words}
+use Rattle.kql_words.specs.Command.{catalogue_path, query_path, table_words}
 use Rattle.kql_words.specs.declared.command.Asked.{Asked}
-use Rattle.kql_program.specs.Files.{Files, file_tokens, tables_from}
+use Rattle.catalogue_tables.specs.Files.{Files}
+use Rattle.kql_program.specs.Files.{file_tokens, tables_of}
 use Rattle.kql_words.specs.Refusals.{Answer, ◌>>=◌}
 use Rattle.kql_program.specs.Syntax.{IsVerdict, Verdict}
 use Rattle.kql_program.specs.declared.bound.BoundQuery.{BoundQuery}
@@ -59,9 +60,13 @@ pub record IsBound (tokens : Answer (List Token)) (tables : Answer (List Named))
   pub judged : IfOk tokens (λ read. IsVerdict read verdict)
   pub is : a ≡ query_bound tokens tables moment verdict
 
+-- the tables of a command, or the first refusal
+abbrev pub tables_asked : List (List ℕ) → Files → Asked → Answer (List Named)
+tables_asked words files asked = tables_of files asked.options.limit (catalogue_path words asked) (table_words words asked)
+
 -- this is the query of a command, bound, or the first refusal
 abbrev pub IsBoundAsked : List (List ℕ) → Files → Asked → Answer BoundQuery → Type 0
-IsBoundAsked words files asked a = IsBound (file_tokens files (query_path words asked)) (tables_from files 1 asked.options.limit (table_words words asked)) asked.options.moment a
+IsBoundAsked words files asked a = IsBound (file_tokens files (query_path words asked)) (tables_asked words files asked) asked.options.moment a
 
 -- The rows of a query that is bound: those that its program means. What is bound fits the schemas of its tables, so that it has rows.
 abbrev pub rows_of : Answer BoundQuery → Answer Grid
@@ -79,7 +84,7 @@ pub record AreRows (tokens : Answer (List Token)) (tables : Answer (List Named))
 
 -- these are the rows that a query's command asks for, or the first refusal
 abbrev pub AreRowsAsked : List (List ℕ) → Files → Asked → Answer Grid → Type 0
-AreRowsAsked words files asked a = AreRows (file_tokens files (query_path words asked)) (tables_from files 1 asked.options.limit (table_words words asked)) asked.options.moment a
+AreRowsAsked words files asked a = AreRows (file_tokens files (query_path words asked)) (tables_asked words files asked) asked.options.moment a
 
 -- the text of a table, with the types of its columns in the header or without
 abbrev pub text_as : Bool → Grid → List ℕ

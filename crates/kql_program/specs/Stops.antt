@@ -1,6 +1,8 @@
 -- How an error of a lower room stops the work.
 use Rattle.bind_expr.specs.declared.fault.BindFault.{BindFault}
 use Rattle.bind_expr.specs.declared.fault.BindFault.TheVariants as bind
+use Rattle.catalogue_tables.specs.declared.stop.CatalogueStop.{CatalogueStop}
+use Rattle.catalogue_tables.specs.declared.stop.CatalogueStop.TheVariants as catalogue
 use Rattle.kql_outside.specs.declared.transfers.ReadError.{ReadError}
 use Rattle.kql_outside.specs.declared.transfers.ReadError.TheVariants as read
 use Rattle.kql_lexer.specs.declared.lexer.LexFault.{LexFault}
@@ -14,6 +16,11 @@ use Rattle.kql_program.specs.declared.refusal.Stop.TheVariants as stop
 abbrev pub read_stop : ReadError → Stop
 read_stop read.Failed = stop.ReadFault
 read_stop read.OutOfMemory = stop.OutOfMemory
+
+abbrev pub catalogue_stop : CatalogueStop → Stop
+catalogue_stop (catalogue.Refused file code row column) = stop.Refused (refusal.Data file code row column)
+catalogue_stop catalogue.ReadFault = stop.ReadFault
+catalogue_stop catalogue.OutOfMemory = stop.OutOfMemory
 
 abbrev pub lex_stop : LexFault → Stop
 lex_stop (lex.Refused code place) = stop.Refused (refusal.Query code place)

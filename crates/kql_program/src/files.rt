@@ -1,4 +1,4 @@
-ghost use Rattle.std.specs.Prelude.{◌≡◌, ◌≤◌, ◌+◌, ◌++◌, ◌∷◌, [], Err, IfOk, IfSome, OnOk, length, map, true};
+ghost use Rattle.std.specs.Prelude.{◌≡◌, ◌≤◌, ◌+◌, ◌++◌, ◌∷◌, [], Err, IfOk, IfSome, OnOk, length, map, option_map, true};
 ghost use Rattle.kql_outside.specs.Calls.{one_more};
 ghost use Rattle.kql_outside.specs.Causes.{Rose};
 ghost use Rattle.kql_cells.specs.Named.{IsAbsent};
@@ -6,13 +6,15 @@ ghost use Rattle.kql_cells.specs.Catalogues.{table_name};
 ghost use Rattle.kql_words.specs.Command.{AreTables, name_in, names_table, texts};
 ghost use Rattle.kql_words.specs.Sizes.{size_top};
 ghost use Rattle.kql_program.specs.Calls.{StopsAtRead};
-ghost use Rattle.kql_program.specs.Files.{AddsTable, ReadsFront, ReadsTable, file_bytes, file_tokens, loaded_as, query_tokens, tables_from};
+ghost use Rattle.catalogue_tables.specs.Files.{file_bytes};
+ghost use Rattle.kql_program.specs.Files.{AddsTable, ReadsFront, ReadsTable, file_tokens, loaded_as, query_tokens, tables_of};
 ghost use Rattle.kql_program.specs.Outcomes.{RefusesNoWord};
 ghost use Rattle.kql_program.specs.Refusals.{Computes, Gives};
 ghost use Rattle.csv_io.specs.Load.{loaded};
 ghost use Rattle.kql_program.specs.declared.refusal.Stop.TheVariants as stop;
 
 use crate::refusal::Stop;
+use catalogue_tables::catalogue_tables;
 use csv_io::{DataFault, load};
 use kql_cells::{Bytes, KText};
 use kql_items::Items;
@@ -72,11 +74,13 @@ pub(crate) fn read_tokens(alloc: Global, text: &[u8]) -> Result<Tokens, Stop>
     Ok(lex(alloc, text)?)
 }
 
-/// The tables of the words NAME=PATH, each file started, read and loaded before the next. The files may have `limit` bytes together.
+/// The tables of the words NAME=PATH, each file started, read and loaded before the next, and then those of the catalogue file of a path. The table files
+/// may have `limit` bytes together.
 pub(crate) fn read_tables<F: Shelf>(
     alloc: Global,
     shelf: &mut F,
     words: &[String],
+    catalogue: Option<&str>,
     limit: u64,
 ) -> Result<Catalogue, Stop>
     requires tables { AreTables (texts words.now) }
@@ -85,23 +89,19 @@ pub(crate) fn read_tables<F: Shelf>(
     ensures later { F.faults shelf.old ≤ F.faults shelf.new }
     ensures failed { result ≡ Err stop.ReadFault → Rose (F.faults shelf.old) (F.faults shelf.new) }
     ensures stops { StopsAtRead (F.calls shelf.old) (F.calls shelf.new) result }
-    ensures tables { IfSome (F.files shelf.old) (λ files. Computes (tables_from files 1 limit (texts words.now)) result) }
+    ensures tables { IfSome (F.files shelf.old) (λ files. Computes (tables_of files limit (option_map (λ path. path.now) catalogue.entry) (texts words.now)) result) }
     ensures words { RefusesNoWord result }
 {
-    let mut catalogue = Catalogue::new(alloc);
+    let mut tables = Catalogue::new(alloc);
     let mut room = limit as usize;
     for i in 0..words.len() {
         let number = i as u32 + 1;
-        room = add_table(
-            alloc,
-            shelf,
-            words[i].as_str(),
-            number,
-            room,
-            &mut catalogue,
-        )?;
+        room = add_table(alloc, shelf, words[i].as_str(), number, room, &mut tables)?;
     }
-    Ok(catalogue)
+    match catalogue {
+        Some(path) => Ok(catalogue_tables(alloc, shelf, path, room, tables)?),
+        None => Ok(tables),
+    }
 }
 
 // Adds the table of a word, whose file may have so many bytes; answers how many those behind it may have.

@@ -1,5 +1,5 @@
 ghost use Rattle.std.specs.Prelude.{◌≡◌, IfOk, string_bytes};
-ghost use Rattle.kql_program.specs.Lines.{data_line, data_name, line_of, bind_name, operator_name, query_line, query_name, text_name, usage_line, usage_name};
+ghost use Rattle.kql_program.specs.Lines.{catalogue_name, data_line, data_name, file_name, line_of, bind_name, operator_name, query_line, query_name, text_name, usage_line, usage_name};
 
 use kql_words::Refusal;
 use std::alloc::{AllocError, Global};
@@ -129,8 +129,19 @@ fn usage_name(code: u32) -> &'static str
     }
 }
 
+// The name of a code of a refused file.
 fn data_name(code: u32) -> &'static str
     ensures { result.now ≡ data_name code }
+{
+    if code < 309 {
+        file_name(code)
+    } else {
+        catalogue_name(code)
+    }
+}
+
+fn file_name(code: u32) -> &'static str
+    ensures { result.now ≡ file_name code }
 {
     match code {
         301 => "NotUtf8",
@@ -141,6 +152,20 @@ fn data_name(code: u32) -> &'static str
         306 => "BadCell",
         307 => "NoFile",
         308 => "TooLong",
+        _ => "",
+    }
+}
+
+fn catalogue_name(code: u32) -> &'static str
+    ensures { result.now ≡ catalogue_name code }
+{
+    match code {
+        309 => "NotJson",
+        310 => "BadCatalogue",
+        311 => "BadTableName",
+        312 => "HeaderDiffers",
+        313 => "TooManyFiles",
+        314 => "CatalogueTooLong",
         _ => "",
     }
 }

@@ -1,4 +1,5 @@
 use bind_expr::BindFault;
+use catalogue_tables::CatalogueStop;
 use kql_lexer::LexFault;
 use kql_outside::{Failed, ReadError};
 use kql_syntax::SyntaxFault;
@@ -59,6 +60,31 @@ impl From<ReadError> for Stop {
         match error {
             ReadError::Failed => Stop::ReadFault,
             ReadError::OutOfMemory => Stop::OutOfMemory,
+        }
+    }
+}
+
+impl From<CatalogueStop> for Stop {
+    ghost use Rattle.std.specs.Prelude.{◌≡◌};
+    ghost use Rattle.kql_program.specs.Stops.{catalogue_stop};
+
+    ghost from_gives = { λ stop e. e ≡ catalogue_stop stop };
+
+    fn from(stop: CatalogueStop) -> Stop {
+        match stop {
+            CatalogueStop::Refused {
+                file,
+                code,
+                row,
+                column,
+            } => Stop::Refused(Refusal::Data {
+                file,
+                code,
+                row,
+                column,
+            }),
+            CatalogueStop::ReadFault => Stop::ReadFault,
+            CatalogueStop::OutOfMemory => Stop::OutOfMemory,
         }
     }
 }

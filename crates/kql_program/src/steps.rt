@@ -1,5 +1,5 @@
 //! The steps of the answer: query file, syntax, table files, binding, and then the text that the command asks for. The first fault stops them.
-ghost use Rattle.std.specs.Prelude.{◌≡◌, ◌≤◌, ◌<◌, ◌+◌, Err, IfOk, IfSome, IsTrue, Ok, drop, length, true, ℕ};
+ghost use Rattle.std.specs.Prelude.{◌≡◌, ◌≤◌, ◌<◌, ◌+◌, Err, IfOk, IfSome, IsTrue, Ok, drop, length, option_map, true, ℕ};
 ghost use Rattle.kql_cells.specs.Catalogues.{schemas_of};
 ghost use Rattle.kql_cells.specs.Values.{IsMoment};
 ghost use Rattle.kql_meaning.specs.Fits.{fits};
@@ -12,7 +12,7 @@ ghost use Rattle.kql_parser_laws.specs.Patterns.{has_patterns};
 ghost use Rattle.kql_plan_text.specs.Plans.{plan_text};
 ghost use Rattle.kql_program.specs.Answer.{AnswersCommand};
 ghost use Rattle.kql_program.specs.Calls.{HasOwnFault, StartsFor, StopsAtRead};
-ghost use Rattle.kql_program.specs.Files.{tables_from};
+ghost use Rattle.kql_program.specs.Files.{tables_of};
 ghost use Rattle.kql_program.specs.Outcomes.{IsDone, ReadsFor, RefusesNoWord, TriesFor, asked_in, text_in};
 ghost use Rattle.kql_program.specs.Plans.{AnswersExplain, IsExplainedBy, IsRunBy};
 ghost use Rattle.kql_program.specs.Queries.{AnswersQuery, IsBound, IsBoundAsked, bound_with, text_as};
@@ -20,7 +20,7 @@ ghost use Rattle.kql_program.specs.Refusals.{Computes, Finds, Reaches};
 ghost use Rattle.kql_program.specs.Trials.{AnswersTrial};
 ghost use Rattle.kql_program.specs.declared.ended.Ended.TheVariants as ended;
 ghost use Rattle.kql_program.specs.declared.refusal.Stop.TheVariants as stop;
-ghost use Rattle.kql_words.specs.Command.{AreTables, IfAsks, texts};
+ghost use Rattle.kql_words.specs.Command.{AreTables, IfAsks, catalogue_path, texts};
 ghost use Rattle.kql_words.specs.Sizes.{size_top};
 ghost use Rattle.kql_words.specs.declared.command.Command.TheVariants as command;
 
@@ -56,6 +56,7 @@ pub(crate) fn command_text<F: Shelf>(
     requires tables { IfAsks (λ a. AreTables (texts (drop (a.query + 1) words.now))) command }
     requires moment { IfAsks (λ a. IfSome a.options.moment IsMoment) command }
     requires limit { IfAsks (λ a. a.options.limit ≤ size_top) command }
+    requires catalogue { IfAsks (λ a. IfSome a.options.catalogue (λ k. k < length words.now)) command }
     ensures files { F.files shelf.new ≡ F.files shelf.old }
     ensures failed { result ≡ Err stop.ReadFault → Rose (F.faults shelf.old) (F.faults shelf.new) }
     ensures stops { StopsAtRead (F.calls shelf.old) (F.calls shelf.new) result }
@@ -85,6 +86,7 @@ fn query_run<F: Shelf>(
     requires tables { AreTables (texts (drop (asked.query + 1) words.now)) }
     requires moment { IfSome asked.options.moment IsMoment }
     requires limit { asked.options.limit ≤ size_top }
+    requires catalogue { IfSome asked.options.catalogue (λ k. k < length words.now) }
     ensures files { F.files shelf.new ≡ F.files shelf.old }
     ensures failed { result ≡ Err stop.ReadFault → Rose (F.faults shelf.old) (F.faults shelf.new) }
     ensures stops { StopsAtRead (F.calls shelf.old) (F.calls shelf.new) result }
@@ -108,6 +110,7 @@ fn query_plain<F: Shelf>(
     requires tables { AreTables (texts (drop (asked.query + 1) words.now)) }
     requires moment { IfSome asked.options.moment IsMoment }
     requires limit { asked.options.limit ≤ size_top }
+    requires catalogue { IfSome asked.options.catalogue (λ k. k < length words.now) }
     ensures files { F.files shelf.new ≡ F.files shelf.old }
     ensures failed { result ≡ Err stop.ReadFault → Rose (F.faults shelf.old) (F.faults shelf.new) }
     ensures stops { StopsAtRead (F.calls shelf.old) (F.calls shelf.new) result }
@@ -131,6 +134,7 @@ fn query_explained<F: Shelf>(
     requires tables { AreTables (texts (drop (asked.query + 1) words.now)) }
     requires moment { IfSome asked.options.moment IsMoment }
     requires limit { asked.options.limit ≤ size_top }
+    requires catalogue { IfSome asked.options.catalogue (λ k. k < length words.now) }
     ensures files { F.files shelf.new ≡ F.files shelf.old }
     ensures failed { result ≡ Err stop.ReadFault → Rose (F.faults shelf.old) (F.faults shelf.new) }
     ensures stops { StopsAtRead (F.calls shelf.old) (F.calls shelf.new) result }
@@ -229,6 +233,7 @@ fn query_bound<F: Shelf>(
     requires tables { AreTables (texts (drop (asked.query + 1) words.now)) }
     requires moment { IfSome asked.options.moment IsMoment }
     requires limit { asked.options.limit ≤ size_top }
+    requires catalogue { IfSome asked.options.catalogue (λ k. k < length words.now) }
     ensures files { F.files shelf.new ≡ F.files shelf.old }
     ensures later { F.faults shelf.old ≤ F.faults shelf.new }
     ensures failed { result ≡ Err stop.ReadFault → Rose (F.faults shelf.old) (F.faults shelf.new) }
@@ -240,15 +245,28 @@ fn query_bound<F: Shelf>(
 {
     let tokens = read_query(alloc, shelf, words[asked.query].as_str())?;
     let tables = &words[asked.query + 1..];
-    parsed_bound(alloc, shelf, &tokens, asked.options, tables)
+    let catalogue = catalogue_path(words, asked);
+    parsed_bound(alloc, shelf, &tokens, asked.options, catalogue, tables)
 }
 
-// The query that tokens are, bound to the tables that words name.
+// The path of the catalogue file of a command, where one is given.
+fn catalogue_path(words: &[String], asked: Asked) -> Option<&str>
+    requires within { IfSome asked.options.catalogue (λ k. k < length words.now) }
+    ensures path { option_map (λ path. path.now) result ≡ catalogue_path (texts words.now) asked }
+{
+    match asked.options.catalogue {
+        Some(k) => Some(words[k].as_str()),
+        None => None,
+    }
+}
+
+// The query that tokens are, bound to the tables that words and a catalogue file name.
 fn parsed_bound<F: Shelf>(
     alloc: Global,
     shelf: &mut F,
     tokens: &Tokens,
     options: Options,
+    catalogue: Option<&str>,
     words: &[String],
 ) -> Result<BoundQuery, Stop>
     requires moment { IfSome options.moment IsMoment }
@@ -259,23 +277,24 @@ fn parsed_bound<F: Shelf>(
     ensures failed { result ≡ Err stop.ReadFault → Rose (F.faults shelf.old) (F.faults shelf.new) }
     ensures stops { StopsAtRead (F.calls shelf.old) (F.calls shelf.new) result }
     ensures starts { (code : ℕ) (place : Place) → Refuses tokens.now code place → F.starts shelf.new ≡ F.starts shelf.old }
-    ensures bound { IfSome (F.files shelf.old) (λ files. Reaches (IsBound (Ok tokens.now) (tables_from files 1 options.limit (texts words.now)) options.moment) result) }
+    ensures bound { IfSome (F.files shelf.old) (λ files. Reaches (IsBound (Ok tokens.now) (tables_of files options.limit (option_map (λ path. path.now) catalogue.entry) (texts words.now)) options.moment) result) }
     ensures fits { IfOk result (λ b. IsTrue (fits b.program (schemas_of b.catalogue))) }
     ensures words { RefusesNoWord result }
 {
     let query = parse(alloc, tokens)?;
     law_of_patterns();
-    let bound = asked_bound(alloc, shelf, &query, options, words);
+    let bound = asked_bound(alloc, shelf, &query, options, catalogue, words);
     drop(query);
     bound
 }
 
-// A query bound to the tables that words name.
+// A query bound to the tables that words and a catalogue file name.
 fn asked_bound<F: Shelf>(
     alloc: Global,
     shelf: &mut F,
     query: &Query,
     options: Options,
+    catalogue: Option<&str>,
     words: &[String],
 ) -> Result<BoundQuery, Stop>
     requires moment { IfSome options.moment IsMoment }
@@ -286,10 +305,10 @@ fn asked_bound<F: Shelf>(
     ensures later { F.faults shelf.old ≤ F.faults shelf.new }
     ensures failed { result ≡ Err stop.ReadFault → Rose (F.faults shelf.old) (F.faults shelf.new) }
     ensures stops { StopsAtRead (F.calls shelf.old) (F.calls shelf.new) result }
-    ensures bound { IfSome (F.files shelf.old) (λ files. Computes (bound_with (tables_from files 1 options.limit (texts words.now)) options.moment query.now) result) }
+    ensures bound { IfSome (F.files shelf.old) (λ files. Computes (bound_with (tables_of files options.limit (option_map (λ path. path.now) catalogue.entry) (texts words.now)) options.moment query.now) result) }
     ensures fits { IfOk result (λ b. IsTrue (fits b.program (schemas_of b.catalogue))) }
     ensures words { RefusesNoWord result }
 {
-    let catalogue = read_tables(alloc, shelf, words, options.limit)?;
-    bound_over(alloc, query, options.moment, catalogue)
+    let tables = read_tables(alloc, shelf, words, catalogue, options.limit)?;
+    bound_over(alloc, query, options.moment, tables)
 }

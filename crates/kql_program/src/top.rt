@@ -81,6 +81,7 @@ fn answer_command<F: Shelf, O: Sink, E: Sink>(
     requires tables { IfAsks (λ a. AreTables (texts (drop (a.query + 1) words.now))) command }
     requires moment { IfAsks (λ a. IfSome a.options.moment IsMoment) command }
     requires limit { IfAsks (λ a. a.options.limit ≤ size_top) command }
+    requires catalogue { IfAsks (λ a. IfSome a.options.catalogue (λ k. k < length words.now)) command }
     ensures files { F.files shelf.new ≡ F.files shelf.old }
     ensures outcome { let out_at : O → SinkNow = λ o. sink_now (O.written o) (O.room o) (O.faults o) in
         let err_at : E → SinkNow = λ e. sink_now (E.written e) (E.room e) (E.faults e) in

@@ -6,10 +6,10 @@ use Rattle.kql_program.proofs.CallFacts.{no-syntax-fault, syntax-stops}
 use Rattle.kql_program.proofs.steps.parsed_bound.Goals as goal
 
 pub returns-in_err-query-clause-bound : goal.returns-in_err-query-clause-bound
-returns-in_err-query-clause-bound g c = parsed-fault _ c.args.tokens.now c.args.options.limit c.args.options.moment (texts c.args.words.now) _ _ c.in_err-query.ensures.parsed c.from_residual.ensures.1
+returns-in_err-query-clause-bound g c = parsed-fault _ c.args.tokens.now c.args.options.limit _ c.args.options.moment (texts c.args.words.now) _ _ c.in_err-query.ensures.parsed c.from_residual.ensures.1
 
 pub returns-clause-bound : goal.returns-clause-bound
-returns-clause-bound g c = parsed-bound _ c.args.tokens.now c.args.options.limit c.args.options.moment (texts c.args.words.now) _ _ c.in_ok-query.ensures.parsed c.asked_bound-bound.ensures.bound
+returns-clause-bound g c = parsed-bound _ c.args.tokens.now c.args.options.limit _ c.args.options.moment (texts c.args.words.now) _ _ c.in_ok-query.ensures.parsed c.asked_bound-bound.ensures.bound
 
 pub returns-in_err-query-clause-words : goal.returns-in_err-query-clause-words
 returns-in_err-query-clause-words g c = raised-words _ _ c.from_residual.ensures.1 (syntax-words _)

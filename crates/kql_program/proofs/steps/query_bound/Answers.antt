@@ -14,7 +14,7 @@ returns-in_err-tokens-clause-bound g c =
 pub returns-clause-bound : goal.returns-clause-bound
 returns-clause-bound g c =
     let path = c.as_str.ensures.value ∙ ap string_bytes c.index-words-asked.is in
-    asked-parsed _ _ c.args.words.now _ c.args.asked _ c.as_str.result.now _ _ c.requires.within path refl c.in_ok-tokens.ensures.tokens c.in_ok-tokens.ensures.files c.parsed_bound.ensures.bound
+    asked-parsed _ _ c.args.words.now _ c.args.asked _ c.as_str.result.now _ _ _ c.requires.within path refl c.catalogue_path-catalogue.ensures.path c.in_ok-tokens.ensures.tokens c.in_ok-tokens.ensures.files c.parsed_bound.ensures.bound
 
 pub returns-in_err-tokens-clause-words : goal.returns-in_err-tokens-clause-words
 returns-in_err-tokens-clause-words g c = raised-words _ _ c.from_residual.ensures.1 (stopped-words _ c.in_err-tokens.ensures.words)
