@@ -1,7 +1,7 @@
 //! Queries over tables and what the program answers, checked by the top call.
 //!
 //! A line that begins with `#` is a heading, which tells what the lines under it show and forgets the tables so far. A line `NAME=TEXT` gives the
-//! table NAME its text of CSV, and a line `> WORDS` the words in front of the query's, which are `run` where there is no such line. Every other
+//! table NAME its text of CSV, or where there is a `.` in NAME the file of that path its text, and a line `> WORDS` the words in front of the query's, which are `run` where there is no such line. Every other
 //! line is a row: a query, a tab, and the text that it is answered, or `! ` and the line of its refusal; where there is no `> `, `plain` must
 //! answer the same, and `explain` must be refused alike or not at all. What stands behind a second tab is a row of its own: the text that
 //! `explain` prints of the query. `⏎` stands for the end of a line, and none stands at the end of a text. A row that begins with `$ ` has all

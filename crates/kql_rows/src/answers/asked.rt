@@ -26,7 +26,10 @@ fn words_of(alloc: Global, seat: &Seat, command: &str) -> Result<Vec<String>, Al
     }
     words.push(String::from_str(alloc, "q")?)?;
     for table in &seat.tables {
-        words.push(format!(in alloc; "{}={}", table.name.as_str(), table.name.as_str())?)?;
+        let name = table.name.as_str();
+        if !name.contains('.') {
+            words.push(format!(in alloc; "{name}={name}")?)?;
+        }
     }
     Ok(words)
 }
