@@ -21,11 +21,13 @@ const READ_FAULT_LINE: &str = "kql: read fault\n";
 
 const MEMORY_LINE: &str = "kql: out of memory\n";
 
-/// Answers the words of a command: reads the query file and the table files from `shelf`, evaluates the query, and
+/// Answers the words of a command: reads the query file and the files of the tables from `shelf`, evaluates the query, and
 /// writes the text of its table to `out`, or one line for a refusal to `err`.
 ///
-/// The words, without the program's name, are `run`, `plain` or `explain`, then `--workers N` and `--now T` in any order, each at most once, then QUERY,
-/// the path of the query file, and then up to 64 words NAME=PATH. N is 1 to 64 in digits, and T the datetime that `now()` stands for. Or they
+/// The words, without the program's name, are `run`, `plain` or `explain`, then options in any order, each at most once, then QUERY, the path of the query
+/// file, and then up to 64 words NAME=PATH. The options are `--workers N`, 1 to 64 in digits; `--now T`, the datetime that `now()` stands for;
+/// `--limit SIZE`, how many bytes the table files may have together, 64 MiB where it is not given; `--catalogue PATH`, a file of JSON that names further
+/// tables, their columns and their files; and, but for `explain`, `--types`, which writes the types of the columns into the header. Or the words
 /// are `trial`, ROWS, up to 1,000,000, SEED, up to 18,446,744,073,709,551,615, and then `--workers N` or nothing: the stored queries are
 /// answered over a log of so many rows that the seed makes up, a line for each.
 ///
@@ -55,7 +57,7 @@ pub fn kql<R: Threads + Sync, F: Shelf, O: Sink, E: Sink, G: Gate + Sync>(
     // that tells a read fault.
     ensures heeds { HeedsFaults (calls_now (F.calls shelf.old) (O.calls out.old) (E.calls err.old)) (calls_now (F.calls shelf.new) (O.calls out.new) (E.calls err.new)) result }
 
-    // No table file is started where the query has a fault of its own: in its file, its tokens or its syntax.
+    // No other file is started where the query has a fault of its own: in its file, its tokens or its syntax.
     ensures starts { StartsFor (texts words.now) (F.files shelf.old) (asked_in (command_of (texts words.now))) (F.starts shelf.old) (F.starts shelf.new) }
 
     // Where the files are told there is one answer; of `explain` one refusal, or texts of plans of the one program that the query is bound to.
