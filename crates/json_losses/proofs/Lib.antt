@@ -1,0 +1,5 @@
+mod FieldFacts
+mod HeaderFacts
+mod LossFacts
+mod NumberFacts
+mod RecordsLeftFacts

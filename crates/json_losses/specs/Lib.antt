@@ -1,0 +1,5 @@
+pub mod Laws
+pub mod Lines
+pub mod Losses
+pub mod RecordsLeft
+pub mod Views

@@ -1,0 +1,5 @@
+//! Tests of json_losses, on its public calls.
+#![tactic(auto)]
+
+#[cfg(test)]
+mod tests;
