@@ -11,5 +11,5 @@ joined (t ∷ ts) = t ++ joined ts
 unfoldable pub losses_line : ℕ → List ℕ → Option (List ℕ)
 losses_line n path =
     if n == 0 then None
-    else if n == 1 then Some (joined (codes "kql: 1 number in " ∷ path ∷ codes " was no whole number and read as null" ∷ []))
-    else Some (joined (codes "kql: " ∷ decimal n ∷ codes " numbers in " ∷ path ∷ codes " were no whole numbers and read as null" ∷ []))
+    else if n == 1 then Some (joined (codes "kql: 1 number of JSON in " ∷ path ∷ codes " is not written as a whole number of 64 bits, and read as null" ∷ []))
+    else Some (joined (codes "kql: " ∷ decimal n ∷ codes " numbers of JSON in " ∷ path ∷ codes " are not written as whole numbers of 64 bits, and read as null" ∷ []))

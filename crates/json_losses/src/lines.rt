@@ -14,12 +14,12 @@ pub fn losses_line(alloc: Global, count: u64, path: &str) -> Result<Option<Strin
     }
     if count == 1 {
         let line = format!(in alloc;
-            "kql: 1 number in {path} was no whole number and read as null"
+            "kql: 1 number of JSON in {path} is not written as a whole number of 64 bits, and read as null"
         )?;
         return Ok(Some(line));
     }
     let line = format!(in alloc;
-        "kql: {count} numbers in {path} were no whole numbers and read as null"
+        "kql: {count} numbers of JSON in {path} are not written as whole numbers of 64 bits, and read as null"
     )?;
     Ok(Some(line))
 }

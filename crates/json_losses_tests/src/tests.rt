@@ -51,9 +51,11 @@ fn line_of(alloc: Global, count: u64) -> Result<String, AllocError> {
 fn each_count_has_its_line(rt: HostRuntime) -> Result<(), Fail> {
     let alloc = rt.alloc();
     assert_eq!(rt; line_of(alloc, 0)?.as_str(), "");
-    let one = "kql: 1 number in logs/T.csv was no whole number and read as null";
+    let one =
+        "kql: 1 number of JSON in logs/T.csv is not written as a whole number of 64 bits, and read as null";
     assert_eq!(rt; line_of(alloc, 1)?.as_str(), one);
-    let three = "kql: 3 numbers in logs/T.csv were no whole numbers and read as null";
+    let three =
+        "kql: 3 numbers of JSON in logs/T.csv are not written as whole numbers of 64 bits, and read as null";
     assert_eq!(rt; line_of(alloc, 3)?.as_str(), three);
     Ok(())
 }
