@@ -41,7 +41,11 @@ pub(crate) fn words_of(alloc: Global, command: &str) -> Result<Vec<String>, Allo
     Ok(words)
 }
 
-fn file(alloc: Global, path: &str, bytes: &[u8]) -> Result<(String, Vec<u8>), AllocError> {
+pub(crate) fn file(
+    alloc: Global,
+    path: &str,
+    bytes: &[u8],
+) -> Result<(String, Vec<u8>), AllocError> {
     Ok((
         String::from_str(alloc, path)?,
         Vec::from_slice(alloc, bytes)?,
@@ -96,7 +100,7 @@ fn left_in(ended: &Ended, alloc: Global, out: &MemSink, err: &MemSink) -> Result
 }
 
 // Calls `kql` over these files and sinks.
-fn call_over(
+pub(crate) fn call_over(
     rt: &(impl Threads + Sync),
     alloc: Global,
     words: &[String],
@@ -148,7 +152,7 @@ pub(crate) const QUERY: &str = "T | where x == 5";
 pub(crate) const NUMBERS: &str = "x:long\n5\n\"\"\n6\n5\n";
 
 // The status, the output, and behind a bar the errors.
-fn as_text(alloc: Global, left: &Left) -> Result<String, AllocError> {
+pub(crate) fn as_text(alloc: Global, left: &Left) -> Result<String, AllocError> {
     format!(in alloc;
         "{} {}|{}",
         left.status,
