@@ -1,4 +1,4 @@
-//! What a terminal shows of a refused query: its line, a caret under the place, and a sentence.
+//! What a terminal shows of a refused query: its line, and a caret under the place; and what a code means.
 
 use kql_help::topic_text;
 use std::alloc::{AllocError, Global};
@@ -13,18 +13,17 @@ const SHOWN: u32 = 72;
 
 const BEFORE: u32 = 60;
 
-/// Shows the place of a refusal in the query's file, counted from 1, and what its code means. Only a plain file is read again.
+/// Shows the place of a refusal in the query's file, counted from 1. Only a plain file is read again.
 pub(crate) fn show<R: Files + Eprint + AllocGlobal>(
     rt: &R,
     path: &str,
     line: u32,
     column: u32,
-    code: u32,
 ) -> io::Result<()> {
-    if let Some(text) = text_of(rt, path) {
-        show_line(rt, text.as_str(), line, column)?;
+    match text_of(rt, path) {
+        Some(text) => show_line(rt, text.as_str(), line, column),
+        None => Ok(()),
     }
-    tell(rt, code)
 }
 
 /// Tells what a code means.
@@ -45,8 +44,8 @@ fn sentence(topic: &str) -> &'static str {
     }
 }
 
-// The text of a plain file that is no longer than a query.
-fn text_of<R: Files + AllocGlobal>(rt: &R, path: &str) -> Option<String> {
+/// The text of a plain file that is no longer than a query.
+pub(crate) fn text_of<R: Files + AllocGlobal>(rt: &R, path: &str) -> Option<String> {
     let about = fs::metadata(rt, path).ok()?;
     if !about.is_file() || about.len() > BYTES_TOP {
         return None;
@@ -55,8 +54,8 @@ fn text_of<R: Files + AllocGlobal>(rt: &R, path: &str) -> Option<String> {
     String::from_utf8_lossy(rt.alloc(), bytes.as_slice()).ok()
 }
 
-// Shows a line of a text with a caret under a column.
-fn show_line<R: Eprint + AllocGlobal>(
+/// Shows a line of a text, counted from 1, with a caret under a column.
+pub(crate) fn show_line<R: Eprint + AllocGlobal>(
     rt: &R,
     text: &str,
     line: u32,

@@ -28,3 +28,7 @@ told-or (Some t) b = refl
 pub found_in_both : (xs ys : List Told) (name : List ℕ) (a b r : Option (Bor (List ℕ))) → told a ≡ text_of xs name → told b ≡ text_of ys name → r ≡ option_or a b → told r ≡ text_of (xs ++ ys) name
 found_in_both xs ys name a b r first second is =
     ap told is ∙ told-or a b ∙ ap (λ o. option_or o (told b)) first ∙ ap (λ o. option_or (text_of xs name) o) second ∙ sym (text_of-append xs ys name)
+
+-- an answer from a list that is a family
+pub in_family : (ts xs : List Told) (name : List ℕ) (a : Option (Bor (List ℕ))) → told a ≡ text_of ts name → ts ≡ xs → told a ≡ text_of xs name
+in_family ts xs name a found is = found ∙ ap (λ t. text_of t name) is

@@ -1,1 +1,2 @@
 pub mod FamilyLaws
+mod NamedLaws

@@ -1,7 +1,8 @@
 -- Which words name which text.
-use Rattle.std.specs.Prelude.{List, [], ◌∷◌, ◌++◌, codes}
-use Rattle.kql_help.specs.Topics.{Told}
+use Rattle.std.specs.Prelude.{ℕ, List, [], ◌∷◌, ◌++◌, codes}
+use Rattle.kql_help.specs.Topics.{Told, names_in}
 use Rattle.kql_help.specs.declared.texts.overview.TheConstants as overview
+use Rattle.kql_help.specs.declared.texts.shell.TheConstants as shell
 use Rattle.kql_help.specs.declared.texts.queries.TheConstants as queries
 use Rattle.kql_help.specs.declared.texts.operators.TheConstants as operators
 use Rattle.kql_help.specs.declared.texts.functions.TheConstants as functions
@@ -15,8 +16,23 @@ use Rattle.kql_help.specs.declared.texts.file_codes.TheConstants as file_codes
 -- which topics and codes there are
 unfoldable pub of_overview : List Told
 of_overview =
-    (codes "overview" ∷ [], overview.OVERVIEW.now) ∷
+    (codes "overview" ∷ codes "help" ∷ [], overview.OVERVIEW.now) ∷
     (codes "codes" ∷ [], overview.CODES.now) ∷
+    []
+
+-- commands around the top call, and what a newcomer asks for
+unfoldable pub of_shell : List Told
+of_shell =
+    (codes "-e" ∷ codes "-q" ∷ codes "command" ∷ [], shell.QUERY_WORDS.now) ∷
+    (codes "show" ∷ codes "output" ∷ [], shell.SHOW.now) ∷
+    (codes "schema" ∷ [], shell.SCHEMA.now) ∷
+    (codes "types" ∷ [], shell.TYPES.now) ∷
+    (codes "limits" ∷ [], shell.LIMITS.now) ∷
+    (codes "catalogue" ∷ codes "--catalogue" ∷ [], shell.CATALOGUE.now) ∷
+    (codes "json" ∷ codes "jsonl" ∷ [], shell.JSON.now) ∷
+    (codes "csv" ∷ codes "header" ∷ [], shell.CSV.now) ∷
+    (codes "examples" ∷ [], shell.EXAMPLES.now) ∷
+    (codes "cookbook" ∷ codes "recipes" ∷ [], shell.COOKBOOK.now) ∷
     []
 
 -- commands, queries, sources and tables
@@ -78,7 +94,7 @@ of_values =
     (codes "operators" ∷ codes "and" ∷ codes "or" ∷ codes "in" ∷ codes "in~" ∷ codes "between" ∷ codes "==" ∷ codes "!=" ∷ codes "<" ∷ codes "<=" ∷ codes ">" ∷ codes ">=" ∷ codes "=~" ∷ codes "!~" ∷ codes "+" ∷ codes "-" ∷ codes "*" ∷ codes "/" ∷ codes "%" ∷ codes "!in" ∷ codes "!in~" ∷ codes "!between" ∷ [], values.OPERATORS.now) ∷
     (codes "searches" ∷ codes "contains" ∷ codes "contains_cs" ∷ codes "startswith" ∷ codes "startswith_cs" ∷ codes "endswith" ∷ codes "endswith_cs" ∷ codes "has" ∷ codes "has_cs" ∷ codes "!contains" ∷ codes "!contains_cs" ∷ codes "!startswith" ∷ codes "!startswith_cs" ∷ codes "!endswith" ∷ codes "!endswith_cs" ∷ codes "!has" ∷ codes "!has_cs" ∷ [], values.SEARCHES.now) ∷
     (codes "datetimes" ∷ codes "now" ∷ codes "ago" ∷ codes "startofday" ∷ codes "startofweek" ∷ codes "startofmonth" ∷ codes "startofyear" ∷ codes "endofday" ∷ codes "endofweek" ∷ codes "endofmonth" ∷ codes "endofyear" ∷ codes "dayofweek" ∷ codes "dayofmonth" ∷ codes "dayofyear" ∷ codes "getyear" ∷ codes "getmonth" ∷ codes "monthofyear" ∷ codes "hourofday" ∷ codes "datetime_add" ∷ codes "datetime_diff" ∷ codes "datetime_part" ∷ codes "make_datetime" ∷ codes "unixtime_seconds_todatetime" ∷ codes "unixtime_milliseconds_todatetime" ∷ [], values.DATETIMES.now) ∷
-    (codes "dynamic" ∷ codes "json" ∷ codes "parse_json" ∷ codes "todynamic" ∷ codes "array_length" ∷ codes "array_concat" ∷ codes "array_slice" ∷ codes "array_reverse" ∷ codes "array_index_of" ∷ codes "bag_keys" ∷ codes "bag_has_key" ∷ codes "bag_merge" ∷ codes "pack_array" ∷ codes "bag_pack" ∷ codes "set_union" ∷ codes "set_intersect" ∷ codes "set_difference" ∷ codes "set_has_element" ∷ [], values.DYNAMIC.now) ∷
+    (codes "dynamic" ∷ codes "parse_json" ∷ codes "todynamic" ∷ codes "array_length" ∷ codes "array_concat" ∷ codes "array_slice" ∷ codes "array_reverse" ∷ codes "array_index_of" ∷ codes "bag_keys" ∷ codes "bag_has_key" ∷ codes "bag_merge" ∷ codes "pack_array" ∷ codes "bag_pack" ∷ codes "set_union" ∷ codes "set_intersect" ∷ codes "set_difference" ∷ codes "set_has_element" ∷ [], values.DYNAMIC.now) ∷
     []
 
 -- functions over several rows
@@ -151,8 +167,18 @@ of_file_codes =
     (codes "306" ∷ [], file_codes.BAD_CELL.now) ∷
     (codes "307" ∷ [], file_codes.NO_FILE.now) ∷
     (codes "308" ∷ [], file_codes.TOO_LONG.now) ∷
+    (codes "309" ∷ [], file_codes.NOT_JSON.now) ∷
+    (codes "310" ∷ [], file_codes.BAD_CATALOGUE.now) ∷
+    (codes "311" ∷ [], file_codes.BAD_TABLE_NAME.now) ∷
+    (codes "312" ∷ [], file_codes.HEADER_DIFFERS.now) ∷
+    (codes "313" ∷ [], file_codes.TOO_MANY_FILES.now) ∷
+    (codes "314" ∷ [], file_codes.CATALOGUE_TOO_LONG.now) ∷
     []
 
 -- all topics
 unfoldable pub topics : List Told
-topics = of_overview ++ of_queries ++ of_operators ++ of_functions ++ of_values ++ of_rows ++ of_word_codes ++ of_query_codes ++ of_name_codes ++ of_file_codes
+topics = of_overview ++ of_shell ++ of_queries ++ of_operators ++ of_functions ++ of_values ++ of_rows ++ of_word_codes ++ of_query_codes ++ of_name_codes ++ of_file_codes
+
+-- the names of all topics but the codes
+unfoldable pub named : List (List ℕ)
+named = names_in of_overview ++ names_in of_shell ++ names_in of_queries ++ names_in of_operators ++ names_in of_functions ++ names_in of_values ++ names_in of_rows

@@ -1,88 +1,96 @@
 //! The topics of each family of texts.
 
-ghost use Rattle.std.specs.Prelude.{◌≡◌, option_map};
-ghost use Rattle.kql_help.specs.Index.{of_overview, of_queries, of_operators, of_functions, of_values, of_rows, of_word_codes, of_query_codes, of_name_codes, of_file_codes};
-ghost use Rattle.kql_help.specs.Topics.{text_of};
+ghost use Rattle.std.specs.Prelude.{◌≡◌, map};
+ghost use Rattle.kql_help.specs.Index.{of_overview, of_shell, of_queries, of_operators, of_functions, of_values, of_rows, of_word_codes, of_query_codes, of_name_codes, of_file_codes};
+ghost use Rattle.kql_help.specs.Topics.{seen};
 
-use crate::find::text_in;
 use crate::texts;
+use crate::topic::Topic;
 
-/// The text that tells which topics or codes there are.
+/// What tells which topics or codes there are.
 #[tactic(auto, unfolding(crate::specs::Index::of_overview))]
-pub(crate) fn in_overview(name: &str) -> Option<&'static str>
-    ensures { option_map (λ t. t.now) result ≡ text_of of_overview name.now }
+pub(crate) fn overview() -> &'static [Topic]
+    ensures { map seen result.now ≡ of_overview }
 {
-    text_in(texts::overview::TOPICS, name)
+    texts::overview::TOPICS
 }
 
-/// The text of a command, of a query, a source or tables, or of what Kusto has.
+/// Commands around the top call, and what a newcomer asks for.
+#[tactic(auto, unfolding(crate::specs::Index::of_shell))]
+pub(crate) fn shell() -> &'static [Topic]
+    ensures { map seen result.now ≡ of_shell }
+{
+    texts::shell::TOPICS
+}
+
+/// Commands, queries, sources, tables, and what Kusto has.
 #[tactic(auto, unfolding(crate::specs::Index::of_queries))]
-pub(crate) fn in_queries(name: &str) -> Option<&'static str>
-    ensures { option_map (λ t. t.now) result ≡ text_of of_queries name.now }
+pub(crate) fn queries() -> &'static [Topic]
+    ensures { map seen result.now ≡ of_queries }
 {
-    text_in(texts::queries::TOPICS, name)
+    texts::queries::TOPICS
 }
 
-/// The text of an operator of tables.
+/// Operators of tables.
 #[tactic(auto, unfolding(crate::specs::Index::of_operators))]
-pub(crate) fn in_operators(name: &str) -> Option<&'static str>
-    ensures { option_map (λ t. t.now) result ≡ text_of of_operators name.now }
+pub(crate) fn operators() -> &'static [Topic]
+    ensures { map seen result.now ≡ of_operators }
 {
-    text_in(texts::operators::TOPICS, name)
+    texts::operators::TOPICS
 }
 
-/// The text of a function, or of a family of them.
+/// Functions, and families of them.
 #[tactic(auto, unfolding(crate::specs::Index::of_functions))]
-pub(crate) fn in_functions(name: &str) -> Option<&'static str>
-    ensures { option_map (λ t. t.now) result ≡ text_of of_functions name.now }
+pub(crate) fn functions() -> &'static [Topic]
+    ensures { map seen result.now ≡ of_functions }
 {
-    text_in(texts::functions::TOPICS, name)
+    texts::functions::TOPICS
 }
 
-/// The text of a sign, a search or a function of datetimes or dynamic values.
+/// Signs, searches, and functions of datetimes and dynamic values.
 #[tactic(auto, unfolding(crate::specs::Index::of_values))]
-pub(crate) fn in_values(name: &str) -> Option<&'static str>
-    ensures { option_map (λ t. t.now) result ≡ text_of of_values name.now }
+pub(crate) fn values() -> &'static [Topic]
+    ensures { map seen result.now ≡ of_values }
 {
-    text_in(texts::values::TOPICS, name)
+    texts::values::TOPICS
 }
 
-/// The text of a window function or an aggregate.
+/// Window functions and aggregates.
 #[tactic(auto, unfolding(crate::specs::Index::of_rows))]
-pub(crate) fn in_rows(name: &str) -> Option<&'static str>
-    ensures { option_map (λ t. t.now) result ≡ text_of of_rows name.now }
+pub(crate) fn rows() -> &'static [Topic]
+    ensures { map seen result.now ≡ of_rows }
 {
-    text_in(texts::rows::TOPICS, name)
+    texts::rows::TOPICS
 }
 
-/// The text of a code of the words of the command.
+/// Codes of the words of the command.
 #[tactic(auto, unfolding(crate::specs::Index::of_word_codes))]
-pub(crate) fn in_word_codes(name: &str) -> Option<&'static str>
-    ensures { option_map (λ t. t.now) result ≡ text_of of_word_codes name.now }
+pub(crate) fn word_codes() -> &'static [Topic]
+    ensures { map seen result.now ≡ of_word_codes }
 {
-    text_in(texts::word_codes::TOPICS, name)
+    texts::word_codes::TOPICS
 }
 
-/// The text of a code of a query that is refused for its text.
+/// Codes of a query that is refused for its text.
 #[tactic(auto, unfolding(crate::specs::Index::of_query_codes))]
-pub(crate) fn in_query_codes(name: &str) -> Option<&'static str>
-    ensures { option_map (λ t. t.now) result ≡ text_of of_query_codes name.now }
+pub(crate) fn query_codes() -> &'static [Topic]
+    ensures { map seen result.now ≡ of_query_codes }
 {
-    text_in(texts::query_codes::TOPICS, name)
+    texts::query_codes::TOPICS
 }
 
-/// The text of a code of a query that is refused for its names and types.
+/// Codes of a query that is refused for its names and types.
 #[tactic(auto, unfolding(crate::specs::Index::of_name_codes))]
-pub(crate) fn in_name_codes(name: &str) -> Option<&'static str>
-    ensures { option_map (λ t. t.now) result ≡ text_of of_name_codes name.now }
+pub(crate) fn name_codes() -> &'static [Topic]
+    ensures { map seen result.now ≡ of_name_codes }
 {
-    text_in(texts::name_codes::TOPICS, name)
+    texts::name_codes::TOPICS
 }
 
-/// The text of a code of files.
+/// Codes of files.
 #[tactic(auto, unfolding(crate::specs::Index::of_file_codes))]
-pub(crate) fn in_file_codes(name: &str) -> Option<&'static str>
-    ensures { option_map (λ t. t.now) result ≡ text_of of_file_codes name.now }
+pub(crate) fn file_codes() -> &'static [Topic]
+    ensures { map seen result.now ≡ of_file_codes }
 {
-    text_in(texts::file_codes::TOPICS, name)
+    texts::file_codes::TOPICS
 }

@@ -8,5 +8,6 @@ pub(crate) mod overview;
 pub(crate) mod queries;
 pub(crate) mod query_codes;
 pub(crate) mod rows;
+pub(crate) mod shell;
 pub(crate) mod values;
 pub(crate) mod word_codes;

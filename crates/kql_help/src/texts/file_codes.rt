@@ -61,8 +61,8 @@ pub(crate) const NO_FILE: &str = "\
 There is no file of this path; file 0 is the query file, and N that of the N-th
 word NAME=PATH.
 
-Look at the path. The query stands in a file too, and /dev/stdin reads it from a
-pipe: echo 'T | count' | kql run /dev/stdin T=t.csv
+Look at the path. Behind run stands the path of the query's file; a query itself
+stands behind -e: kql -e 'T | count' T=t.csv
 ";
 
 pub(crate) const TOO_LONG: &str = "\
@@ -72,6 +72,60 @@ The table files have more bytes together than --limit says, or more than
 67,108,864 where it is not given.
 
 Give --limit 2GiB in front of the query, or leave out rows or columns before.
+";
+
+pub(crate) const NOT_JSON: &str = "\
+309 NotJson
+
+The catalogue file is no JSON.
+
+Look for a comma or a bracket that is missing, and for quotes that are not double.
+More: kql help catalogue
+";
+
+pub(crate) const BAD_CATALOGUE: &str = "\
+310 BadCatalogue
+
+The catalogue file is JSON, and no catalogue: at 0:0 as a whole, at N:0 its N-th
+table.
+
+Each object has exactly the keys that kql help catalogue shows, each once; columns
+have names that differ and types of the language, and there is a path at least.
+";
+
+pub(crate) const BAD_TABLE_NAME: &str = "\
+311 BadTableName
+
+The table of the catalogue file has a name that no query can call, or one that a
+table before it or a word NAME=PATH has.
+
+Give it another name, of letters, digits and _.
+";
+
+pub(crate) const HEADER_DIFFERS: &str = "\
+312 HeaderDiffers
+
+The header of a table's file is not that of the catalogue file; the column is the
+first that differs.
+
+A field is a name alone, or a name with its type, and both are those of the entry.
+";
+
+pub(crate) const TOO_MANY_FILES: &str = "\
+313 TooManyFiles
+
+The command has more than 64 tables, or its tables more than 256 files, with this
+table of the catalogue file.
+
+Leave tables out, or put files together.
+";
+
+pub(crate) const CATALOGUE_TOO_LONG: &str = "\
+314 CatalogueTooLong
+
+The catalogue file has more than 1,048,576 bytes.
+
+It has names and paths alone; rows stand in the files of its tables.
 ";
 
 /// The topics of these texts.
@@ -107,5 +161,29 @@ pub(crate) const TOPICS: &[Topic] = &[
     Topic {
         names: &["308"],
         text: TOO_LONG,
+    },
+    Topic {
+        names: &["309"],
+        text: NOT_JSON,
+    },
+    Topic {
+        names: &["310"],
+        text: BAD_CATALOGUE,
+    },
+    Topic {
+        names: &["311"],
+        text: BAD_TABLE_NAME,
+    },
+    Topic {
+        names: &["312"],
+        text: HEADER_DIFFERS,
+    },
+    Topic {
+        names: &["313"],
+        text: TOO_MANY_FILES,
+    },
+    Topic {
+        names: &["314"],
+        text: CATALOGUE_TOO_LONG,
     },
 ];

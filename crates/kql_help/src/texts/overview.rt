@@ -5,7 +5,8 @@ use crate::topic::Topic;
 pub(crate) const OVERVIEW: &str = "\
 kql help TOPIC tells of one of these; kql --help has the words of the command.
 
-    Commands:    run, plain, explain, trial
+    Commands:    command, show, schema, types, run, plain, explain, trial
+    Beginners:   examples, cookbook, csv, json, limits
     Queries:     query, literals, let, range, print, union, columns; kusto has what
                  to write for what Kusto has and this language has not
     Operators:   where, extend, project, project-away, project-keep,
@@ -15,7 +16,7 @@ kql help TOPIC tells of one of these; kql --help has the words of the command.
     Values:      functions names them all, and of them operators, searches, nulls,
                  numbers, conversions, strings, datetimes, dynamic, window and
                  aggregates
-    Files:       tables
+    Files:       tables, catalogue
     Refusals:    codes names them all, and each code, as kql help 404
 ";
 
@@ -34,7 +35,9 @@ Refusals, told in one line on standard error; kql help CODE has each
     202 TooDeep              203 TooManyOperators
     301 NotUtf8              302 NoHeader             303 BadColumn
     304 ColumnTwice          305 BadLength            306 BadCell
-    307 NoFile               308 TooLong              401 UnknownColumn
+    307 NoFile               308 TooLong              309 NotJson
+    310 BadCatalogue         311 BadTableName         312 HeaderDiffers
+    313 TooManyFiles         314 CatalogueTooLong     401 UnknownColumn
     402 UnknownFunction      403 WrongArguments       404 WrongType
     405 UnsupportedType      406 UnsupportedFunction  407 NotSerialised
     408 WindowHere           409 NoMoment             410 UnknownTable
@@ -55,7 +58,7 @@ Status 4 is a file that could not be read, 5 an answer that could not be written
 /// The topics of these texts.
 pub(crate) const TOPICS: &[Topic] = &[
     Topic {
-        names: &["overview"],
+        names: &["overview", "help"],
         text: OVERVIEW,
     },
     Topic {

@@ -219,7 +219,6 @@ pub(crate) const TOPICS: &[Topic] = &[
     Topic {
         names: &[
             "dynamic",
-            "json",
             "parse_json",
             "todynamic",
             "array_length",

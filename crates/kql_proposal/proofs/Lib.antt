@@ -1,0 +1,3 @@
+pub mod HeaderFacts
+pub mod ListingFacts
+pub mod RecordFacts

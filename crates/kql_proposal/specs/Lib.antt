@@ -1,0 +1,4 @@
+pub mod Headed
+pub mod Kinds
+pub mod Listing
+pub mod Pairs

@@ -1,0 +1,4 @@
+pub mod CellForms
+pub mod EmptyText
+pub mod JsonFacts
+pub mod ScalarForms
