@@ -5,11 +5,12 @@ use Rattle.std.proofs.lemmas.List.{append-nil, length-map}
 use Rattle.catalogue_file.specs.declared.entry.Entry.{Entry}
 use Rattle.kql_cells.specs.Catalogues.{Named, table_name}
 use Rattle.kql_cells.specs.Table.{Grid}
+use Rattle.kql_outside.specs.Calls.{one_more}
 use Rattle.kql_values.specs.Kept.{all_named, named_of}
 use Rattle.kql_values.specs.declared.catalogue.Named as kept_named
 use Rattle.kql_words.specs.Refusals.{Answer, ◌>>=◌}
-use Rattle.catalogue_tables.specs.Computes.{Computes, Gives}
-use Rattle.catalogue_tables.specs.Entries.{entries_checked, entries_read}
+use Rattle.catalogue_tables.specs.Computes.{Computes, Gives, IsRefused}
+use Rattle.catalogue_tables.specs.Entries.{entries_checked, entries_read, entries_taken}
 use Rattle.catalogue_tables.specs.Files.{Files}
 use Rattle.catalogue_tables.specs.Tables.{AddsEntry, Part, after, catalogue_tables, entries_tables, entry_part, named_as, with_first}
 use Rattle.catalogue_tables.specs.declared.stop.CatalogueStop.{CatalogueStop}
@@ -121,3 +122,22 @@ counted kept tables e =
     let inner = length-map kept named_of in
     let same : length (all_named kept) ≡ length tables = ap length e in
     omega arith
+
+-- Files that are started.
+
+-- entries that are read and have no fault are not refused
+pub taken : (told : Option Files) (names listed : List (List ℕ)) (number : ℕ) (path : List ℕ) (entries all : List Entry) (x : Unit {0}) (before now : Option ℕ) → number ≡ length names + 1 → listed ≡ names
+    → IfSome told (λ files. entries_read files number path ≡ Ok entries) → all ≡ entries → entries_checked number 1 listed (length listed) all ≡ Ok x
+    → IfSome told (λ files. IsRefused (entries_taken files names path) → now ≡ one_more before)
+taken None names listed number path entries all x before now n l h i g = tt
+taken (Some files) names listed number path entries all x before now n l h i g =
+    let here : entries_read files (length names + 1) path ≡ Ok entries = rw n at h in
+    let first : entries_checked (length names + 1) 1 listed (length listed) all ≡ Ok x = subst (λ (k : ℕ). entries_checked k 1 listed (length listed) all ≡ Ok x) n g in
+    let second : entries_checked (length names + 1) 1 names (length names) all ≡ Ok x = subst (λ (ns : List (List ℕ)). entries_checked (length names + 1) 1 ns (length ns) all ≡ Ok x) l first in
+    let checked : entries_checked (length names + 1) 1 names (length names) entries ≡ Ok x = subst (λ (es : List Entry). entries_checked (length names + 1) 1 names (length names) es ≡ Ok x) i second in
+    let none : entries_taken files names path ≡ Ok x = rw here checked in
+    λ refused. absurd (rw none at refused)
+
+pub told-start : (told : Option Files) (names : List (List ℕ)) (path : List ℕ) (before now : Option ℕ) → now ≡ one_more before → IfSome told (λ files. IsRefused (entries_taken files names path) → now ≡ one_more before)
+told-start None names path before now e = tt
+told-start (Some files) names path before now e = λ refused. e

@@ -29,6 +29,11 @@ abbrev pub read_stop : ReadError → CatalogueStop
 read_stop read.Failed = stop.ReadFault
 read_stop read.OutOfMemory = stop.OutOfMemory
 
+-- an answer is a refusal
+abbrev pub IsRefused : {X : Type 0} → Answer X → Type 0
+IsRefused (Ok x) = ⊥
+IsRefused (Err refusal) = Unit {0}
+
 -- the calls of a shelf, by why the work stops: for a read fault the last of them failed, and else none did
 abbrev pub StopsBy : Option CallCounts → Option CallCounts → CatalogueStop → Type 0
 StopsBy before now (stop.Refused file code row column) = NoneFailed before now

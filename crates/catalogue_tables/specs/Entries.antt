@@ -54,6 +54,11 @@ entries_checked number at names count [] = Ok tt
 entries_checked number at names count (e ∷ es) =
     coded number at (entry_code names count e) >>= λ _. entries_checked number (at + 1) (names ++ e.name ∷ []) (count + length e.files) es
 
+-- the entries of the catalogue file of a path behind tables with these names, where the file and the entries are without a fault
+abbrev pub entries_taken : Files → List (List ℕ) → List ℕ → Answer (Unit {0})
+entries_taken files names path =
+    entries_read files (length names + 1) path >>= λ entries. entries_checked (length names + 1) 1 names (length names) entries
+
 -- they have none
 unfoldable pub AreClean : List (List ℕ) → ℕ → List Entry → Type 0
 AreClean names count [] = ⊤

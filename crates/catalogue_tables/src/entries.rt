@@ -1,6 +1,7 @@
 //! The entries of a catalogue file.
 ghost use Rattle.std.specs.Prelude.{◌≡◌, ◌≤◌, Err, IfOk, IfSome, OnOk, length, map};
 ghost use Rattle.kql_cells.specs.Catalogues.{table_name};
+ghost use Rattle.kql_outside.specs.Calls.{one_more};
 ghost use Rattle.kql_outside.specs.Causes.{Rose};
 ghost use Rattle.kql_values.specs.Kept.{all_named};
 ghost use Rattle.catalogue_file.specs.Catalogue.{catalogue_of};
@@ -38,6 +39,7 @@ pub(crate) fn read_entries<F: Shelf>(
     ensures later { F.faults shelf.old ≤ F.faults shelf.new }
     ensures failed { result ≡ Err stop.ReadFault → Rose (F.faults shelf.old) (F.faults shelf.new) }
     ensures stops { StopsAtRead (F.calls shelf.old) (F.calls shelf.new) result }
+    ensures starts { F.starts shelf.new ≡ one_more (F.starts shelf.old) }
     ensures entries { IfSome (F.files shelf.old) (λ files. Computes (entries_read files number path.now) result) }
 {
     let bytes = read_within(alloc, shelf, path, number, 314, BYTES_TOP)?;

@@ -1,5 +1,6 @@
 //! One file of a shelf.
 ghost use Rattle.std.specs.Prelude.{◌≡◌, ◌≤◌, Err, IfOk, IfSome, length};
+ghost use Rattle.kql_outside.specs.Calls.{one_more};
 ghost use Rattle.kql_outside.specs.Causes.{Rose};
 ghost use Rattle.kql_words.specs.Sizes.{size_top};
 ghost use Rattle.catalogue_tables.specs.Computes.{Computes, ReadsFront, StopsAtRead};
@@ -26,6 +27,7 @@ pub(crate) fn read_within<F: Shelf>(
     ensures later { F.faults shelf.old ≤ F.faults shelf.new }
     ensures failed { result ≡ Err stop.ReadFault → Rose (F.faults shelf.old) (F.faults shelf.new) }
     ensures stops { StopsAtRead (F.calls shelf.old) (F.calls shelf.new) result }
+    ensures starts { F.starts shelf.new ≡ one_more (F.starts shelf.old) }
     ensures within { IfOk result (λ bytes. length bytes ≤ top) }
     ensures bytes { IfSome (F.files shelf.old) (λ files. Computes (file_within files number code top path.now) result) }
 {
@@ -53,6 +55,7 @@ fn read_front<F: Shelf>(
     ensures later { F.faults shelf.old ≤ F.faults shelf.new }
     ensures failed { result ≡ Err stop.ReadFault → Rose (F.faults shelf.old) (F.faults shelf.new) }
     ensures stops { StopsAtRead (F.calls shelf.old) (F.calls shelf.new) result }
+    ensures starts { F.starts shelf.new ≡ one_more (F.starts shelf.old) }
     ensures front { IfSome (F.files shelf.old) (λ files. ReadsFront limit (file_bytes number files path.now) result) }
 {
     if shelf.start(path)? {

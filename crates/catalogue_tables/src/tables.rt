@@ -1,9 +1,10 @@
 ghost use Rattle.std.specs.Prelude.{◌≡◌, ◌≤◌, ◌++◌, ◌∷◌, [], Err, IfOk, IfSome, None, OnOk, length, map};
 ghost use Rattle.kql_cells.specs.Catalogues.{table_name};
+ghost use Rattle.kql_outside.specs.Calls.{one_more};
 ghost use Rattle.kql_outside.specs.Causes.{Rose};
 ghost use Rattle.kql_words.specs.Sizes.{size_top};
-ghost use Rattle.catalogue_tables.specs.Computes.{Computes, StopsAtRead};
-ghost use Rattle.catalogue_tables.specs.Entries.{AreClean, entry_code};
+ghost use Rattle.catalogue_tables.specs.Computes.{Computes, IsRefused, StopsAtRead};
+ghost use Rattle.catalogue_tables.specs.Entries.{AreClean, entries_taken, entry_code};
 ghost use Rattle.catalogue_tables.specs.Tables.{AddsEntry, after, catalogue_tables, entries_tables};
 ghost use Rattle.catalogue_tables.specs.declared.stop.CatalogueStop.TheVariants as stop;
 
@@ -35,6 +36,10 @@ pub fn catalogue_tables<F: Shelf>(
     ensures later { F.faults shelf.old ≤ F.faults shelf.new }
     ensures failed { result ≡ Err stop.ReadFault → Rose (F.faults shelf.old) (F.faults shelf.new) }
     ensures stops { StopsAtRead (F.calls shelf.old) (F.calls shelf.new) result }
+
+    // No file of an entry is started where the catalogue file or one of its entries is refused.
+    ensures starts { IfSome (F.files shelf.old) (λ files. IsRefused (entries_taken files (map table_name tables) path.now) → F.starts shelf.new ≡ one_more (F.starts shelf.old)) }
+
     ensures tables { IfSome (F.files shelf.old) (λ files. Computes (after tables (catalogue_tables files (map table_name tables) room path.now)) result) }
 {
     let count = tables.tables().len();

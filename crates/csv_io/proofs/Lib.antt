@@ -1,5 +1,6 @@
 pub mod BlankFacts
 pub mod CellBack
+pub mod ClearFacts
 pub mod CutFacts
 pub mod DayFacts
 pub mod FeedFacts

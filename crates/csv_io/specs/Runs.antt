@@ -14,6 +14,10 @@ is_plain b = not ((b == 44) || ends_line b)
 abbrev pub is_unquoted : ℕ → Bool
 is_unquoted b = not (b == 34)
 
+-- a byte of a field that is printed without quotes: it is no comma and no quote, and does not end the line
+abbrev pub is_clear : ℕ → Bool
+is_clear b = not ((b == 44) || (b == 34) || ends_line b)
+
 -- each byte from a place up to another passes the test
 abbrev pub PassesBetween : (ℕ → Bool) → List ℕ → ℕ → ℕ → Type 0
 PassesBetween test text at end = (k : ℕ) → at ≤ k → k < end → test (slice_index text k) ≡ true

@@ -1,12 +1,12 @@
 ghost use Rattle.std.specs.Prelude.{◌≡◌, ◌+◌, ◌≤◌, drop, length, take};
-ghost use Rattle.csv_io.specs.Runs.{IsAhead, IsBehind, IsRun, IsRunOf, first_set, is_plain, is_unquoted, marks};
+ghost use Rattle.csv_io.specs.Runs.{IsAhead, IsBehind, IsRun, IsRunOf, first_set, is_clear, is_plain, is_unquoted, marks};
 
 use std::simd::prelude::*;
 
 // How many bytes are looked at together, where a field ends soon and where it may not.
 const WINDOW: usize = 64;
 
-const LANES: usize = 16;
+pub(crate) const LANES: usize = 16;
 
 #[inline(always)]
 fn first_set(mask: u64, lanes: usize) -> usize
@@ -65,6 +65,19 @@ fn unquoted_run(text: &[u8], at: usize) -> usize
 {
     let v = u8x16::from_slice(&text[at..]);
     first_set(v.simd_eq(u8x16::splat(b'"')).to_bitmask(), LANES)
+}
+
+// How many of the 16 bytes from a place stand before the first that calls for quotes where a field is printed.
+#[inline(always)]
+pub(crate) fn clear_run(text: &[u8], at: usize) -> usize
+    requires { at + LANES ≤ length text.now }
+    ensures { IsRunOf LANES is_clear text.now at result }
+{
+    let v = u8x16::from_slice(&text[at..]);
+    let separates = v.simd_eq(u8x16::splat(b',')) | v.simd_eq(u8x16::splat(b'"'));
+    let ends_line = v.simd_eq(u8x16::splat(b'\r')) | v.simd_eq(u8x16::splat(b'\n'));
+    let stops = separates | ends_line;
+    first_set(stops.to_bitmask(), LANES)
 }
 
 // Where the next quote stands from a place on, or where the text ends.

@@ -1,9 +1,6 @@
-ghost use Rattle.std.specs.Prelude.{◌≡◌, ◌<◌, IfOk, length};
-ghost use Rattle.kql_cells.specs.Seen.{seen, value_at};
-ghost use Rattle.kql_values.specs.Numbers.{values_of_numbers};
+ghost use Rattle.std.specs.Prelude.{◌≡◌, IfOk};
 
-use kql_cells::CellRef;
-use kql_values::{NumberKind, Numbers, TextColumn, Vector};
+use kql_values::{Numbers, TextColumn, Vector};
 use std::alloc::{AllocError, Global};
 use std::marker::Model;
 
@@ -18,7 +15,7 @@ pub(crate) enum Stored<'a> {
 // A column of which is known how its cells are stored, so that nobody asks again at each row.
 #[derive(Drop)]
 pub(crate) struct Lent<'a> {
-    stored: Stored<'a>,
+    pub(crate) stored: Stored<'a>,
 }
 
 impl<'a> Model for Lent<'a> {
@@ -55,38 +52,6 @@ impl<'a> Lent<'a> {
                 stored: Stored::Cells(column),
             },
         }
-    }
-
-    // A cell.
-    #[inline(always)]
-    pub(crate) fn cell(&self, i: usize) -> CellRef<'_>
-        requires { i < length self.now }
-        ensures { seen result ≡ value_at self.now i }
-    {
-        match &self.stored {
-            Stored::Numbers(numbers) => number_cell(numbers, i),
-            Stored::Texts(texts) => CellRef::Text(texts.get(i)),
-            Stored::Cells(cells) => cells.cell(i),
-        }
-    }
-}
-
-// The cell of a number, or null.
-#[inline(always)]
-fn number_cell<'a>(numbers: &Numbers<'_>, i: usize) -> CellRef<'a>
-    requires within { i < length numbers.now.numbers.now }
-    requires whole { length numbers.now.nulls.now ≡ length numbers.now.numbers.now }
-    ensures { seen result ≡ value_at (values_of_numbers numbers.now) i }
-{
-    let is_null = numbers.nulls[i];
-    if is_null {
-        return CellRef::Null;
-    }
-    let n = numbers.numbers[i];
-    match numbers.kind {
-        NumberKind::Long => CellRef::Long(n),
-        NumberKind::Moment => CellRef::Moment(n),
-        NumberKind::Span => CellRef::Span(n),
     }
 }
 

@@ -17,8 +17,8 @@ use crate::line::Line;
 use kql_cells::{Kind, Schema};
 use kql_dynamic::parse_json;
 use kql_values::{Table, TableBuilder};
+use simdutf8::compat::from_utf8;
 use std::alloc::Global;
-use std::str;
 
 /// The table of a file of CSV (RFC 4180), or the first fault in it.
 ///
@@ -37,7 +37,7 @@ pub fn load(alloc: Global, bytes: &[u8]) -> Result<Table, DataFault>
     ensures table { IfOk result (λ t. loaded bytes.now ≡ Ok t) }
     ensures fault { IfErr result (IsFaultOf (loaded bytes.now)) }
 {
-    match str::from_utf8(bytes) {
+    match from_utf8(bytes) {
         Ok(text) => load_text(alloc, text),
         Err(e) => Err(refused(NOT_UTF8, 0, e.valid_up_to())),
     }

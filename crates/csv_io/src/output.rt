@@ -1,6 +1,7 @@
 ghost use Rattle.std.specs.Prelude.{◌≡◌, ◌==◌, ◌++◌, ◌∷◌, [], IsUtf8, OnOk, if◌then◌else◌, length};
 ghost use Rattle.csv.specs.Writing.{default_writer, escaped, field_text, needs_byte, needs_quotes, next_sep, quoted};
 
+use crate::lanes::{LANES, clear_run};
 use std::alloc::AllocError;
 
 // Adds a field of this text, in quotes where a byte of it calls for them.
@@ -16,10 +17,25 @@ pub(crate) fn push_field(out: &mut Vec<u8>, field: &str) -> Result<(), AllocErro
     }
 }
 
+// Whether a byte of a field calls for quotes.
 fn calls_for_quotes(field: &[u8]) -> bool
     ensures { result ≡ needs_quotes default_writer field.now }
 {
-    field.iter().any(|b| is_special(*b))
+    let mut at = 0;
+    'by_load: while field.len() - at >= LANES {
+        let run = clear_run(field, at);
+        if run < LANES {
+            return true;
+        }
+        at += LANES;
+    }
+    while at < field.len() {
+        if is_special(field[at]) {
+            return true;
+        }
+        at += 1;
+    }
+    false
 }
 
 fn is_special(b: u8) -> bool

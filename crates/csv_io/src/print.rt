@@ -1,15 +1,16 @@
 ghost use Rattle.std.specs.Prelude.{◌≡◌, ◌<◌, ◌++◌, All, IfOk, IsUtf8, Ok, OnOk, flat_map, length, map, string_bytes};
 ghost use Rattle.csv.specs.Records.{AllText};
 ghost use Rattle.csv.specs.Writing.{default_writer, field_text, row_text};
-ghost use Rattle.kql_cells.specs.Seen.{seen};
+ghost use Rattle.kql_cells.specs.Seen.{seen, value_at};
 ghost use Rattle.kql_cells.specs.Values.{IsMoment, IsWellFormed};
 ghost use Rattle.kql_cells.specs.declared.value.Value.TheVariants as value;
 ghost use Rattle.kql_values.specs.Grids.{row_of};
+ghost use Rattle.kql_values.specs.Numbers.{values_of_numbers};
 ghost use Rattle.csv_io.specs.Load.{loaded};
 ghost use Rattle.csv_io.specs.Reload.{IsLoadable, ReadsBack, typed_name, typed_text, with_kinds, word_of};
 ghost use Rattle.csv_io.specs.Text.{cell_text, line_text, names_of, table_text};
 
-use crate::lent::{Lent, lent_columns};
+use crate::lent::{Lent, Stored, lent_columns};
 use crate::output::{end_line, push_field, push_separator};
 use crate::printed_day::PrintedDay;
 use itoa::Buffer;
@@ -17,7 +18,7 @@ use kql_cells::{Bytes, CellRef, Column, Dyn, Kind};
 use kql_dynamic::print_json;
 use kql_items::Items;
 use kql_ticks::push_span;
-use kql_values::Table;
+use kql_values::{NumberKind, Numbers, Table};
 use std::alloc::{AllocError, Global};
 
 /// The text of a table: a line of the columns' names, without their types, and a line for each row. A null is an empty
@@ -132,14 +133,69 @@ fn push_line(
     let start = out.len();
     for j in 0..columns.len() {
         push_separator(out, j)?;
-        push_cell(alloc, out, columns[j].cell(i), day)?;
+        push_lent(alloc, out, &columns[j], i, day)?;
     }
     end_line(out, start)?;
     Ok(())
 }
 
-// Adds a cell.
+// Adds a cell of a column.
 #[inline(always)]
+fn push_lent(
+    alloc: Global,
+    out: &mut Vec<u8>,
+    column: &Lent<'_>,
+    i: usize,
+    day: &mut PrintedDay,
+) -> Result<(), AllocError>
+    requires within { i < length column.now }
+    requires form { IsWellFormed (value_at column.now i) }
+    ensures added { OnOk result (out.new.items ≡ out.old.items ++ field_text default_writer (cell_text (value_at column.now i))) }
+    ensures back { OnOk result (ReadsBack (value_at column.now i)) }
+{
+    match &column.stored {
+        Stored::Numbers(numbers) => push_number(out, numbers, i, day),
+        Stored::Texts(texts) => push_text(out, texts.get(i)),
+        Stored::Cells(cells) => push_cell(alloc, out, cells.cell(i), day),
+    }
+}
+
+// Adds a number of a column of numbers, or nothing where it is null.
+#[inline(always)]
+fn push_number(
+    out: &mut Vec<u8>,
+    numbers: &Numbers<'_>,
+    i: usize,
+    day: &mut PrintedDay,
+) -> Result<(), AllocError>
+    requires within { i < length numbers.now.numbers.now }
+    requires whole { length numbers.now.nulls.now ≡ length numbers.now.numbers.now }
+    requires form { IsWellFormed (value_at (values_of_numbers numbers.now) i) }
+    ensures added { OnOk result (out.new.items ≡ out.old.items ++ field_text default_writer (cell_text (value_at (values_of_numbers numbers.now) i))) }
+    ensures back { OnOk result (ReadsBack (value_at (values_of_numbers numbers.now) i)) }
+{
+    let is_null = numbers.nulls[i];
+    if is_null {
+        return Ok(());
+    }
+    let n = numbers.numbers[i];
+    match numbers.kind {
+        NumberKind::Long => push_long(out, n),
+        NumberKind::Moment => push_datetime(out, n, day),
+        NumberKind::Span => push_timespan(out, n),
+    }
+}
+
+// Adds a text.
+#[inline(always)]
+fn push_text(out: &mut Vec<u8>, text: &str) -> Result<(), AllocError>
+    ensures added { OnOk result (out.new.items ≡ out.old.items ++ field_text default_writer (cell_text (value.Text text.now))) }
+    ensures back { OnOk result (ReadsBack (value.Text text.now)) }
+{
+    push_field(out, text)
+}
+
+// Adds a cell of a column that is stored otherwise.
 fn push_cell(
     alloc: Global,
     out: &mut Vec<u8>,

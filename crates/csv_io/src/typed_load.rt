@@ -13,8 +13,8 @@ use crate::loading::load_rows;
 use crate::print::typed_name;
 use kql_cells::{Column, Schema};
 use kql_values::Table;
+use simdutf8::compat::from_utf8;
 use std::alloc::{AllocError, Global};
-use std::str;
 
 /// The table of a file of CSV (RFC 4180) whose columns are these, or the first fault in it.
 ///
@@ -29,7 +29,7 @@ pub fn load_typed(alloc: Global, bytes: &[u8], schema: &Schema) -> Result<Table,
     ensures columns { IfOk result (λ t. t.columns ≡ schema.now) }
     ensures fault { IfErr result (IsFaultOf (loaded_typed schema.now bytes.now)) }
 {
-    match str::from_utf8(bytes) {
+    match from_utf8(bytes) {
         Ok(text) => load_text_typed(alloc, text, schema),
         Err(e) => Err(refused(NOT_UTF8, 0, e.valid_up_to())),
     }

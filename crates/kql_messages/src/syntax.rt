@@ -61,7 +61,7 @@ fn form_told(seen: &Seen<'_>) -> Option<&'static str> {
             return Some(JOIN_KINDS);
         }
         let is_end = here.sort == Sort::End && seen.open_bracket().is_none();
-        if is_end || here.text == "." || here.text == "=" {
+        if is_end || matches!(here.text, "." | "=" | "==") {
             return Some(JOIN_COLUMNS);
         }
     }
@@ -284,6 +284,11 @@ fn missing<'a>(seen: &Seen<'a>) -> Option<Sentence<'a>> {
     if before.text == "|" && (here.sort == Sort::End || here.text == "|" || here.text == ";") {
         return Some(Sentence::plain(
             "Behind this | stands no operator: take the | away, or write one, as | count",
+        ));
+    }
+    if before.text == ";" && here.sort != Sort::End {
+        return Some(Sentence::plain(
+            "Before a ; stands a let, and behind the last one the query: let Slow = T | where ms > 100; Slow | count",
         ));
     }
     if here.sort == Sort::End {

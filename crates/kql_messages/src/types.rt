@@ -49,6 +49,12 @@ pub(crate) fn operand_as<'a>(
     if given.kind == Kind::Text && given.form == Form::Column {
         return Some(column_as(seen, given.text, kind));
     }
+    if given.kind == Kind::Long && kind == Kind::Moment {
+        return Some(Sentence::with(
+            "unixtime_seconds_todatetime({}) makes a datetime of seconds since 1970",
+            given.text,
+        ));
+    }
     let conversion = conversion_to(kind);
     if kind_of_call(conversion, &[given.kind]) != Some(kind) {
         return None;
@@ -210,6 +216,16 @@ fn expression_told<'a>(alloc: Global, seen: &Seen<'a>) -> Result<Option<Sentence
             given.text,
             given.told(),
         )));
+    }
+    if let Some(given) = given {
+        if before == "mv-expand" {
+            return Ok(Some(Sentence::with_three(
+                "mv-expand asks for a dynamic value, and {} is {}: parse_json({})",
+                given.text,
+                given.told(),
+                given.text,
+            )));
+        }
     }
     let is_dynamic = match given {
         Some(given) => given.kind == Kind::Dynamic,
