@@ -1,7 +1,7 @@
 -- Cells of columns that are lent.
-use Rattle.std.proofs.Common.{◌≡◌, ◌<◌, ◌+◌, ◌∙◌, ℕ, zero, suc, Bool, false, true, List, [], ◌∷◌, ◌++◌, length, get_or, map, take, refl, sym, ap, arith, subst}
-use Rattle.std.specs.Prelude.{ℤ, pos, All, Some, flat_map}
-use Rattle.std.proofs.lemmas.List.{flat_map_more, length-map, take_more}
+use Rattle.std.proofs.Common.{◌≡◌, ◌<◌, ◌∙◌, ℕ, zero, suc, Bool, false, true, List, [], ◌∷◌, length, get_or, map, refl, sym, ap, arith, subst}
+use Rattle.std.specs.Prelude.{ℤ, pos, All, Some}
+use Rattle.std.proofs.lemmas.List.{length-map}
 use Rattle.std.proofs.lemmas.List.Elements.{All-cons, All-nil}
 use Rattle.csv_io.specs.Lending.{IsWhole, held}
 use Rattle.csv_io.specs.declared.lent.Stored.{Stored}
@@ -83,11 +83,3 @@ lent-within s n i e w lt =
     let whole : length n.nulls.now ≡ length n.numbers.now = subst (λ z. IsWhole z) e w in
     let within : i < length (values_of_numbers n) = subst (λ z. i < length (held z)) e lt in
     omega (arith, numbers-size n whole)
-
--- ---- lines
-
--- the text of one row more
-pub lines-more : (f : List Value → List ℕ) (lines : List (List Value)) (i : ℕ) (base out new : List ℕ) → i < length lines
-    → out ≡ base ++ flat_map f (take i lines) → new ≡ out ++ f (row_at lines i) → new ≡ base ++ flat_map f (take (i + 1) lines)
-lines-more f lines i base out new lt eo en =
-    en ∙ ap (λ t. t ++ f (row_at lines i)) eo ∙ flat_map_more f base (take i lines) (row_at lines i) ∙ ap (λ rows. base ++ flat_map f rows) (sym (take_more lines i [] lt))

@@ -1,14 +1,13 @@
--- Faults one after another, and one more cell or row without a fault.
-use Rattle.std.proofs.Common.{◌≡◌, ◌≤◌, ◌<◌, ◌==◌, ◌+◌, ◌++◌, ◌∙◌, ℕ, zero, suc, true, false, List, [], ◌∷◌, length, drop, take, get_or, refl, sym, ap, arith, append_assoc, length-append, drop-cons, eq-eqb, inl, inr}
+-- Faults one after another, and one more cell without a fault.
+use Rattle.std.proofs.Common.{◌≡◌, ◌≤◌, ◌<◌, ◌==◌, ◌+◌, ◌++◌, ◌∙◌, ℕ, zero, suc, true, false, List, [], ◌∷◌, length, drop, take, get_or, refl, sym, ap, arith, drop-cons, eq-eqb, inl, inr}
 use Rattle.std.proofs.lemmas.List.{append-nil, take_all, take_more}
 use Rattle.std.proofs.lemmas.Bool.{cases_Bool, ne_eqb}
-use Rattle.std.specs.Prelude.{Some, Result, Ok, Err, map, IfOk, IfErr, IsUtf8}
+use Rattle.std.specs.Prelude.{Some, Result, Ok, Err, IfOk, IfErr, IsUtf8}
 use Rattle.std.proofs.lemmas.Str.{IsUtf8-from_is_utf8, is_utf8-from_IsUtf8}
 use Rattle.std.specs.Str.Lossy.{utf8_valid_len}
 use Rattle.std.specs.Str.{is_utf8}
 use Rattle.csv_io.specs.Faults.{Fault, bad_length, not_utf8, fault_at, IsFaultOf, IsFirstOf, Reads, unless}
-use Rattle.csv_io.specs.Header.{column_of, header_faults}
-use Rattle.csv_io.specs.Load.{cell_faults, cells_faults, cells_of, faults_of, file_records, grid_of, loaded, row_faults, rows_faults}
+use Rattle.csv_io.specs.Load.{cell_faults, cells_faults, cells_of, faults_of, file_records, grid_of, loaded, row_faults}
 use Rattle.csv_io.specs.declared.fault.DataFault.{DataFault}
 use Rattle.csv_io.specs.declared.fault.DataFault.TheVariants as fault
 use Rattle.kql_cells.specs.Table.{CellFits, RowFits}
@@ -29,7 +28,7 @@ pub table-read : {X : Type 0} (fs : List Fault) (x : X) (answer : Result X Fault
 table-read fs x answer (Ok y) e r = e ∙ rw (r.0, r.1) refl
 table-read fs x answer (Err d) e r = tt
 
-refused-at : {X : Type 0} (fs : List Fault) (x : X) (d : DataFault) → IsFirstOf fs d → IsFaultOf (unless fs x) d
+pub refused-at : {X : Type 0} (fs : List Fault) (x : X) (d : DataFault) → IsFirstOf fs d → IsFaultOf (unless fs x) d
 refused-at [] x (fault.Refused c r k) h = cc h
 refused-at (f ∷ fs) x (fault.Refused c r k) h = ap Err (inside f (fault_at c r k) h)
 refused-at fs x fault.OutOfMemory h = tt
@@ -111,24 +110,3 @@ row-even columns row fields e = let same : (length fields == length columns) ≡
 pub row-uneven : (columns : List Column) (row : ℕ) (fields : List (List ℕ)) → (length fields ≡ length columns → ⊥) → row_faults columns row fields ≡ fault_at bad_length row (length fields) ∷ []
 unfolding row_faults
 row-uneven columns row fields n = let other : (length fields == length columns) ≡ false = ne_eqb _ _ n in rw other refl
-
--- a row more
-pub rows-step : (columns : List Column) (left : List (List (List ℕ))) (fields : List (List ℕ)) (rest : List (List (List ℕ))) (lines new : List (List Value)) (row : List Value) (n : ℕ)
-    (all : List (List Value)) (faults : List Fault) → left ≡ fields ∷ rest → n ≡ length lines + 1 → row_faults columns n fields ≡ [] → row ≡ cells_of columns fields
-    → new ≡ lines ++ row ∷ [] → lines ++ map (cells_of columns) left ≡ all → rows_faults columns (length lines + 1) left ≡ faults
-    → (new ++ map (cells_of columns) rest ≡ all) × (rows_faults columns (length new + 1) rest ≡ faults)
-rows-step columns left fields rest lines new row n all faults el en none er ew h g =
-    let size : length new ≡ length lines + 1 = rw ew (length-append lines (row ∷ [])) in
-    let here : row_faults columns (length lines + 1) fields ≡ [] = rw en at none in
-    (rw (ew, er) (append_assoc lines (cells_of columns fields ∷ []) (map (cells_of columns) rest) ∙ rw el at h), rw size (rw (el, here) at g))
-
--- a row that does not read
-pub rows-fault : (columns : List Column) (left : List (List (List ℕ))) (fields : List (List ℕ)) (rest : List (List (List ℕ))) (n m : ℕ) (faults : List Fault) (e : DataFault)
-    → left ≡ fields ∷ rest → n ≡ m → rows_faults columns m left ≡ faults → IsFirstOf (row_faults columns n fields) e → IsFirstOf faults e
-rows-fault columns left fields rest n m faults e el en g first =
-    rw (← g, el) (first-append (row_faults columns m fields) (rows_faults columns (m + 1) rest) e (rw en at first))
-
--- a header that does not read
-pub header-first : (records : List (List (List ℕ))) (header : List (List ℕ)) (rows : List (List (List ℕ))) (e : DataFault)
-    → records ≡ header ∷ rows → IsFirstOf (header_faults [] header) e → IsFirstOf (faults_of records) e
-header-first records header rows e el first = rw el (first-append (header_faults [] header) (rows_faults (map column_of header) 1 rows) e first)

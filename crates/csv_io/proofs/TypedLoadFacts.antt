@@ -1,18 +1,16 @@
 -- The header of a file whose columns are known.
-use Rattle.std.proofs.Common.{◌≡◌, ◌≤◌, ◌<◌, ◌+◌, ℕ, zero, suc, true, false, List, [], ◌∷◌, ◌++◌, length, drop, get_or, refl, arith, drop-cons, inl, inr, ◌∙◌, sym, ap}
+use Rattle.std.proofs.Common.{◌≡◌, ◌≤◌, ◌<◌, ◌+◌, ℕ, zero, suc, true, false, List, [], ◌∷◌, length, drop, get_or, refl, arith, drop-cons, inl, inr, ◌∙◌, sym, ap}
 use Rattle.std.proofs.lemmas.List.{drop_all}
 use Rattle.std.proofs.lemmas.Bool.{cases_Bool}
 use Rattle.std.proofs.lemmas.Str.{IsUtf8-from_is_utf8, is_utf8-from_IsUtf8}
-use Rattle.std.specs.Prelude.{Result, Ok, Err, IfOk, IsUtf8}
+use Rattle.std.specs.Prelude.{Err, IsUtf8}
 use Rattle.std.specs.Str.{is_utf8}
 use Rattle.std.specs.Str.Lossy.{utf8_valid_len}
-use Rattle.csv_io.specs.Faults.{Fault, IsFirstOf, Reads, fault_at, not_utf8, unless}
-use Rattle.csv_io.specs.Load.{file_records, rows_faults}
+use Rattle.csv_io.specs.Faults.{Fault, IsFirstOf, fault_at, not_utf8, unless}
+use Rattle.csv_io.specs.Load.{file_records}
 use Rattle.csv_io.specs.TypedLoad.{differences, header_differs, heads, loaded_typed, typed_faults_of, typed_grid_of}
 use Rattle.csv_io.specs.declared.fault.DataFault.{DataFault}
 use Rattle.csv_io.specs.declared.fault.DataFault.TheVariants as fault
-use Rattle.csv_io.proofs.LoadFacts.{first-append}
-use Rattle.kql_cells.specs.Table.{Grid}
 use Rattle.kql_cells.specs.declared.schema.Column.{Column}
 
 -- of a text the faults are those of its records
@@ -26,11 +24,6 @@ unfolding loaded_typed
 typed-other columns bytes n =
     let other : is_utf8 bytes ≡ false = elim (cases_Bool (is_utf8 bytes)) [ inl t ↦ absurd (n (IsUtf8-from_is_utf8 bytes t)) | inr f ↦ f ] in
     rw other refl
-
--- a header that differs
-pub typed-first : (columns : List Column) (records : List (List (List ℕ))) (header : List (List ℕ)) (rows : List (List (List ℕ))) (e : DataFault)
-    → records ≡ header ∷ rows → IsFirstOf (differences 1 columns header) e → IsFirstOf (typed_faults_of columns records) e
-typed-first columns records header rows e el first = rw el (first-append (differences 1 columns header) (rows_faults columns 1 rows) e first)
 
 -- one field more that heads its column
 pub differ-step : (columns : List Column) (fields : List (List ℕ)) (j : ℕ) (d : Column) (all : List Fault) → j < length columns → j < length fields
@@ -77,12 +70,3 @@ differ-none columns fields j all k f e = sym e ∙ (rw (drop_all j columns k, dr
 -- the fault that is alone is the first
 pub alone : (all : List Fault) (row column : ℕ) (e : DataFault) → all ≡ fault_at header_differs row column ∷ [] → e ≡ fault.Refused header_differs row column → IsFirstOf all e
 alone all row column e h r = rw (h, r) refl
-
--- the columns of what was read
-typed-columns : (columns : List Column) (records : List (List (List ℕ))) → (typed_grid_of columns records).columns ≡ columns
-typed-columns columns [] = refl
-typed-columns columns (header ∷ rows) = refl
-
-pub columns-read : (columns : List Column) (records : List (List (List ℕ))) (faults : List Fault) (r : Result Grid DataFault) → Reads faults (typed_grid_of columns records) r → IfOk r (λ t. t.columns ≡ columns)
-columns-read columns records faults (Ok t) h = ap (λ g. g.columns) h.1 ∙ typed-columns columns records
-columns-read columns records faults (Err e) h = tt

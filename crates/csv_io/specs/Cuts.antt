@@ -1,18 +1,13 @@
--- Fields and records that are cut out of a text as they stand there.
-use Rattle.std.specs.Prelude.{◌≡◌, ℕ, ◌<◌, ◌≤◌, ◌∷◌, false, List, [], Some, drop, length, slice_index, slice_range}
+-- Fields and records of a text, by places.
+use Rattle.std.specs.Prelude.{◌≡◌, ℕ, ◌<◌, ◌≤◌, ◌∷◌, false, List, [], drop, length, slice_index, slice_range}
 use Rattle.csv.specs.Machine.{next_record}
-use Rattle.csv.specs.Reading.{default_config, strip_bom}
+use Rattle.csv.specs.Reading.{default_config, records}
 use Rattle.csv.specs.declared.parser.State.TheVariants as st
-use Rattle.csv_io.specs.RecordsLeft.{left_of}
 use Rattle.csv_io.specs.Runs.{is_plain}
 
 -- the records from a place on
 abbrev pub records_at : List ℕ → ℕ → List (List (List ℕ))
-records_at text at = left_of st.StartRecord (Some (drop at text))
-
--- the same, without a byte order mark that stands there
-abbrev pub records_behind : List ℕ → ℕ → List (List (List ℕ))
-records_behind text at = left_of st.StartRecord (Some (strip_bom (drop at text)))
+records_at text at = records default_config (drop at text)
 
 -- the field that begins at a place is the text from one place to another, and ends at a third, where a comma stands, the
 -- end of the line, or no byte
@@ -26,4 +21,4 @@ pub record IsCut (text : List ℕ) (at from to end : ℕ) : Type 0 where
 
 -- the record that begins at a place has these fields, and the others come from a second place on
 abbrev pub IsRecordAt : List ℕ → ℕ → List (List ℕ) → ℕ → Type 0
-IsRecordAt text at fields end = (end ≤ length text) × (records_at text at ≡ fields ∷ records_behind text end)
+IsRecordAt text at fields end = (end ≤ length text) × (records_at text at ≡ fields ∷ records_at text end)

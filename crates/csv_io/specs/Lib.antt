@@ -8,9 +8,13 @@ pub mod Lending
 pub mod Lines
 pub mod Load
 pub mod Next
+pub mod Parts
+pub mod Printed
+pub mod Quoted
 pub mod RecordsLeft
 pub mod Reload
 pub mod Runs
+pub mod Stacks
 pub mod Text
 pub mod TextRecords
 pub mod TypedLoad

@@ -1,5 +1,5 @@
 -- The text of a table.
-use Rattle.std.specs.Prelude.{ℕ, true, false, List, [], ◌++◌, map, flat_map, codes, unsigned_abs}
+use Rattle.std.specs.Prelude.{ℕ, true, false, List, [], ◌++◌, map, flat_map, codes, slice_range, unsigned_abs}
 use Rattle.std.specs.Fmt.{signed_decimal}
 use Rattle.csv.specs.Writing.{default_writer, row_text}
 use Rattle.kql_dynamic.specs.Printed.{printed}
@@ -29,3 +29,7 @@ names_of columns = map (λ c. c.name) columns
 -- a line of names, and then a line for each row
 abbrev pub table_text : Grid → List ℕ
 table_text g = row_text default_writer (names_of g.columns) ++ flat_map line_text g.lines
+
+-- a line for each of the rows from a place up to another
+abbrev pub lines_text : Grid → ℕ → ℕ → List ℕ
+lines_text g from to = flat_map line_text (slice_range g.lines from to)

@@ -1,4 +1,4 @@
-ghost use Rattle.std.specs.Prelude.{◌≡◌, ◌<◌, ◌++◌, All, IfOk, IsUtf8, Ok, OnOk, flat_map, length, map, string_bytes};
+ghost use Rattle.std.specs.Prelude.{◌≡◌, ◌<◌, ◌≤◌, ◌++◌, All, IfOk, IsUtf8, Ok, OnOk, flat_map, length, map, slice_range, string_bytes};
 ghost use Rattle.csv.specs.Records.{AllText};
 ghost use Rattle.csv.specs.Writing.{default_writer, field_text, row_text};
 ghost use Rattle.kql_cells.specs.Seen.{seen, value_at};
@@ -8,7 +8,7 @@ ghost use Rattle.kql_values.specs.Grids.{row_of};
 ghost use Rattle.kql_values.specs.Numbers.{values_of_numbers};
 ghost use Rattle.csv_io.specs.Load.{loaded};
 ghost use Rattle.csv_io.specs.Reload.{IsLoadable, ReadsBack, typed_name, typed_text, with_kinds, word_of};
-ghost use Rattle.csv_io.specs.Text.{cell_text, line_text, names_of, table_text};
+ghost use Rattle.csv_io.specs.Text.{cell_text, line_text, lines_text, names_of, table_text};
 
 use crate::lent::{Lent, Stored, lent_columns};
 use crate::output::{end_line, push_field, push_separator};
@@ -54,17 +54,38 @@ fn push_lines(alloc: Global, out: &mut Vec<u8>, t: &Table) -> Result<(), AllocEr
     ensures text { OnOk result (out.new.items ≡ out.old.items ++ flat_map line_text t.now.lines) }
     ensures back { OnOk result (All (All ReadsBack) t.now.lines) }
 {
+    push_range(alloc, out, t, 0, t.len())?;
+    Ok(())
+}
+
+// Adds a line for each of the rows from a place up to another.
+pub(crate) fn push_range(
+    alloc: Global,
+    out: &mut Vec<u8>,
+    t: &Table,
+    from: usize,
+    to: usize,
+) -> Result<(), AllocError>
+    requires order { from ≤ to }
+    requires within { to ≤ length t.now.lines }
+    ensures text { OnOk result (out.new.items ≡ out.old.items ++ lines_text t.now from to) }
+    ensures back { OnOk result (All (All ReadsBack) (slice_range t.now.lines from to)) }
+{
     let _ = t.schema();
     let lent = lent_columns(alloc, t.columns())?;
     let mut day = PrintedDay::new();
-    for i in 0..t.len() {
+    for i in from..to {
         push_line(alloc, out, lent.as_slice(), i, &mut day)?;
     }
     Ok(())
 }
 
 // Adds a line of the columns' names, each with its type.
-fn push_typed_names(alloc: Global, out: &mut Vec<u8>, columns: &[Column]) -> Result<(), AllocError>
+pub(crate) fn push_typed_names(
+    alloc: Global,
+    out: &mut Vec<u8>,
+    columns: &[Column],
+) -> Result<(), AllocError>
     ensures text { OnOk result (out.new.items ≡ out.old.items ++ row_text default_writer (map typed_name columns.now)) }
     ensures utf8 { OnOk result (AllText (names_of columns.now)) }
 {
@@ -103,7 +124,7 @@ fn word_of(kind: Kind) -> &'static str
 }
 
 // Adds a line of the columns' names.
-fn push_names(out: &mut Vec<u8>, columns: &[Column]) -> Result<(), AllocError>
+pub(crate) fn push_names(out: &mut Vec<u8>, columns: &[Column]) -> Result<(), AllocError>
     ensures text { OnOk result (out.new.items ≡ out.old.items ++ row_text default_writer (names_of columns.now)) }
     ensures utf8 { OnOk result (AllText (names_of columns.now)) }
 {

@@ -2,16 +2,15 @@
 ghost use Rattle.std.specs.Prelude.{◌≡◌, Ok, IfErr, IfOk};
 ghost use Rattle.csv.specs.Records.{AllText};
 ghost use Rattle.csv_io.specs.Faults.{IsFaultOf, Reads};
-ghost use Rattle.csv_io.specs.Load.{file_records};
-ghost use Rattle.csv_io.specs.TypedLoad.{differences, heads, loaded_typed, typed_faults_of, typed_grid_of};
+ghost use Rattle.csv_io.specs.TypedLoad.{differences, heads, loaded_typed};
 
-use crate::fault::{DataFault, HEADER_DIFFERS, NO_HEADER, NOT_UTF8, refused};
-use crate::feed::Feed;
+use crate::fault::{DataFault, HEADER_DIFFERS, NOT_UTF8, refused};
 use crate::fields::field;
+use crate::head::Head;
 use crate::line::Line;
-use crate::loading::load_rows;
 use crate::print::typed_name;
 use kql_cells::{Column, Schema};
+use kql_items::Items;
 use kql_values::Table;
 use simdutf8::compat::from_utf8;
 use std::alloc::{AllocError, Global};
@@ -30,27 +29,17 @@ pub fn load_typed(alloc: Global, bytes: &[u8], schema: &Schema) -> Result<Table,
     ensures fault { IfErr result (IsFaultOf (loaded_typed schema.now bytes.now)) }
 {
     match from_utf8(bytes) {
-        Ok(text) => load_text_typed(alloc, text, schema),
+        Ok(text) => Head::read_typed(alloc, text, schema)?.join(alloc, Items::new(alloc)),
         Err(e) => Err(refused(NOT_UTF8, 0, e.valid_up_to())),
     }
 }
 
-fn load_text_typed(alloc: Global, text: &str, schema: &Schema) -> Result<Table, DataFault>
-    ensures { Reads (typed_faults_of schema.now (file_records text.now)) (typed_grid_of schema.now (file_records text.now)) result }
-{
-    let mut feed = Feed::new(alloc, text.as_bytes());
-    let mut line = Line::new(alloc);
-    if feed.next(&mut line)? {
-        check_header(alloc, schema.columns(), &line)?;
-        let columns = schema.copy(alloc)?;
-        load_rows(alloc, columns, feed, line)
-    } else {
-        Err(refused(NO_HEADER, 0, 0))
-    }
-}
-
 // Whether a header heads these columns, or the first in which it differs.
-fn check_header(alloc: Global, columns: &[Column], line: &Line<'_>) -> Result<(), DataFault>
+pub(crate) fn check_header(
+    alloc: Global,
+    columns: &[Column],
+    line: &Line<'_>,
+) -> Result<(), DataFault>
     requires { AllText line.now }
     ensures { Reads (differences 1 columns.now line.now) tt result }
 {

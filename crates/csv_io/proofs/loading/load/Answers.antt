@@ -1,16 +1,22 @@
-use Rattle.std.proofs.Common.{refl}
-use Rattle.csv_io.proofs.LoadFacts.{fault-read, loaded-other, loaded-text, table-read}
+use Rattle.std.proofs.Common.{◌∙◌, ap, refl, sym}
+use Rattle.std.proofs.lemmas.Result.{err_from_is_err_and}
+use Rattle.csv_io.specs.Load.{loaded}
+use Rattle.csv_io.proofs.LoadFacts.{loaded-other}
+use Rattle.csv_io.proofs.PartFacts.{load-fault, load-table}
 use Rattle.csv_io.proofs.loading.load.Goals as goal
 
-pub returns-in-Ok-clause-table : goal.returns-in-Ok-clause-table
-returns-in-Ok-clause-table c =
-    let q = c.in-Ok.ensures.cases in
-    table-read _ _ _ c.load_text.result (loaded-text c.args.bytes.now q.1) (rw q.0 at c.load_text.ensures)
+pub returns-in_ok-read-in-Ok-clause-table : goal.returns-in_ok-read-in-Ok-clause-table
+returns-in_ok-read-in-Ok-clause-table c =
+    load-table (loaded c.args.bytes.now) _ _ c.join.result c.in_ok-read-in-Ok.ensures.text (ap loaded (sym c.in-Ok.ensures.cases.0) ∙ c.in_ok-read-in-Ok.ensures.loads) c.join.ensures.table
 
-pub returns-in-Ok-clause-fault : goal.returns-in-Ok-clause-fault
-returns-in-Ok-clause-fault c =
-    let q = c.in-Ok.ensures.cases in
-    fault-read _ _ _ c.load_text.result (loaded-text c.args.bytes.now q.1) (rw q.0 at c.load_text.ensures)
+pub returns-in_ok-read-in-Ok-clause-fault : goal.returns-in_ok-read-in-Ok-clause-fault
+returns-in_ok-read-in-Ok-clause-fault c =
+    load-fault (loaded c.args.bytes.now) _ _ c.join.result c.in_ok-read-in-Ok.ensures.text (ap loaded (sym c.in-Ok.ensures.cases.0) ∙ c.in_ok-read-in-Ok.ensures.loads) c.join.ensures.fault
+
+pub returns-in_err-read-in-Ok-clause-fault : goal.returns-in_err-read-in-Ok-clause-fault
+returns-in_err-read-in-Ok-clause-fault c =
+    let p = err_from_is_err_and c.from_residual.result c.from_residual.ensures.1 in
+    rw (p.1, p.2) (rw c.in-Ok.ensures.cases.0 at c.in_err-read-in-Ok.ensures.fault)
 
 pub returns-in-Err : goal.returns-in-Err
 returns-in-Err c =

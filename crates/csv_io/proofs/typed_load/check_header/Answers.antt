@@ -1,7 +1,6 @@
-use Rattle.std.proofs.Common.{◌≡◌, ◌≤◌, ◌<◌, ◌+◌, ◌∙◌, true, false, ap, arith, length, refl, sym}
+use Rattle.std.proofs.Common.{◌≡◌, ◌≤◌, ◌<◌, ◌+◌, ◌∙◌, true, false, arith, length, refl, sym}
 use Rattle.std.proofs.lemmas.Grind.{common_steps}
-use Rattle.csv_io.specs.Faults.{IsFirstOf}
-use Rattle.csv_io.specs.TypedLoad.{header_differs, heads}
+use Rattle.csv_io.specs.TypedLoad.{heads}
 use Rattle.csv_io.proofs.TypedLoadFacts.{alone, differ-here, differ-missing, differ-more, differ-none, differ-step}
 use Rattle.csv_io.proofs.typed_load.check_header.Goals as goal
 

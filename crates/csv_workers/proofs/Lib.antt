@@ -1,0 +1,4 @@
+pub mod AnswerFacts
+pub mod CheckFacts
+pub mod CrossingLaws
+pub mod SlotFacts
