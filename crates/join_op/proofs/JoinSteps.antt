@@ -21,6 +21,7 @@ use Rattle.kql_meaning.proofs.JoinLaws.{map-map}
 use Rattle.kql_meaning.proofs.MemberLaws.{Member, Pairwise, member-of-filter, member-of-flat, every-of-members, member-of-map, of-member, pairs-of, pairwise-append, pairwise-filter, pairwise-range}
 use Rattle.kql_fit_laws.proofs.RowFacts.{all-members, place-below}
 use Rattle.kql_values.specs.Moves.{IsWithin, beside, gathered_or_absent, row_or_absent}
+use Rattle.join_op.specs.Led.{columns_led, pairs_led, pairs_table, places_table}
 use Rattle.join_op.specs.Pairs.{given, has_lead, join_leads, join_pairs, lead_rows, pairs_by, pairs_joined, row_rule, shows_both}
 use Rattle.join_op.specs.Shown.{row_shown, shown_at}
 use Rattle.join_op.specs.Sides.{have_keys, lead_of, lead_side, matches_of, opposite}
@@ -29,8 +30,9 @@ use Rattle.join_op.specs.declared.pairs.RowRule.TheVariants as rule
 use Rattle.join_op.specs.declared.sides.Side.{Side}
 use Rattle.join_op.specs.declared.sides.Side.TheVariants as side
 use Rattle.join_op.proofs.KeySteps.{left-keys, right-keys}
-use Rattle.join_op.proofs.ListSteps.{beside-append, beside-pairs}
+use Rattle.join_op.proofs.ListSteps.{beside-append}
 use Rattle.join_op.proofs.MatchSteps.{lead-inside}
+use Rattle.join_op.proofs.PairedSteps.{absent-columns, grid, paired, rows-of-left, rows-of-right}
 use Rattle.join_op.proofs.RowSteps.{full-left, full-right, lead, left-only, left-rows, of-pairs, other, right-only, right-rows}
 
 -- The keys of the side that leads, and of the other.
@@ -88,15 +90,20 @@ given-inside n rule.OnceIfUnmatched [] o h (inl e) = subst (IsWithin n) e tt
 given-inside n rule.OnceIfUnmatched [] o h (inr m) = absurd m
 given-inside n rule.OnceIfUnmatched (j ∷ js) o h m = absurd m
 
-pair-inside : (k : JoinKind) (on : List OnPair) (a b : Grid) (p : ℕ × Option ℕ) → Member p (join_pairs k on a b) → (p.0 < length a.lines) × IsWithin (length b.lines) p.1
-unfolding join_pairs pairs_by
-pair-inside k on a b p m =
+-- The pairs of any rows of the side that leads.
+pub led-inside : (k : JoinKind) (on : List OnPair) (a b : Grid) (leads : List ℕ) → ((i : ℕ) → Member i leads → i < length a.lines) → (p : ℕ × Option ℕ) → Member p (pairs_led k on a b leads) → (p.0 < length a.lines) × IsWithin (length b.lines) p.1
+unfolding pairs_led pairs_by
+led-inside k on a b leads within p m =
     let rows = λ (i : ℕ). map (λ (o : Option ℕ). (i, o)) (given (row_rule k) (matches_of (lead_side k) on a b i)) in
-    let q = member-of-flat rows (lead_rows k on a) p m in
+    let q = member-of-flat rows leads p m in
     let z = member-of-map (λ (o : Option ℕ). (q.0, o)) (given (row_rule k) (matches_of (lead_side k) on a b q.0)) p q.2 in (
-      subst (λ (x : ℕ × Option ℕ). x.0 < length a.lines) z.2 (lead-inside k on a q.0 q.1),
+      subst (λ (x : ℕ × Option ℕ). x.0 < length a.lines) z.2 (within q.0 q.1),
       subst (λ (x : ℕ × Option ℕ). IsWithin (length b.lines) x.1) z.2 (given-inside (length b.lines) (row_rule k) (matches_of (lead_side k) on a b q.0) z.0 (matched-inside (lead_side k) on a b q.0) z.1),
     )
+
+pair-inside : (k : JoinKind) (on : List OnPair) (a b : Grid) (p : ℕ × Option ℕ) → Member p (join_pairs k on a b) → (p.0 < length a.lines) × IsWithin (length b.lines) p.1
+unfolding join_pairs pairs_led
+pair-inside k on a b p m = led-inside k on a b (lead_rows k on a) (lead-inside k on a) p m
 
 pub leads-inside : (k : JoinKind) (on : List OnPair) (a b : Grid) (leads : List ℕ) → leads ≡ map (λ q. q.0) (join_pairs k on a b) → All (λ i. i < length a.lines) leads
 leads-inside k on a b leads e = subst (All (λ i. i < length a.lines)) (sym e) (all-members (λ i. i < length a.lines) (map lead (join_pairs k on a b)) (λ i m.
@@ -118,7 +125,7 @@ same-long : (k : JoinKind) (on : List OnPair) (a b : Grid) → length (map lead 
 same-long k on a b = length-map (join_pairs k on a b) lead ∙ sym (length-map (join_pairs k on a b) other)
 
 -- The columns, where those of both sides are shown.
-both-shown : (k : JoinKind) (j : JoinPlan) (l r : List Column) → shows_both k ≡ true → join_columns k j l r ≡ both_columns j l r
+pub both-shown : (k : JoinKind) (j : JoinPlan) (l r : List Column) → shows_both k ≡ true → join_columns k j l r ≡ both_columns j l r
 unfolding shows_both join_columns
 both-shown join.InnerUnique j l r e = refl
 both-shown join.Inner j l r e = refl
@@ -154,60 +161,14 @@ right-shown join.LeftOuter j l r e s = cc
 right-shown join.RightOuter j l r e s = cc
 right-shown join.FullOuter j l r e s = cc
 
-abbrev grid : List Column → List (List Value) → Grid
-grid cs ls = record { columns = cs; lines = ls }
-
 pub names-shown : (j : JoinPlan) (a b kept : Grid) → kept.columns ≡ a.columns → shows_both j.kind ≡ true → HasDistinctNames column_name (join_columns j.kind j a.columns b.columns) → HasDistinctNames column_name (both_columns j kept.columns b.columns)
 names-shown j a b kept e both h = subst (HasDistinctNames column_name) (both-shown j.kind j a.columns b.columns both ∙ ap (λ cs. both_columns j cs b.columns) (sym e)) h
 
--- The left side leads.
+pub names-both : (j : JoinPlan) (l r : List Column) (both : Bool) → both ≡ shows_both j.kind → HasDistinctNames column_name (join_columns j.kind j l r) → both ≡ true → HasDistinctNames column_name (both_columns j l r)
+names-both j l r both e h t = subst (HasDistinctNames column_name) (both-shown j.kind j l r (sym e ∙ t)) h
 
-pub left-count : (j : JoinPlan) (a b kept : Grid) (leads : List ℕ) (others : List (Option ℕ)) → leads ≡ map (λ q. q.0) (join_pairs j.kind j.on a b) → others ≡ map (λ q. q.1) (join_pairs j.kind j.on a b) → kept ≡ gathered a leads → length kept.lines ≡ length others
-left-count j a b kept leads others el eo e =
-    ap (λ (g : Grid). length g.lines) e ∙ (length-map leads (row_at a.lines) ∙ (ap length el ∙ (same-long j.kind j.on a b ∙ ap length (sym eo))))
-
-pub gathered-columns : (a kept : Grid) (leads : List ℕ) → kept ≡ gathered a leads → kept.columns ≡ a.columns
-gathered-columns a kept leads e = ap (λ (g : Grid). g.columns) e
-
-pub left-joined : (j : JoinPlan) (a b kept made : Grid) (leads : List ℕ) (others : List (Option ℕ)) → has_lead j.kind ≡ true → shows_both j.kind ≡ true → lead_side j.kind ≡ side.Left
-    → leads ≡ map (λ q. q.0) (join_pairs j.kind j.on a b) → others ≡ map (λ q. q.1) (join_pairs j.kind j.on a b) → kept ≡ gathered a leads
-    → made ≡ record { columns = both_columns j kept.columns b.columns; lines = beside kept.lines (map (shown_at j b) others) } → made ≡ join_table j a b
-unfolding join_table
-left-joined j a b kept made leads others led both left el eo ek em =
-    let columns : both_columns j kept.columns b.columns ≡ join_columns j.kind j a.columns b.columns = ap (λ cs. both_columns j cs b.columns) (gathered-columns a kept leads ek) ∙ sym (both-shown j.kind j a.columns b.columns both) in
-    let kept-lines : kept.lines ≡ map (row_at a.lines) (map lead (join_pairs j.kind j.on a b)) = ap (λ (g : Grid). g.lines) ek ∙ ap (map (row_at a.lines)) el in
-    em ∙ ap₂ grid columns (ap₂ (λ (xs : List (List Value)) (os : List (Option ℕ)). beside xs (map (shown_at j b) os)) kept-lines eo ∙ left-rows j.kind j a b led both left)
-
-pub left-alone-joined : (j : JoinPlan) (a b kept : Grid) (leads : List ℕ) → shows_both j.kind ≡ false → lead_side j.kind ≡ side.Left
-    → leads ≡ map (λ q. q.0) (join_pairs j.kind j.on a b) → kept ≡ gathered a leads → kept ≡ join_table j a b
-unfolding join_table
-left-alone-joined j a b kept leads one left el ek =
-    ek ∙ ap₂ grid (sym (left-shown j.kind j a.columns b.columns one left)) (ap (map (row_at a.lines)) el ∙ left-only j.kind j a b one left)
-
--- The right side leads.
-
-pub right-count : (j : JoinPlan) (a b kept : Grid) (leads : List ℕ) (others somes : List (Option ℕ)) → leads ≡ map (λ q. q.0) (join_pairs j.kind j.on b a) → others ≡ map (λ q. q.1) (join_pairs j.kind j.on b a) → somes ≡ map (λ i. Some i) leads
-    → kept ≡ gathered_or_absent a others → length kept.lines ≡ length somes
-right-count j a b kept leads others somes el eo es e =
-    ap (λ (g : Grid). length g.lines) e ∙ (length-map others (row_or_absent a) ∙ (ap length eo ∙ (sym (same-long j.kind j.on b a) ∙ (ap length (sym el) ∙ (sym (length-map leads (λ i. Some i)) ∙ ap length (sym es))))))
-
-pub absent-columns : (a kept : Grid) (others : List (Option ℕ)) → kept ≡ gathered_or_absent a others → kept.columns ≡ a.columns
-absent-columns a kept others e = ap (λ (g : Grid). g.columns) e
-
-pub right-joined : (j : JoinPlan) (a b kept made : Grid) (leads : List ℕ) (others somes : List (Option ℕ)) → shows_both j.kind ≡ true → lead_side j.kind ≡ side.Right
-    → leads ≡ map (λ q. q.0) (join_pairs j.kind j.on b a) → others ≡ map (λ q. q.1) (join_pairs j.kind j.on b a) → somes ≡ map (λ i. Some i) leads → kept ≡ gathered_or_absent a others
-    → made ≡ record { columns = both_columns j kept.columns b.columns; lines = beside kept.lines (map (shown_at j b) somes) } → made ≡ join_table j a b
-unfolding join_table
-right-joined j a b kept made leads others somes both right el eo es ek em =
-    let columns : both_columns j kept.columns b.columns ≡ join_columns j.kind j a.columns b.columns = ap (λ cs. both_columns j cs b.columns) (absent-columns a kept others ek) ∙ sym (both-shown j.kind j a.columns b.columns both) in
-    let kept-lines : kept.lines ≡ map (row_or_absent a) (map other (join_pairs j.kind j.on b a)) = ap (λ (g : Grid). g.lines) ek ∙ ap (map (row_or_absent a)) eo in
-    em ∙ ap₂ grid columns (ap₂ (λ (xs : List (List Value)) (os : List (Option ℕ)). beside xs (map (shown_at j b) os)) kept-lines (es ∙ ap (map (λ i. Some i)) el) ∙ right-rows j.kind j a b both right)
-
-pub right-alone-joined : (j : JoinPlan) (a b kept : Grid) (leads : List ℕ) → shows_both j.kind ≡ false → lead_side j.kind ≡ side.Right
-    → leads ≡ map (λ q. q.0) (join_pairs j.kind j.on b a) → kept ≡ gathered b leads → kept ≡ join_table j a b
-unfolding join_table
-right-alone-joined j a b kept leads one right el ek =
-    ek ∙ ap₂ grid (sym (right-shown j.kind j a.columns b.columns one right)) (ap (map (row_at b.lines)) el ∙ right-only j.kind j a b one right)
+pub as-long : (k : JoinKind) (on : List OnPair) (a b : Grid) (leads : List ℕ) (others : List (Option ℕ)) → leads ≡ map (λ q. q.0) (join_pairs k on a b) → others ≡ map (λ q. q.1) (join_pairs k on a b) → length leads ≡ length others
+as-long k on a b leads others el eo = ap length el ∙ (same-long k on a b ∙ ap length (sym eo))
 
 -- Fullouter.
 
@@ -341,18 +302,6 @@ right-leads j a b leads s e = e ∙ sym (ap (λ x. map lead (join_pairs j.kind j
 
 -- Each row of the answer is that of its pair.
 
-rows-of-left : (j : JoinPlan) (a b : Grid) (ps : List (ℕ × Option ℕ)) → beside (map (row_at a.lines) (map lead ps)) (map (shown_at j b) (map other ps)) ≡ map (row_shown true side.Left j a b) ps
-unfolding row_shown
-rows-of-left j a b ps =
-    ap₂ (λ (xs ys : List (List Value)). beside xs ys) (map-map (row_at a.lines) lead ps) (map-map (shown_at j b) other ps)
-    ∙ beside-pairs (λ (p : ℕ × Option ℕ). row_at a.lines p.0) (λ (p : ℕ × Option ℕ). shown_at j b p.1) ps
-
-rows-of-right : (j : JoinPlan) (a b : Grid) (ps : List (ℕ × Option ℕ)) → beside (map (row_or_absent a) (map other ps)) (map (shown_at j b) (map (λ i. Some i) (map lead ps))) ≡ map (row_shown true side.Right j a b) ps
-unfolding row_shown
-rows-of-right j a b ps =
-    ap₂ (λ (xs ys : List (List Value)). beside xs ys) (map-map (row_or_absent a) other ps) (map-map (shown_at j b) (λ i. Some i) (map lead ps) ∙ map-map (λ i. shown_at j b (Some i)) lead ps)
-    ∙ beside-pairs (λ (p : ℕ × Option ℕ). row_or_absent a p.1) (λ (p : ℕ × Option ℕ). shown_at j b (Some p.0)) ps
-
 rows-by : (j : JoinPlan) (a b : Grid) (both : Bool) (s : Side) → has_lead j.kind ≡ true → shows_both j.kind ≡ both → lead_side j.kind ≡ s → join_rows j.kind j a b ≡ map (row_shown both s j a b) (join_pairs j.kind j.on (lead_of s a b) (lead_of (opposite s) a b))
 unfolding lead_of opposite row_shown
 rows-by j a b true side.Left led e s = sym (left-rows j.kind j a b led e s) ∙ rows-of-left j a b (join_pairs j.kind j.on a b)
@@ -360,14 +309,36 @@ rows-by j a b true side.Right led e s = sym (right-rows j.kind j a b e s) ∙ ro
 rows-by j a b false side.Left led e s = sym (left-only j.kind j a b e s) ∙ map-map (row_at a.lines) lead (join_pairs j.kind j.on a b)
 rows-by j a b false side.Right led e s = sym (right-only j.kind j a b e s) ∙ map-map (row_at b.lines) lead (join_pairs j.kind j.on b a)
 
+columns-by : (j : JoinPlan) (l r : List Column) (both : Bool) (s : Side) → shows_both j.kind ≡ both → lead_side j.kind ≡ s → join_columns j.kind j l r ≡ columns_led both s j l r
+unfolding columns_led
+columns-by j l r true s e side = both-shown j.kind j l r e
+columns-by j l r false side.Left e s = left-shown j.kind j l r e s
+columns-by j l r false side.Right e s = right-shown j.kind j l r e s
+
+pub joined-by : (j : JoinPlan) (a b : Grid) (both : Bool) (s : Side) → has_lead j.kind ≡ true → shows_both j.kind ≡ both → lead_side j.kind ≡ s → join_table j a b ≡ pairs_table both s j a b (join_pairs j.kind j.on (lead_of s a b) (lead_of (opposite s) a b))
+unfolding join_table pairs_table
+joined-by j a b both s led e at = ap₂ grid (columns-by j a.columns b.columns both s e at) (rows-by j a b both s led e at)
+
+pub left-joined : (j : JoinPlan) (a b t : Grid) (both : Bool) (leads : List ℕ) (others : List (Option ℕ)) → has_lead j.kind ≡ true → both ≡ shows_both j.kind → lead_side j.kind ≡ side.Left
+    → leads ≡ map (λ q. q.0) (join_pairs j.kind j.on a b) → others ≡ map (λ q. q.1) (join_pairs j.kind j.on a b) → t ≡ places_table both side.Left j a b leads others → t ≡ join_table j a b
+unfolding lead_of opposite
+left-joined j a b t both leads others led e s el eo is =
+    is
+    ∙ (ap₂ (places_table both side.Left j a b) el eo
+    ∙ (paired both side.Left j a b (join_pairs j.kind j.on a b) ∙ sym (joined-by j a b both side.Left led (sym e) s)))
+
+pub right-joined : (j : JoinPlan) (a b t : Grid) (both : Bool) (leads : List ℕ) (others : List (Option ℕ)) → has_lead j.kind ≡ true → both ≡ shows_both j.kind → lead_side j.kind ≡ side.Right
+    → leads ≡ map (λ q. q.0) (join_pairs j.kind j.on b a) → others ≡ map (λ q. q.1) (join_pairs j.kind j.on b a) → t ≡ places_table both side.Right j a b leads others → t ≡ join_table j a b
+unfolding lead_of opposite
+right-joined j a b t both leads others led e s el eo is =
+    is
+    ∙ (ap₂ (places_table both side.Right j a b) el eo
+    ∙ (paired both side.Right j a b (join_pairs j.kind j.on b a) ∙ sym (joined-by j a b both side.Right led (sym e) s)))
+
 pub rows-shown-joined : (j : JoinPlan) (a b t : Grid) → has_lead j.kind ≡ true → t ≡ join_table j a b → t.lines ≡ map (row_shown (shows_both j.kind) (lead_side j.kind) j a b) (pairs_joined j a b)
 unfolding join_table pairs_joined
 rows-shown-joined j a b t led e = ap (λ (g : Grid). g.lines) e ∙ rows-by j a b (shows_both j.kind) (lead_side j.kind) led refl refl
 
-pub ruleset lead_steps = (left-led-keys, left-led-others, right-led-keys, right-led-others, left-leads, right-leads, rise, rows-shown-joined)
-
-pub ruleset left_steps = (leads-inside, others-inside, left-count, gathered-columns, names-shown)
-
-pub ruleset right_steps = (leads-inside, others-inside, somes-inside, right-count, absent-columns, names-shown)
+pub ruleset lead_steps = (left-led-keys, left-led-others, right-led-keys, right-led-others, left-leads, right-leads, rise)
 
 pub ruleset full_steps = (outer-keys, outer-others, anti-keys, anti-others, full-shows, full-lefts-inside, full-rights-inside, full-count, absent-columns, names-shown)

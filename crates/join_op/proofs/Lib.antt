@@ -5,4 +5,6 @@ pub mod PlaceSteps
 pub mod MatchSteps
 pub mod RowSteps
 pub mod ShownSteps
+pub mod PairedSteps
 pub mod JoinSteps
+pub mod LedSteps

@@ -3,7 +3,7 @@ use Rattle.std.proofs.Common.{◌≡◌, ◌<◌, ◌≤◌, Bor, ℕ, Bool, tru
 use Rattle.std.specs.Prelude.{All, Option, not, ◌&&◌, ◌||◌}
 use Rattle.std.specs.List.{AllByRecursion, flat_map, list_all, list_any, range_with_len}
 use Rattle.std.proofs.lemmas.Bool.{cases_Bool}
-use Rattle.std.proofs.lemmas.List.Elements.{All-from_recursion}
+use Rattle.std.proofs.lemmas.List.Elements.{All-from_recursion, recursion_from_All}
 use Rattle.std.proofs.lemmas.List.FromFn.{get_or-map-range_with_len, length-map-range_with_len}
 use Rattle.kql_cells.specs.Keys.{is_null, same_key, same_key-decides, same_keys, same_keys-decides}
 use Rattle.kql_cells.specs.Table.{Grid}
@@ -15,13 +15,14 @@ use Rattle.kql_bound.specs.declared.parts.OnPair.{OnPair}
 use Rattle.kql_meaning.specs.Groups.{is_first_of_key}
 use Rattle.kql_meaning.specs.Join.{keys_match, left_key, matches_left, matches_right, rows_match}
 use Rattle.kql_meaning.specs.Tables.{cell, places, places_below}
-use Rattle.kql_meaning.proofs.MemberLaws.{Member, member-of-filter}
+use Rattle.kql_meaning.proofs.MemberLaws.{Member, member-of-filter, of-member}
 use Rattle.kql_fit_laws.proofs.RowFacts.{all-members, place-below}
 use Rattle.kql_keys.specs.Matches.{has_null, matches_in, keys_match as lists_match}
 use Rattle.kql_keys.specs.Numbers.{first_places}
 use Rattle.kql_keys.proofs.KeyLaws.{matches-are}
 use Rattle.kql_keys.proofs.NumberLaws.{firsts-are}
 use Rattle.kql_values.specs.Grids.{row_of, rows_of}
+use Rattle.join_op.specs.Led.{pairs_led}
 use Rattle.join_op.specs.Pairs.{given, join_pairs, lead_rows, pairs_by, row_rule, rows_led}
 use Rattle.join_op.specs.Sides.{column_cells, key_cells, key_name, lead_side, matches_of, opposite}
 use Rattle.join_op.specs.declared.pairs.RowRule.{RowRule}
@@ -137,39 +138,52 @@ columns-reach s (p ∷ ps) t (c ∷ cs) e =
 pub columns-long : (s : Side) (on : List OnPair) (t : Grid) (cols : List (Bor (List Value))) (n : ℕ) → map (λ c. c.now) cols ≡ key_cells s on t → n ≡ length t.lines → All (λ c. n ≤ length c.now) cols
 columns-long s on t cols n e size = subst (λ m. All (λ (c : Bor (List Value)). m ≤ length c.now) cols) (sym size) (All-from_recursion (λ (c : Bor (List Value)). length t.lines ≤ length c.now) cols (columns-reach s on t cols e))
 
-leads-are : (kind : JoinKind) (s : Side) (on : List OnPair) (lead : Grid) (cols : List (Bor (List Value))) (n : ℕ) (leads : List ℕ) → s ≡ lead_side kind → map (λ c. c.now) cols ≡ key_cells s on lead → n ≡ length lead.lines
+pub leads-are : (kind : JoinKind) (s : Side) (on : List OnPair) (lead : Grid) (cols : List (Bor (List Value))) (n : ℕ) (leads : List ℕ) → s ≡ lead_side kind → map (λ c. c.now) cols ≡ key_cells s on lead → n ≡ length lead.lines
     → leads ≡ rows_led kind (map (λ c. c.now) cols) n → leads ≡ lead_rows kind on lead
 leads-are kind s on lead cols n leads es e size is =
     is ∙ (ap₂ (rows_led kind) (e ∙ ap (λ x. key_cells x on lead) es) size ∙ rows-led kind on lead)
 
-pub leads-within : (kind : JoinKind) (s : Side) (on : List OnPair) (lead : Grid) (cols : List (Bor (List Value))) (n : ℕ) (leads : List ℕ) → s ≡ lead_side kind → map (λ c. c.now) cols ≡ key_cells s on lead → n ≡ length lead.lines
-    → leads ≡ rows_led kind (map (λ c. c.now) cols) n → All (λ i. All (λ c. i < length c.now) cols) leads
-leads-within kind s on lead cols n leads es e size is =
-    let long = columns-long s on lead cols n e size in
-    let all : All (λ i. i < length lead.lines) leads = subst (All (λ i. i < length lead.lines)) (sym (leads-are kind s on lead cols n leads es e size is)) (all-members (λ i. i < length lead.lines) (lead_rows kind on lead) (lead-inside kind on lead)) in
+pub rows-inside : (kind : JoinKind) (on : List OnPair) (lead : Grid) (leads : List ℕ) → leads ≡ lead_rows kind on lead → All (λ i. i < length lead.lines) leads
+rows-inside kind on lead leads e = subst (All (λ i. i < length lead.lines)) (sym e) (all-members (λ i. i < length lead.lines) (lead_rows kind on lead) (lead-inside kind on lead))
+
+pub leads-reach : (s : Side) (on : List OnPair) (t : Grid) (cols : List (Bor (List Value))) (leads : List ℕ) → map (λ c. c.now) cols ≡ key_cells s on t → All (λ i. i < length t.lines) leads → All (λ i. All (λ c. i < length c.now) cols) leads
+leads-reach s on t cols leads e all =
+    let long = columns-long s on t cols (length t.lines) e refl in
     λ k d lt m c below.
     let low = all k d lt in
     let high = long m c below in
-    omega (arith, low, high, size)
+    omega (arith, low, high)
+
+pub leads-within : (kind : JoinKind) (s : Side) (on : List OnPair) (lead : Grid) (cols : List (Bor (List Value))) (n : ℕ) (leads : List ℕ) → s ≡ lead_side kind → map (λ c. c.now) cols ≡ key_cells s on lead → n ≡ length lead.lines
+    → leads ≡ rows_led kind (map (λ c. c.now) cols) n → All (λ i. All (λ c. i < length c.now) cols) leads
+leads-within kind s on lead cols n leads es e size is = leads-reach s on lead cols leads e (rows-inside kind on lead leads (leads-are kind s on lead cols n leads es e size is))
 
 -- The pairs that are found.
+
+pub found-are : (kind : JoinKind) (on : List OnPair) (lead other : Grid) (cols : List (Bor (List Value))) (leads : List ℕ) (keys : List (List Value)) (r : RowRule)
+    → map (λ c. c.now) cols ≡ key_cells (lead_side kind) on lead → keys ≡ rows_of (length other.lines) (key_cells (opposite (lead_side kind)) on other) → All (λ i. i < length lead.lines) leads → r ≡ row_rule kind
+    → pairs_by r (λ i. matches_in keys (row_of (map (λ c. c.now) cols) i)) leads ≡ pairs_led kind on lead other leads
+unfolding pairs_by pairs_led
+found-are kind on lead other cols leads keys r own whole within er =
+    let inside = recursion_from_All (λ i. i < length lead.lines) leads within in
+    let at : (i : ℕ) → i < length lead.lines → matches_in keys (row_of (map now cols) i) ≡ matches_of (lead_side kind) on lead other i = λ i lt.
+    ap₂ (λ (ks cs : List (List Value)). matches_in ks (row_of cs i)) whole own ∙ matches-found (lead_side kind) on lead other i lt in
+    let f = λ (i : ℕ). map (λ (x : Option ℕ). (i, x)) (given r (matches_in keys (row_of (map now cols) i))) in
+    let g = λ (i : ℕ). map (λ (x : Option ℕ). (i, x)) (given (row_rule kind) (matches_of (lead_side kind) on lead other i)) in
+    flat-same-in f g leads (λ i mem.
+    ap₂ (λ (q : RowRule) (js : List ℕ). map (λ (x : Option ℕ). (i, x)) (given q js)) er (at i (of-member (λ (k : ℕ). k < length lead.lines) leads i inside mem)))
 
 pairs-are : (kind : JoinKind) (s o : Side) (on : List OnPair) (lead other : Grid) (cols others : List (Bor (List Value))) (n m : ℕ) (leads : List ℕ) (keys : List (List Value)) (r : RowRule)
     → s ≡ lead_side kind → o ≡ opposite s → map (λ c. c.now) cols ≡ key_cells s on lead → map (λ c. c.now) others ≡ key_cells o on other → n ≡ length lead.lines → m ≡ length other.lines
     → leads ≡ rows_led kind (map (λ c. c.now) cols) n → keys ≡ rows_of m (map (λ c. c.now) others) → r ≡ row_rule kind
     → pairs_by r (λ i. matches_in keys (row_of (map (λ c. c.now) cols) i)) leads ≡ join_pairs kind on lead other
-unfolding pairs_by join_pairs
+unfolding pairs_led join_pairs
 pairs-are kind s o on lead other cols others n m leads keys r es eo e f size count is keyed er =
     let all = leads-are kind s on lead cols n leads es e size is in
     let whole : keys ≡ rows_of (length other.lines) (key_cells (opposite (lead_side kind)) on other) =
     keyed ∙ ap₂ rows_of count (f ∙ ap (λ x. key_cells x on other) (eo ∙ ap opposite es)) in
     let own : map now cols ≡ key_cells (lead_side kind) on lead = e ∙ ap (λ x. key_cells x on lead) es in
-    let at : (i : ℕ) → i < length lead.lines → matches_in keys (row_of (map now cols) i) ≡ matches_of (lead_side kind) on lead other i = λ i lt.
-    ap₂ (λ (ks cs : List (List Value)). matches_in ks (row_of cs i)) whole own ∙ matches-found (lead_side kind) on lead other i lt in
-    let f = λ (i : ℕ). map (λ (x : Option ℕ). (i, x)) (given r (matches_in keys (row_of (map now cols) i))) in
-    let g = λ (i : ℕ). map (λ (x : Option ℕ). (i, x)) (given (row_rule kind) (matches_of (lead_side kind) on lead other i)) in
-    ap (flat_map f) all ∙ flat-same-in f g (lead_rows kind on lead) (λ i mem.
-    ap₂ (λ (q : RowRule) (js : List ℕ). map (λ (x : Option ℕ). (i, x)) (given q js)) er (at i (lead-inside kind on lead i mem)))
+    found-are kind on lead other cols leads keys r own whole (rows-inside kind on lead leads all) er ∙ ap (pairs_led kind on lead other) all
 
 pub leads-found : (kind : JoinKind) (s o : Side) (on : List OnPair) (lead other : Grid) (cols others : List (Bor (List Value))) (n m : ℕ) (leads : List ℕ) (keys : List (List Value)) (r : RowRule) (made : List ℕ)
     → s ≡ lead_side kind → o ≡ opposite s → map (λ c. c.now) cols ≡ key_cells s on lead → map (λ c. c.now) others ≡ key_cells o on other → n ≡ length lead.lines → m ≡ length other.lines

@@ -1,3 +1,4 @@
+pub mod Led
 pub mod Pairs
 pub mod Shown
 pub mod Sides

@@ -1,9 +1,11 @@
 //! The table of a join.
-ghost use Rattle.std.specs.Prelude.{◌≡◌, ◌≤◌, ◌++◌, ℕ, false, AllPairs, IfOk, IsTrue, map};
+ghost use Rattle.std.specs.Prelude.{◌≡◌, ◌<◌, ◌≤◌, ◌++◌, ℕ, false, All, AllPairs, IfOk, IsTrue, length, map};
 ghost use Rattle.kql_cells.specs.Named.{HasDistinctNames, column_name};
 ghost use Rattle.kql_meaning.specs.FittingOperators.{join_fits};
-ghost use Rattle.kql_meaning.specs.Join.{join_columns, join_table};
-ghost use Rattle.join_op.specs.Pairs.{has_lead, join_leads, join_pairs, pairs_joined, shows_both};
+ghost use Rattle.kql_meaning.specs.Join.{both_columns, join_columns, join_table};
+ghost use Rattle.kql_values.specs.Moves.{IsWithin};
+ghost use Rattle.join_op.specs.Led.{places_table};
+ghost use Rattle.join_op.specs.Pairs.{has_lead, join_leads, pairs_joined, shows_both};
 ghost use Rattle.join_op.specs.Shown.{row_shown};
 ghost use Rattle.join_op.specs.Sides.{lead_side};
 ghost use Rattle.join_op.specs.declared.sides.Side.TheVariants as side;
@@ -79,29 +81,38 @@ fn left_led(alloc: Global, left: &Table, right: &Table, j: &JoinPlan) -> Result<
     ensures order { IfOk result (λ x. AllPairs (λ (i k : ℕ). i ≤ k) x.leads) }
 {
     let Pairs { leads, others } = join_pairs(alloc, j.kind, j.on.as_slice(), left, right)?;
-    let table = left_table(alloc, left, right, j, leads.as_slice(), others.as_slice())?;
+    let both = shows_both(j.kind);
+    let table = left_table(
+        alloc,
+        left,
+        right,
+        j,
+        both,
+        leads.as_slice(),
+        others.as_slice(),
+    )?;
     Ok(Joined { table, leads })
 }
 
-// The table of pairs that the left side leads.
-#[tactic(auto, using(crate::proofs::JoinSteps::left_steps))]
-fn left_table(
+/// The table of pairs that the left side leads.
+#[tactic(auto, using(crate::proofs::PairedSteps::left_steps))]
+pub(crate) fn left_table(
     alloc: Global,
     left: &Table,
     right: &Table,
     j: &JoinPlan,
+    both: bool,
     leads: &[usize],
     others: &[Option<usize>],
 ) -> Result<Table, AllocError>
-    requires lead { IsTrue (has_lead j.now.kind) }
-    requires side { lead_side j.now.kind ≡ side.Left }
-    requires names { HasDistinctNames column_name (join_columns j.now.kind j.now left.now.columns right.now.columns) }
-    requires leads { leads.now ≡ map (λ p. p.0) (join_pairs j.now.kind j.now.on left.now right.now) }
-    requires others { others.now ≡ map (λ p. p.1) (join_pairs j.now.kind j.now.on left.now right.now) }
-    ensures table { IfOk result (λ t. t ≡ join_table j.now left.now right.now) }
+    requires names { IsTrue both → HasDistinctNames column_name (both_columns j.now left.now.columns right.now.columns) }
+    requires leads { All (λ i. i < length left.now.lines) leads.now }
+    requires others { All (IsWithin (length right.now.lines)) others.now }
+    requires count { length leads.now ≡ length others.now }
+    ensures table { IfOk result (λ t. t ≡ places_table both side.Left j.now left.now right.now leads.now others.now) }
 {
     let kept = rows_at(alloc, left, leads)?;
-    if shows_both(j.kind) {
+    if both {
         let made = with_right(alloc, kept, right, j, others)?;
         Ok(made)
     } else {
@@ -122,28 +133,37 @@ fn right_led(alloc: Global, left: &Table, right: &Table, j: &JoinPlan) -> Result
     ensures order { IfOk result (λ x. AllPairs (λ (i k : ℕ). i ≤ k) x.leads) }
 {
     let Pairs { leads, others } = join_pairs(alloc, j.kind, j.on.as_slice(), right, left)?;
-    let table = right_table(alloc, left, right, j, leads.as_slice(), others.as_slice())?;
+    let both = shows_both(j.kind);
+    let table = right_table(
+        alloc,
+        left,
+        right,
+        j,
+        both,
+        leads.as_slice(),
+        others.as_slice(),
+    )?;
     Ok(Joined { table, leads })
 }
 
-// The table of pairs that the right side leads.
-#[tactic(auto, using(crate::proofs::JoinSteps::right_steps))]
-fn right_table(
+/// The table of pairs that the right side leads.
+#[tactic(auto, using(crate::proofs::PairedSteps::right_steps))]
+pub(crate) fn right_table(
     alloc: Global,
     left: &Table,
     right: &Table,
     j: &JoinPlan,
+    both: bool,
     leads: &[usize],
     others: &[Option<usize>],
 ) -> Result<Table, AllocError>
-    requires lead { IsTrue (has_lead j.now.kind) }
-    requires side { lead_side j.now.kind ≡ side.Right }
-    requires names { HasDistinctNames column_name (join_columns j.now.kind j.now left.now.columns right.now.columns) }
-    requires leads { leads.now ≡ map (λ p. p.0) (join_pairs j.now.kind j.now.on right.now left.now) }
-    requires others { others.now ≡ map (λ p. p.1) (join_pairs j.now.kind j.now.on right.now left.now) }
-    ensures table { IfOk result (λ t. t ≡ join_table j.now left.now right.now) }
+    requires names { IsTrue both → HasDistinctNames column_name (both_columns j.now left.now.columns right.now.columns) }
+    requires leads { All (λ i. i < length right.now.lines) leads.now }
+    requires others { All (IsWithin (length left.now.lines)) others.now }
+    requires count { length leads.now ≡ length others.now }
+    ensures table { IfOk result (λ t. t ≡ places_table both side.Right j.now left.now right.now leads.now others.now) }
 {
-    if shows_both(j.kind) {
+    if both {
         let rights = some_places(alloc, leads)?;
         let kept = rows_or_absent(alloc, left, others)?;
         let made = with_right(alloc, kept, right, j, rights.as_slice())?;

@@ -10,7 +10,7 @@ use std::alloc::{AllocError, Global};
 
 /// The column of each key on a side.
 #[tactic(auto, using(crate::proofs::KeySteps::keys_steps))]
-pub(crate) fn key_columns<'a>(
+pub fn key_columns<'a>(
     alloc: Global,
     side: Side,
     on: &[OnPair],

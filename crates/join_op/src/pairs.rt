@@ -51,7 +51,7 @@ pub fn has_lead(kind: JoinKind) -> bool
 
 /// Whether a kind of join shows the columns of both sides.
 #[tactic(auto, unfolding(crate::specs::Pairs::shows_both))]
-pub(crate) fn shows_both(kind: JoinKind) -> bool
+pub fn shows_both(kind: JoinKind) -> bool
     ensures both { result ≡ shows_both kind }
 {
     match kind {
@@ -63,8 +63,9 @@ pub(crate) fn shows_both(kind: JoinKind) -> bool
     }
 }
 
+/// What a row of the side that leads gives in a kind of join.
 #[tactic(auto, unfolding(crate::specs::Pairs::row_rule))]
-fn row_rule(kind: JoinKind) -> RowRule
+pub(crate) fn row_rule(kind: JoinKind) -> RowRule
     ensures rule { result ≡ row_rule kind }
 {
     match kind {
@@ -109,9 +110,9 @@ pub(crate) fn join_pairs(
     Ok(pairs)
 }
 
-// The rows of the side that leads which are joined.
+/// The rows of the side that leads which are joined.
 #[tactic(auto, unfolding(crate::specs::Pairs::rows_led))]
-fn rows_led(
+pub(crate) fn rows_led(
     alloc: Global,
     kind: JoinKind,
     columns: &[&Vector],
@@ -141,8 +142,8 @@ fn all_rows(alloc: Global, count: usize) -> Result<Places, AllocError>
     Ok(places)
 }
 
-// The pairs that these rows give, with the rows that the probe finds for them.
-fn pairs_found(
+/// The pairs that these rows give, with the rows that the probe finds for them.
+pub(crate) fn pairs_found(
     alloc: Global,
     rule: RowRule,
     probe: &Probe<'_>,

@@ -13,7 +13,7 @@ pub enum Side {
 
 /// The side whose rows come in their order.
 #[tactic(auto, unfolding(crate::specs::Sides::lead_side))]
-pub(crate) fn lead_side(kind: JoinKind) -> Side
+pub fn lead_side(kind: JoinKind) -> Side
     ensures side { result ≡ lead_side kind }
 {
     match kind {
@@ -24,8 +24,9 @@ pub(crate) fn lead_side(kind: JoinKind) -> Side
     }
 }
 
+/// The other side.
 #[tactic(auto, unfolding(crate::specs::Sides::opposite))]
-pub(crate) fn opposite(side: Side) -> Side
+pub fn opposite(side: Side) -> Side
     ensures side { result ≡ opposite side }
 {
     match side {

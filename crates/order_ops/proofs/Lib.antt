@@ -6,3 +6,4 @@ pub mod SortSteps
 pub mod LeastSteps
 pub mod LeadLaws
 pub mod MarkLaws
+pub mod TopLaws

@@ -11,5 +11,6 @@ mod least;
 mod marks;
 mod sort;
 
-pub use least::top_rows;
+pub use keys::{KeyColumn, key_columns};
+pub use least::{law_of_tops, least_of, top_rows};
 pub use sort::sort_rows;

@@ -1,11 +1,11 @@
 -- A scan reads each row alone, so that of gathered rows is that of the rows at their places; and scans of the rows of each key.
-use Rattle.std.proofs.Common.{◌≡◌, ◌↔◌, ◌<◌, ◌≤◌, ◌+◌, ℕ, zero, suc, Bool, true, List, [], ◌∷◌, ◌++◌, map, filter, length, take, get_or, refl, sym, ap, ap₂, ◌∙◌, subst, arith, inl, inr, append-nil}
-use Rattle.std.specs.Prelude.{All, IfSome, None, Option, Some, find, fold, reverse, slice_get, slice_index_or}
+use Rattle.std.proofs.Common.{◌≡◌, ◌↔◌, ◌<◌, ◌≤◌, ◌+◌, ◌-◌, ℕ, zero, suc, Bool, true, List, [], ◌∷◌, ◌++◌, map, filter, length, take, drop, get_or, refl, sym, ap, ap₂, ◌∙◌, subst, arith, inl, inr, append-nil}
+use Rattle.std.specs.Prelude.{All, IfSome, None, Option, Some, find, fold, reverse, slice_get, slice_index_or, slice_range}
 use Rattle.std.specs.List.{enumerate_from, flat_map, list_all, range_with_len}
 use Rattle.std.proofs.lemmas.Bool.{and_from, and_parts, cases_Bool}
 use Rattle.std.proofs.lemmas.Grind.{flat_map-append}
-use Rattle.std.proofs.lemmas.List.{get_or-map, length-map, take_all, take_more}
-use Rattle.std.proofs.lemmas.List.Elements.{All-append, All-nil}
+use Rattle.std.proofs.lemmas.List.{get_or-drop, get_or-map, length-drop, length-map, take_all, take_more}
+use Rattle.std.proofs.lemmas.List.Elements.{All-append, All-drop, All-nil, All-take}
 use Rattle.kql_cells.specs.Named.{HasDistinctNames, column_name, place_of}
 use Rattle.kql_cells.specs.Seen.{row_at}
 use Rattle.kql_cells.specs.Table.{Grid, IsGrid, RowFits, gathered}
@@ -184,7 +184,7 @@ columns-scanned : (p : ScanPlan) (t : Grid) → (scan_table p (emptied t)).colum
 unfolding scan_table emptied
 columns-scanned p t = refl
 
-partition-scanned : (p : ScanPlan) (c : List ℕ) (t : Grid) → list_all is_plain_step p.steps ≡ true → partition_table c (scan_table p) t ≡ scanned_by_key p c t
+pub partition-scanned : (p : ScanPlan) (c : List ℕ) (t : Grid) → list_all is_plain_step p.steps ≡ true → partition_table c (scan_table p) t ≡ scanned_by_key p c t
 unfolding partition_table scans_of rows_by_key
 partition-scanned p c t plain =
     ap₂ (λ (cs : List Column) (ls : List (List Value)). record { columns = cs; lines = ls }) (columns-scanned p t) (keys-scanned p c t (distinct_keys (key_in_column c t) t) plain)
@@ -223,11 +223,13 @@ answer_of cs rows = record { columns = cs; lines = rows }
 named-as : (p : ScanPlan) (t none : Grid) (cs : List Column) → none ≡ record { columns = scan_columns p t.columns; lines = [] } → cs ≡ none.columns → cs ≡ scan_columns p t.columns
 named-as p t none cs is named = named ∙ ap (λ (g : Grid). g.columns) is
 
-pub keyed-fits : (p : ScanPlan) (t u none : Grid) (cs : List Column) (rows : List (List Value)) (lists : List (List ℕ)) → HasDistinctNames column_name t.columns → IsGrid t → scan_answers p t.columns ≡ true → u ≡ with_declared p t → All (All (λ i. i < length t.lines)) lists → none ≡ record { columns = scan_columns p t.columns; lines = [] } → cs ≡ none.columns → rows ≡ scans_of p u lists → IsGrid (record { columns = cs; lines = rows })
+pub keyed-fits : (p : ScanPlan) (t u none : Grid) (cs : List Column) (rows : List (List Value)) (lists : List (List ℕ)) (from to : ℕ) → HasDistinctNames column_name t.columns → IsGrid t → scan_answers p t.columns ≡ true → u ≡ with_declared p t → All (All (λ i. i < length t.lines)) lists → none ≡ record { columns = scan_columns p t.columns; lines = [] } → cs ≡ none.columns → rows ≡ scans_of p u (slice_range lists from to) → IsGrid (record { columns = cs; lines = rows })
 unfolding scans_of
-keyed-fits p t u none cs rows lists names grid fits extended within is named made =
+keyed-fits p t u none cs rows lists from to names grid fits extended within is named made =
+    let inside = All (λ i. i < length t.lines) in
+    let some : All inside (slice_range lists from to) = All-take inside (to - from) (drop from lists) (All-drop inside from lists within) in
     subst (λ (ds : List Column). All (RowFits ds) rows) (sym (named-as p t none cs is named))
-    (subst (All (RowFits (scan_columns p t.columns))) (sym (made ∙ ap (λ (g : Grid). flat_map (rows_scanned p g) lists) extended)) (parts-fit p t lists names grid fits within))
+    (subst (All (RowFits (scan_columns p t.columns))) (sym (made ∙ ap (λ (g : Grid). flat_map (rows_scanned p g) (slice_range lists from to)) extended)) (parts-fit p t (slice_range lists from to) names grid fits some))
 
 pub keyed-table : (p : ScanPlan) (t u none r : Grid) (cs : List Column) (rows : List (List Value)) (lists : List (List ℕ)) → none ≡ record { columns = scan_columns p t.columns; lines = [] } → cs ≡ none.columns → rows ≡ scans_of p u lists → r ≡ record { columns = cs; lines = rows } → r ≡ record { columns = scan_columns p t.columns; lines = scans_of p u lists }
 keyed-table p t u none r cs rows lists is named made e = e ∙ ap₂ answer_of (named-as p t none cs is named) made
@@ -251,21 +253,42 @@ list-within n k lists ps h lt is = subst (All (λ i. i < n)) (sym is) (h k [] lt
 
 -- One list of rows after another.
 
-pub scans-start : (p : ScanPlan) (t : Grid) (lists : List (List ℕ)) (rows : List (List Value)) → rows ≡ [] → rows ≡ scans_of p t (take 0 lists)
-unfolding scans_of
-scans-start p t lists rows e = e
+pub none-between : (lists : List (List ℕ)) (k : ℕ) → slice_range lists k k ≡ []
+none-between lists k = let none : k - k ≡ 0 = omega arith in ap (λ n. take n (drop k lists)) none
 
-pub scans-more : (p : ScanPlan) (t : Grid) (lists : List (List ℕ)) (k : ℕ) (ps : List ℕ) (old new : List (List Value)) → k < length lists → ps ≡ get_or lists k [] → old ≡ scans_of p t (take k lists) → new ≡ old ++ rows_scanned p t ps → new ≡ scans_of p t (take (k + 1) lists)
+pub more-between : (lists : List (List ℕ)) (from k : ℕ) → from ≤ k → k < length lists → slice_range lists from (k + 1) ≡ slice_range lists from k ++ get_or lists k [] ∷ []
+more-between lists from k order lt =
+    let count : k + 1 - from ≡ (k - from) + 1 = omega (arith, order) in
+    let place : from + (k - from) ≡ k = omega (arith, order) in
+    let long = length-drop from lists in
+    ap (λ n. take n (drop from lists)) count
+    ∙ (take_more (drop from lists) (k - from) [] (omega (arith, long, order, lt))
+    ∙ ap (λ (ps : List ℕ). slice_range lists from k ++ ps ∷ []) (get_or-drop from lists (k - from) [] ∙ ap (λ (i : ℕ). get_or lists i []) place))
+
+all-between : (lists : List (List ℕ)) (count : ℕ) → count ≡ length lists → slice_range lists 0 count ≡ lists
+all-between lists count is = take_all (count - 0) (drop 0 lists) (omega (arith, is))
+
+pub scans-start : (p : ScanPlan) (t : Grid) (lists : List (List ℕ)) (from : ℕ) (rows : List (List Value)) → rows ≡ [] → rows ≡ scans_of p t (slice_range lists from from)
 unfolding scans_of
-scans-more p t lists k ps old new lt is before e =
+scans-start p t lists from rows e = e ∙ sym (ap (flat_map (rows_scanned p t)) (none-between lists from))
+
+pub scans-more : (p : ScanPlan) (t : Grid) (lists : List (List ℕ)) (from k : ℕ) (ps : List ℕ) (old new : List (List Value)) → from ≤ k → k < length lists → ps ≡ get_or lists k [] → old ≡ scans_of p t (slice_range lists from k) → new ≡ old ++ rows_scanned p t ps → new ≡ scans_of p t (slice_range lists from (k + 1))
+unfolding scans_of
+scans-more p t lists from k ps old new order lt is before e =
     let f = rows_scanned p t in
+    let so_far = slice_range lists from k in
     e ∙ (ap (λ (rows : List (List Value)). rows ++ f ps) before
-    ∙ (ap (λ (qs : List ℕ). flat_map f (take k lists) ++ f qs) is
-    ∙ (ap (λ (rows : List (List Value)). flat_map f (take k lists) ++ rows) (sym (append-nil (f (get_or lists k []))))
-    ∙ (sym (flat_map-append f (take k lists) (get_or lists k [] ∷ [])) ∙ ap (flat_map f) (sym (take_more lists k [] lt))))))
+    ∙ (ap (λ (qs : List ℕ). flat_map f so_far ++ f qs) is
+    ∙ (ap (λ (rows : List (List Value)). flat_map f so_far ++ rows) (sym (append-nil (f (get_or lists k []))))
+    ∙ (sym (flat_map-append f so_far (get_or lists k [] ∷ [])) ∙ ap (flat_map f) (sym (more-between lists from k order lt))))))
 
-pub scans-all : (p : ScanPlan) (t : Grid) (lists : List (List ℕ)) (k : ℕ) (rows : List (List Value)) → length lists ≤ k → rows ≡ scans_of p t (take k lists) → rows ≡ scans_of p t lists
-scans-all p t lists k rows le e = e ∙ ap (scans_of p t) (take_all k lists le)
+pub scans-end : (p : ScanPlan) (t : Grid) (lists : List (List ℕ)) (from to k : ℕ) (rows : List (List Value)) → k ≡ to → rows ≡ scans_of p t (slice_range lists from k) → rows ≡ scans_of p t (slice_range lists from to)
+scans-end p t lists from to k rows is e = e ∙ ap (λ (n : ℕ). scans_of p t (slice_range lists from n)) is
+
+pub whole-answer : (p : ScanPlan) (t u r : Grid) (lists : List (List ℕ)) (count : ℕ) → count ≡ length lists → r ≡ record { columns = scan_columns p t.columns; lines = scans_of p u (slice_range lists 0 count) } → r ≡ record { columns = scan_columns p t.columns; lines = scans_of p u lists }
+whole-answer p t u r lists count is e = e ∙ ap (λ (ls : List (List ℕ)). record { columns = scan_columns p t.columns; lines = scans_of p u ls }) (all-between lists count is)
+
+pub ruleset all_facts = (whole-answer)
 
 pub ruleset keyed_facts = (declared-differ, declared-fit, bare-declared, keyed-made, keyed-plain)
 

@@ -13,7 +13,7 @@ use std::alloc::{AllocError, Global};
 
 /// A copy of the rows, each with the defaults of the declared columns behind it.
 #[tactic(auto, using(crate::proofs::ExtendedFacts::copy_facts))]
-pub(crate) fn with_declared(alloc: Global, plan: &ScanPlan, t: &Table) -> Result<Table, AllocError>
+pub fn with_declared(alloc: Global, plan: &ScanPlan, t: &Table) -> Result<Table, AllocError>
     requires fits { IsTrue (defaults_fit plan.now.declared) }
     requires names { HasDistinctNames column_name (t.now.columns ++ declared_columns plan.now) }
     ensures rows { IfOk result (λ u. u ≡ with_declared plan.now t.now) }

@@ -1,5 +1,5 @@
 //! Scans of the rows of each key.
-ghost use Rattle.std.specs.Prelude.{◌≡◌, ◌<◌, [], length, All, IfOk, IsTrue, List, Some, ℕ};
+ghost use Rattle.std.specs.Prelude.{◌≡◌, ◌<◌, ◌≤◌, [], length, slice_range, All, IfOk, IsTrue, List, Some, ℕ};
 ghost use Rattle.kql_cells.specs.Named.{column_name, place_of};
 ghost use Rattle.kql_meaning.specs.Partition.{partition_table};
 ghost use Rattle.kql_meaning.specs.Scan.{scan_columns, scan_table, with_declared};
@@ -36,8 +36,8 @@ pub fn scan_keyed(alloc: Global, t: &Table, key: usize, s: &ScanPlan) -> Result<
     Ok(made)
 }
 
-// The table of the scans of these lists of rows, of a table with the declared columns.
-#[tactic(auto, using(crate::proofs::KeyedFacts::answer_facts))]
+// The table of the scans of all lists of rows, of a table with the declared columns.
+#[tactic(auto, using(crate::proofs::KeyedFacts::all_facts))]
 fn keyed_answer(
     alloc: Global,
     t: &Table,
@@ -50,9 +50,34 @@ fn keyed_answer(
     requires within { All (All (λ i. i < length t.now.lines)) lists.now }
     ensures table { IfOk result (λ r. r ≡ record { columns = scan_columns s.now t.now.columns; lines = scans_of s.now extended.now lists.now }) }
 {
+    let count = lists.len();
+    let made = scan_lists(alloc, t, s, extended, lists, 0, count)?;
+    Ok(made)
+}
+
+/// The table of the scans of some lists of rows, from one list to another, one scan after another: what stands in a partition for the
+/// keys whose rows these are. `extended` is the table with the declared columns, as `with_declared` gives it, or the table itself where
+/// none is declared.
+#[tactic(auto, using(crate::proofs::KeyedFacts::answer_facts))]
+pub fn scan_lists(
+    alloc: Global,
+    t: &Table,
+    s: &ScanPlan,
+    extended: &Table,
+    lists: &PlaceLists,
+    from: usize,
+    to: usize,
+) -> Result<Table, AllocError>
+    requires fits { IsTrue (scan_answers s.now t.now.columns) }
+    requires extended { extended.now ≡ with_declared s.now t.now }
+    requires within { All (All (λ i. i < length t.now.lines)) lists.now }
+    requires order { from ≤ to }
+    requires range { to ≤ length lists.now }
+    ensures table { IfOk result (λ r. r ≡ record { columns = scan_columns s.now t.now.columns; lines = scans_of s.now extended.now (slice_range lists.now from to) }) }
+{
     let none = empty_answer(alloc, t, s)?;
     let (schema, out) = none.into_parts();
-    let rows = keyed_rows(alloc, s, extended, lists, out)?;
+    let rows = keyed_rows(alloc, s, extended, lists, from, to, out)?;
     let made = Table::new(alloc, schema, rows)?;
     Ok(made)
 }
@@ -64,16 +89,20 @@ fn keyed_rows(
     s: &ScanPlan,
     t: &Table,
     lists: &PlaceLists,
+    from: usize,
+    to: usize,
     out: Rows,
 ) -> Result<Rows, AllocError>
     requires scalar { AreStepsScalar s.now.steps }
     requires within { All (All (λ i. i < length t.now.lines)) lists.now }
+    requires order { from ≤ to }
+    requires range { to ≤ length lists.now }
     requires none { out ≡ [] }
-    ensures rows { IfOk result (λ r. r ≡ scans_of s.now t.now lists.now) }
+    ensures rows { IfOk result (λ r. r ≡ scans_of s.now t.now (slice_range lists.now from to)) }
 {
     let steps = located_steps(alloc, s.steps.as_slice(), t.schema())?;
     let mut rows = out;
-    'each: for number in 0..lists.len() {
+    'each: for number in from..to {
         let places = lists.get(number);
         let more = scan_at(alloc, s, t, steps.as_slice(), places, rows)?;
         rows = more;

@@ -16,7 +16,8 @@ mod scans;
 mod state;
 mod step;
 
-pub use keyed::scan_keyed;
+pub use extended::with_declared;
+pub use keyed::{scan_keyed, scan_lists};
 pub use keys::rows_by_key;
 pub use machine::ScanMachine;
 pub use scans::{scan_owned, scan_rows};

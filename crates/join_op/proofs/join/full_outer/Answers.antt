@@ -1,7 +1,8 @@
 use Rattle.std.proofs.Common.{◌∙◌, ◌++◌, ap, map}
 use Rattle.kql_bound.specs.declared.parts.JoinKind.TheVariants as join
 use Rattle.join_op.specs.Pairs.{join_pairs}
-use Rattle.join_op.proofs.JoinSteps.{absent-columns, full-joined, full-shows, names-shown}
+use Rattle.join_op.proofs.JoinSteps.{full-joined, full-shows, names-shown}
+use Rattle.join_op.proofs.PairedSteps.{absent-columns}
 use Rattle.join_op.proofs.join.full_outer.Goals as goal
 
 pub with_right-requires-clause-names : goal.with_right-requires-clause-names
