@@ -1,10 +1,10 @@
-pub mod FitSteps
-pub mod LetSteps
-pub mod MovedSteps
-pub mod OperatorSteps
+pub mod FitLaws
+pub mod LetLaws
+pub mod MovedLaws
+pub mod OperatorLaws
 pub mod PartitionSteps
-pub mod PlanSteps
-pub mod ProgramSteps
+pub mod PlanLaws
+pub mod ProgramLaws
 pub mod ReadingSteps
 pub mod SameMeaning
 pub mod SourceSteps

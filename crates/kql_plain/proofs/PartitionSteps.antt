@@ -32,8 +32,8 @@ use Rattle.kql_fit_laws.specs.LawsOfRows.{IsTable}
 use Rattle.scan_ops.specs.Steps.{scan_answers}
 use Rattle.kql_plain.specs.AtHand.{IsSo, OpFits, OpsFit}
 use Rattle.scan_ops.specs.Scans.{rows_by_key, rows_of_key}
-use Rattle.kql_plain.proofs.FitSteps.{answers-Scan, outside-there}
-use Rattle.kql_plain.proofs.OperatorSteps.{first-fits, means-Scan, no-more, one-more, step}
+use Rattle.kql_plain.proofs.FitLaws.{answers-Scan, outside-there}
+use Rattle.kql_plain.proofs.OperatorLaws.{first-fits, means-Scan, no-more, one-more, step}
 
 -- What the operators of a subquery make.
 abbrev pub made_of : List Op → World → Grid → Grid

@@ -33,10 +33,10 @@ use Rattle.kql_meaning.specs.Where.{where_table}
 use Rattle.kql_meaning.proofs.MemberLaws.{Member, member-of-map}
 use Rattle.kql_plain.specs.AtHand.{means_behind, plans_mean, with_lets, world_of}
 use Rattle.kql_plain.specs.Readings.{op_names, ops_name, plan_names, plans_name, source_names}
-use Rattle.kql_plain.proofs.LetSteps.{no-lets, one-let}
-use Rattle.kql_plain.proofs.OperatorSteps.{means-Count, means-Extend, means-Join, means-MakeSeries, means-MvExpand, means-Parse, means-Project, means-Scan, means-Serialize, means-Sort, means-Summarize, means-Take, means-Top, means-Union, means-Where, no-more, one-more}
+use Rattle.kql_plain.proofs.LetLaws.{no-lets, one-let}
+use Rattle.kql_plain.proofs.OperatorLaws.{means-Count, means-Extend, means-Join, means-MakeSeries, means-MvExpand, means-Parse, means-Project, means-Scan, means-Serialize, means-Sort, means-Summarize, means-Take, means-Top, means-Union, means-Where, no-more, one-more}
 use Rattle.kql_plain.proofs.PartitionSteps.{means-Partition}
-use Rattle.kql_plain.proofs.PlanSteps.{plan-means}
+use Rattle.kql_plain.proofs.PlanLaws.{plan-means}
 use Rattle.kql_plain.proofs.ReadingSteps.{names-Join, names-Partition, names-Union, names-plan}
 
 module _ (tables : List Named) (i : ℕ) (x : Grid) where

@@ -20,7 +20,7 @@ use Rattle.kql_meaning.specs.Sources.{let_table, named_table, print_table, range
 use Rattle.kql_meaning.specs.Tables.{nothing}
 use Rattle.kql_fit_laws.specs.LawsOfPrograms.{LetsStand}
 use Rattle.kql_plain.specs.AtHand.{SourceFits}
-use Rattle.kql_plain.proofs.FitSteps.{answer-there}
+use Rattle.kql_plain.proofs.FitLaws.{answer-there}
 
 -- The table of a name, and its schema.
 

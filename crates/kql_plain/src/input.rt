@@ -11,14 +11,14 @@ use std::alloc::{AllocError, Global};
 /// A table that an operator takes: one of the catalogue or of a let, which is read where it stands, or one that was made on the way
 /// and is the operator's own.
 #[derive(Drop)]
-pub(crate) enum Input<'a> {
+pub enum Input<'a> {
     Lent(&'a Table),
     Owned(Table),
 }
 
 impl<'a> Input<'a> {
     /// The table, read where it stands.
-    pub(crate) fn as_table(&self) -> &Table
+    pub fn as_table(&self) -> &Table
         ensures table { result.now ≡ input_table self.now }
     {
         match self {
@@ -28,7 +28,7 @@ impl<'a> Input<'a> {
     }
 
     /// The table, or a copy of one that is lent.
-    pub(crate) fn into_table(self, alloc: Global) -> Result<Table, AllocError>
+    pub fn into_table(self, alloc: Global) -> Result<Table, AllocError>
         ensures table { IfOk result (λ t. t ≡ input_table self.entry) }
     {
         match self {
@@ -38,7 +38,7 @@ impl<'a> Input<'a> {
     }
 
     /// Its first n rows. Of a table that is lent no more than these are copied.
-    pub(crate) fn into_first(self, alloc: Global, n: u64) -> Result<Table, AllocError>
+    pub fn into_first(self, alloc: Global, n: u64) -> Result<Table, AllocError>
         ensures rows { IfOk result (λ t. t ≡ take_table n (input_table self.entry)) }
     {
         match self {
@@ -60,10 +60,7 @@ fn copy_first(alloc: Global, t: &Table, n: u64) -> Result<Table, AllocError>
 }
 
 /// Tables that were taken, each lent.
-pub(crate) fn lent_tables<'a>(
-    alloc: Global,
-    inputs: &'a [Input<'_>],
-) -> Result<Vec<&'a Table>, AllocError>
+pub fn lent_tables<'a>(alloc: Global, inputs: &'a [Input<'_>]) -> Result<Vec<&'a Table>, AllocError>
     ensures tables { IfOk result (λ ts. tables_lent ts.items ≡ map input_table inputs.now) }
 {
     let mut tables = Vec::with_capacity(alloc, inputs.len())?;

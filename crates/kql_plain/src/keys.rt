@@ -22,7 +22,7 @@ pub(crate) fn rows_by_key(alloc: Global, t: &Table, key: &str) -> Result<PlaceLi
 
 /// The columns of a table, without rows.
 #[tactic(auto, unfolding(kql_meaning::specs::Tables::emptied))]
-pub(crate) fn emptied(alloc: Global, t: &Table) -> Result<Table, AllocError>
+pub fn emptied(alloc: Global, t: &Table) -> Result<Table, AllocError>
     ensures rows { IfOk result (λ r. r ≡ emptied t.now) }
 {
     t.slice(alloc, 0, 0)

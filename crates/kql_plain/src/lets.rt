@@ -34,8 +34,8 @@ pub(crate) fn table_behind(
     Ok(table)
 }
 
-// The flag of the next plan, which is the last of those that are left.
-fn next_flag(flags: &mut Items<bool>) -> bool
+/// The flag of the next plan, which is the last of those that are left.
+pub fn next_flag(flags: &mut Items<bool>) -> bool
     ensures next { (b : Bool) (bs : List Bool) → reverse flags.old ≡ b ∷ bs → (result ≡ b) × (reverse flags.new ≡ bs) }
 {
     match flags.pop() {

@@ -59,9 +59,9 @@ pub(crate) fn plan_table(
     }
 }
 
-// The let whose table a source takes.
+/// The let whose table a source takes: that which it is, where this is its last reading.
 #[tactic(auto, unfolding(crate::specs::Moved::moved_let))]
-fn moved_let(source: &Source, is_last: bool) -> Option<usize>
+pub fn moved_let(source: &Source, is_last: bool) -> Option<usize>
     ensures at { result ≡ moved_let is_last source.now }
 {
     match source {
@@ -110,7 +110,7 @@ fn lent_table(
 
 // The same, to be read: a plan that is a source alone lends a table of the catalogue or of a let.
 #[cycle(plan_input)]
-#[tactic(auto, using(crate::proofs::PlanSteps::plan_steps))]
+#[tactic(auto, using(crate::proofs::PlanLaws::plan_steps))]
 fn plan_input<'a>(
     alloc: Global,
     plan: &Plan,
@@ -145,9 +145,9 @@ fn plans_inputs<'a>(
     Ok(made)
 }
 
-// What operators make of a table, one after another. One that changes nothing hands its table on as it is.
+/// What operators make of a table, one after another. One that changes nothing hands its table on as it is.
 #[cycle(plan_input)]
-fn ops_input<'a>(
+pub fn ops_input<'a>(
     alloc: Global,
     ops: &[Op],
     catalogue: &Catalogue,
@@ -167,8 +167,8 @@ fn ops_input<'a>(
     Ok(made)
 }
 
-// Whether an operator may give another table than it takes: `serialize` alone does not.
-fn changes(op: &Op) -> bool
+/// Whether an operator may give another table than it takes: `serialize` alone does not.
+pub fn changes(op: &Op) -> bool
     ensures unchanged { result ≡ false → op.now ≡ operator.Serialize }
 {
     match op {
@@ -179,7 +179,7 @@ fn changes(op: &Op) -> bool
 
 // What one operator makes of a table.
 #[cycle(plan_input)]
-#[tactic(auto, using(crate::proofs::OperatorSteps::op_steps))]
+#[tactic(auto, using(crate::proofs::OperatorLaws::op_steps))]
 fn op_table(
     alloc: Global,
     op: &Op,

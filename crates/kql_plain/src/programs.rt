@@ -22,8 +22,8 @@ pub fn plain(alloc: Global, p: &Program, catalogue: &Catalogue) -> Result<Table,
     Ok(table)
 }
 
-// Each table's rows fit its columns, and no two of these have one name: so tables are made.
-fn know_tables(tables: &[Named])
+/// Each table's rows fit its columns, and no two of these have one name: so tables are made.
+pub fn know_tables(tables: &[Named])
     ensures tables { All (λ (n : Seen). IsTable n.table) (all_named tables.now) }
 {
     let mut left = tables;

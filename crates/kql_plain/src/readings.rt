@@ -9,11 +9,7 @@ use std::alloc::{AllocError, Global};
 
 /// Of each plan of a program, its lets and then its main plan, whether its source is the last reading of a let: neither its own operators nor the
 /// plans behind it name that let. The last plan comes first, so that `pop` tells of one plan after another. It takes one pass over the program.
-pub(crate) fn last_readings(
-    alloc: Global,
-    lets: &[Plan],
-    main: &Plan,
-) -> Result<Items<bool>, AllocError>
+pub fn last_readings(alloc: Global, lets: &[Plan], main: &Plan) -> Result<Items<bool>, AllocError>
     ensures last { IfOk result (λ flags. reverse flags ≡ last_readings (length lets.now) (lets.now ++ main.now ∷ [])) }
 {
     let mut named = vec![in alloc; false; lets.len()]?;

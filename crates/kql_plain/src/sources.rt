@@ -15,7 +15,7 @@ use std::alloc::{AllocError, Global};
 
 /// The table of a source: one of the catalogue or of a let is read where it stands.
 #[tactic(auto, using(crate::proofs::SourceSteps::source_steps))]
-pub(crate) fn source_table<'a>(
+pub fn source_table<'a>(
     alloc: Global,
     source: &Source,
     catalogue: &'a Catalogue,

@@ -1,4 +1,4 @@
-use Rattle.kql_plain.proofs.LetSteps.{flag-gone, flag-there}
+use Rattle.kql_plain.proofs.LetLaws.{flag-gone, flag-there}
 use Rattle.kql_plain.proofs.lets.next_flag.Goals as goal
 
 pub returns-in-Some : goal.returns-in-Some

@@ -5,8 +5,8 @@ use Rattle.kql_meaning.specs.Plans.{plan_means}
 use Rattle.kql_plain.specs.AtHand.{FitBehind, PlanFits, means_behind, world_of}
 use Rattle.kql_plain.specs.Moved.{left_behind, moved_let}
 use Rattle.kql_plain.specs.Readings.{last_readings, reads_last}
-use Rattle.kql_plain.proofs.LetSteps.{all-behind, behind-one, let-fits, main-fits, others-fit}
-use Rattle.kql_plain.proofs.MovedSteps.{kept, own-free}
+use Rattle.kql_plain.proofs.LetLaws.{all-behind, behind-one, let-fits, main-fits, others-fit}
+use Rattle.kql_plain.proofs.MovedLaws.{kept, own-free}
 use Rattle.kql_plain.proofs.ReadingSteps.{one-more-plan}
 use Rattle.kql_plain.proofs.lets.table_behind.Goals as goal
 

@@ -7,9 +7,9 @@ use Rattle.kql_bound.specs.declared.plan.Op.{the_lemmas}
 use Rattle.kql_meaning.specs.Tables.{emptied}
 use Rattle.kql_plain.specs.AtHand.{OpsFit, PlansFit, world_of}
 use Rattle.kql_plain.specs.Inputs.{input_table}
-use Rattle.kql_plain.proofs.OperatorSteps as operators
+use Rattle.kql_plain.proofs.OperatorLaws as operators
 use Rattle.kql_plain.proofs.PartitionSteps as partition
-use Rattle.kql_plain.proofs.PlanSteps as plans
+use Rattle.kql_plain.proofs.PlanLaws as plans
 use Rattle.kql_plain.proofs.plans.+plan_input.Goals as goal
 use Rattle.kql_plain.proofs.plans.+plan_input.Goals.{ops_input-then-changes+in_ok-next, ops_input-else-changes}
 

@@ -1,5 +1,5 @@
 use Rattle.std.proofs.Common.{◌∙◌}
-use Rattle.kql_plain.proofs.MovedSteps.{moved-fits, moved-left, moved-means}
+use Rattle.kql_plain.proofs.MovedLaws.{moved-fits, moved-left, moved-means}
 use Rattle.kql_plain.proofs.plans.moved_table.Goals as goal
 
 pub ops_input-requires : goal.ops_input-requires

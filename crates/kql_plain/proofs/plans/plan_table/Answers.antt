@@ -1,7 +1,7 @@
 use Rattle.std.proofs.Common.{◌≡◌, ◌∙◌, ap, sym}
 use Rattle.std.specs.Prelude.{Some}
 use Rattle.kql_plain.specs.Moved.{left_behind, moved_let}
-use Rattle.kql_plain.proofs.MovedSteps.{let-fits, let-free, let-inside, let-means, none-left}
+use Rattle.kql_plain.proofs.MovedLaws.{let-fits, let-free, let-inside, let-means, none-left}
 use Rattle.kql_plain.proofs.plans.plan_table.Goals as goal
 
 pub moved_table-requires : goal.moved_table-requires

@@ -1,7 +1,7 @@
 use Rattle.std.proofs.Common.{subst}
 use Rattle.std.proofs.lemmas.Option.{MatchOption-at_none}
 use Rattle.kql_cells.specs.Named.{HasDistinctNames, column_name}
-use Rattle.kql_plain.proofs.ProgramSteps.{all-tables, no-tables}
+use Rattle.kql_plain.proofs.ProgramLaws.{all-tables, no-tables}
 use Rattle.kql_plain.proofs.programs.know_tables.Goals as goal
 
 pub tables-preserved : goal.tables-preserved

@@ -3,7 +3,7 @@ use Rattle.std.specs.Prelude.{All}
 use Rattle.kql_cells.specs.Catalogues.{Named}
 use Rattle.kql_fit_laws.specs.LawsOfRows.{IsTable}
 use Rattle.kql_plain.specs.AtHand.{FitBehind, means_behind}
-use Rattle.kql_plain.proofs.ProgramSteps.{program-fits, program-means}
+use Rattle.kql_plain.proofs.ProgramLaws.{program-fits, program-means}
 use Rattle.kql_plain.proofs.programs.plain.Goals as goal
 
 pub table_behind-requires : goal.table_behind-requires

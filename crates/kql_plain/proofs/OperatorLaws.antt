@@ -38,7 +38,7 @@ use Rattle.kql_meaning.proofs.PlanLaws.{op_means-out}
 use Rattle.kql_fit_laws.proofs.OperatorLaws.{each_op_keeps}
 use Rattle.kql_fit_laws.specs.LawsOfRows.{IsTable}
 use Rattle.kql_plain.specs.AtHand.{IsSo, OpFits, OpsFit, PlanFits, PlansFit, plans_mean}
-use Rattle.kql_plain.proofs.FitSteps.{columns_of, fit_steps, fits-Join, fits-Union, means-each, names-Join, names-Union, plan-Join, plans-Union}
+use Rattle.kql_plain.proofs.FitLaws.{columns_of, fit_steps, fits-Join, fits-Union, means-each, names-Join, names-Union, plan-Join, plans-Union}
 
 -- What each means.
 

@@ -19,7 +19,7 @@ use Rattle.kql_fit_laws.specs.LawsOfPrograms.{LetsStand}
 use Rattle.kql_plain.specs.AtHand.{FitBehind, IsSo, OpsFit, PlanFits, SourceFits, means_behind, world_of}
 use Rattle.kql_plain.specs.Moved.{left_behind, moved_let}
 use Rattle.kql_plain.specs.Readings.{is_let_not, ops_name, plans_name, reads_last}
-use Rattle.kql_plain.proofs.PlanSteps.{ops-fit, plan-means, source-fits}
+use Rattle.kql_plain.proofs.PlanLaws.{ops-fit, plan-means, source-fits}
 use Rattle.kql_plain.proofs.SameMeaning.{behind-same, ops-same}
 use Rattle.kql_plain.proofs.SourceSteps.{let-there}
 

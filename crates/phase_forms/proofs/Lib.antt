@@ -1,0 +1,4 @@
+pub mod AloneLaws
+pub mod FormLaws
+pub mod HeldLaws
+pub mod PhaseLaws

@@ -1,0 +1,4 @@
+mod CrossingLaws
+mod JoinSteps
+mod ReadSteps
+mod RunSteps

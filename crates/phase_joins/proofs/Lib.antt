@@ -1,0 +1,3 @@
+pub mod CrossingLaws
+pub mod JoinSteps
+pub mod LedSteps

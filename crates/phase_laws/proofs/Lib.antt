@@ -1,0 +1,3 @@
+pub mod ByRowLaws
+pub mod PieceLaws
+pub mod RunLaws

@@ -1,0 +1,32 @@
+use denote.Param.Send.{sendable}
+use Rattle.std.proofs.Crossing
+use Rattle.std.proofs.Common.{length}
+use Rattle.kql_keys.proofs.places.PlaceLists.TheSendSync as lists
+use Rattle.crossing_laws.proofs.PlanLaws.{op_sync}
+use Rattle.crossing_laws.proofs.TableLaws.{catalogue_sync, table_send, table_sync}
+use Rattle.kql_plain.specs.AtHand.{world_of}
+use Rattle.phase_partitions.proofs.OpSteps.{keys-alike, keys-columns, keys-lines}
+use Rattle.phase_scans.proofs.KeySteps.{cut-all}
+use Rattle.phase_partitions.proofs.keyed.run_keys.Goals as goal
+
+pub run_pieces-requires-send-T : goal.run_pieces-requires-send-T
+run_pieces-requires-send-T g c κs within = search (table_send, Crossing.crosses, sendable) depth 60 fits 20000
+
+pub run_pieces-requires-sync-W : goal.run_pieces-requires-sync-W
+run_pieces-requires-sync-W g c κs within = search (table_sync, catalogue_sync, op_sync, lists.the_sync, Crossing.crosses, sendable) depth 60 fits 20000
+
+pub put_together-requires : goal.put_together-requires
+put_together-requires g c = record {
+  kinds = keys-alike c.args.ops.now (world_of c.args.catalogue.now c.args.lets.now) c.args.table.now c.args.none.now c.in_ok-first.first c.args.lists.now c.cut_keys-cut.result.rows c.cut_keys-cut.result.pieces c.in_ok-results.field-0.results
+      c.requires.none c.in_ok-first.ensures.rows c.in_ok-results.ensures.results;
+}
+
+pub returns-clause-columns : goal.returns-clause-columns
+returns-clause-columns g c =
+    keys-columns c.args.ops.now (world_of c.args.catalogue.now c.args.lets.now) c.args.table.now c.args.none.now c.in_ok-first.first c.in_ok-made.made c.in_ok-results.field-0.results c.requires.none c.in_ok-first.ensures.rows c.in_ok-made.ensures.table
+
+pub returns-clause-lines : goal.returns-clause-lines
+returns-clause-lines g c =
+    let all = cut-all c.len.result (length c.args.lists.now) c.cut_keys-cut.result.pieces c.cut_keys-cut.result.rows c.len.ensures.count c.cut_keys-cut.ensures.all in
+    keys-lines c.args.ops.now (world_of c.args.catalogue.now c.args.lets.now) c.args.table.now c.args.none.now c.in_ok-first.first c.in_ok-made.made c.args.lists.now c.cut_keys-cut.result.rows c.cut_keys-cut.result.pieces c.in_ok-results.field-0.results
+    c.in_ok-first.ensures.rows c.in_ok-results.ensures.results all c.in_ok-made.ensures.table

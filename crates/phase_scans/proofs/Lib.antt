@@ -1,0 +1,2 @@
+pub mod KeySteps
+pub mod ScanSteps

@@ -1,0 +1,3 @@
+pub mod CrossingLaws
+pub mod PlaceSteps
+pub mod TopSteps

@@ -1,0 +1,4 @@
+pub mod FillSteps
+pub mod ItemSteps
+pub mod ProjectSteps
+pub mod SumSteps
