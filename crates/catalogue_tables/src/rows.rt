@@ -1,6 +1,7 @@
 //! The rows of an entry's files.
 ghost use Rattle.std.specs.Prelude.{◌≡◌, ◌≤◌, ◌+◌, Err, IfOk, IfSome, OnOk, length};
 ghost use Rattle.kql_outside.specs.Causes.{Rose};
+ghost use Rattle.kql_words.specs.Options.{AreWorkers};
 ghost use Rattle.kql_words.specs.Sizes.{size_top};
 ghost use Rattle.csv_io.specs.TypedLoad.{loaded_typed};
 ghost use Rattle.catalogue_tables.specs.Computes.{Computes, Gives, StopsAtRead};
@@ -10,20 +11,25 @@ ghost use Rattle.catalogue_tables.specs.declared.stop.CatalogueStop.TheVariants 
 use crate::files::read_within;
 use crate::stop::CatalogueStop;
 use catalogue_file::Entry;
-use csv_io::{DataFault, load_typed};
+use csv_io::DataFault;
+use csv_workers::load_typed_by_workers;
 use kql_cells::Schema;
-use kql_outside::Shelf;
+use kql_outside::{OpenGate, Shelf};
 use kql_values::Table;
 use std::alloc::{AllocError, Global};
+use std::thread::Threads;
 
 /// The table of an entry, and how many bytes the table files behind its own may have. The first of its files has this number.
-pub(crate) fn read_rows<F: Shelf>(
+pub(crate) fn read_rows<R: Threads + Sync, F: Shelf>(
+    rt: &R,
     alloc: Global,
     shelf: &mut F,
     entry: &Entry,
     first: u32,
     room: usize,
+    workers: u32,
 ) -> Result<(Table, usize), CatalogueStop>
+    requires workers { AreWorkers workers }
     requires numbers { first + length entry.now.files ≤ 1000 }
     requires few { room ≤ size_top }
     ensures files { F.files shelf.new ≡ F.files shelf.old }
@@ -39,7 +45,16 @@ pub(crate) fn read_rows<F: Shelf>(
     let mut number = first;
     let mut left = entry.files.as_slice();
     'files: while let Some((path, more)) = left.split_first() {
-        room = add_rows(alloc, shelf, path.as_str(), number, room, &mut table)?;
+        room = add_rows(
+            rt,
+            alloc,
+            shelf,
+            path.as_str(),
+            number,
+            room,
+            workers,
+            &mut table,
+        )?;
         number += 1;
         left = more;
     }
@@ -47,14 +62,17 @@ pub(crate) fn read_rows<F: Shelf>(
 }
 
 // Adds the rows of a file to a table; answers how many bytes the files behind it may have.
-fn add_rows<F: Shelf>(
+fn add_rows<R: Threads + Sync, F: Shelf>(
+    rt: &R,
     alloc: Global,
     shelf: &mut F,
     path: &str,
     number: u32,
     room: usize,
+    workers: u32,
     table: &mut Table,
 ) -> Result<usize, CatalogueStop>
+    requires workers { AreWorkers workers }
     requires few { room ≤ size_top }
     ensures files { F.files shelf.new ≡ F.files shelf.old }
     ensures later { F.faults shelf.old ≤ F.faults shelf.new }
@@ -63,7 +81,8 @@ fn add_rows<F: Shelf>(
     ensures few { IfOk result (λ left. left ≤ size_top) }
     ensures rows { IfSome (F.files shelf.old) (λ files. AddsRows files number room path.now table.old table.new result) }
 {
-    let (more, left) = read_file(alloc, shelf, path, number, room, table.schema())?;
+    let schema = table.schema();
+    let (more, left) = read_file(rt, alloc, shelf, path, number, room, schema, workers)?;
     append(table, more)?;
     Ok(left)
 }
@@ -81,14 +100,17 @@ fn append(table: &mut Table, more: Table) -> Result<(), AllocError>
 }
 
 // The rows of a file of these columns, and how many bytes the files behind it may have; one byte more than it may have is 308.
-fn read_file<F: Shelf>(
+fn read_file<R: Threads + Sync, F: Shelf>(
+    rt: &R,
     alloc: Global,
     shelf: &mut F,
     path: &str,
     number: u32,
     room: usize,
     schema: &Schema,
+    workers: u32,
 ) -> Result<(Table, usize), CatalogueStop>
+    requires workers { AreWorkers workers }
     requires few { room ≤ size_top }
     ensures files { F.files shelf.new ≡ F.files shelf.old }
     ensures later { F.faults shelf.old ≤ F.faults shelf.new }
@@ -99,20 +121,23 @@ fn read_file<F: Shelf>(
     ensures rows { IfSome (F.files shelf.old) (λ files. Computes (file_rows files number room schema.now path.now) result) }
 {
     let bytes = read_within(alloc, shelf, path, number, 308, room)?;
-    let table = load_rows(alloc, number, bytes.as_slice(), schema)?;
+    let table = load_rows(rt, alloc, number, bytes.as_slice(), schema, workers)?;
     Ok((table, room - bytes.len()))
 }
 
-fn load_rows(
+fn load_rows<R: Threads + Sync>(
+    rt: &R,
     alloc: Global,
     number: u32,
     bytes: &[u8],
     schema: &Schema,
+    workers: u32,
 ) -> Result<Table, CatalogueStop>
+    requires workers { AreWorkers workers }
     ensures table { Gives (loaded_as number (loaded_typed schema.now bytes.now)) result }
     ensures columns { IfOk result (λ t. t.columns ≡ schema.now) }
 {
-    match load_typed(alloc, bytes, schema) {
+    match load_typed_by_workers(rt, &OpenGate, alloc, workers, bytes, schema) {
         Ok(table) => Ok(table),
         Err(DataFault::Refused { code, row, column }) => Err(CatalogueStop::Refused {
             file: number,

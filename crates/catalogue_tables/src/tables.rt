@@ -2,6 +2,7 @@ ghost use Rattle.std.specs.Prelude.{◌≡◌, ◌≤◌, ◌++◌, ◌∷◌, [
 ghost use Rattle.kql_cells.specs.Catalogues.{table_name};
 ghost use Rattle.kql_outside.specs.Calls.{one_more};
 ghost use Rattle.kql_outside.specs.Causes.{Rose};
+ghost use Rattle.kql_words.specs.Options.{AreWorkers};
 ghost use Rattle.kql_words.specs.Sizes.{size_top};
 ghost use Rattle.catalogue_tables.specs.Computes.{Computes, IsRefused, StopsAtRead};
 ghost use Rattle.catalogue_tables.specs.Entries.{AreClean, entries_taken, entry_code};
@@ -15,21 +16,26 @@ use catalogue_file::Entry;
 use kql_outside::Shelf;
 use kql_values::{Catalogue, Named};
 use std::alloc::Global;
+use std::thread::Threads;
 
-/// These tables, each of which is of one file, and then those of the catalogue file of a path, whose files may have so many bytes together.
+/// These tables, each of which is of one file, and then those of the catalogue file of a path, whose files may have so many bytes together. The workers
+/// share a large file.
 ///
 /// The refusals, in the order in which they are looked for: of the catalogue file 307 there is none, 314 it has more than 1,048,576 bytes, and
 /// those of `read_catalogue`; entry by entry 311 the name is no word that a query can call a table, or another table has it, and 313
 /// it is the 65th table, or one of its files is the 257th table file; then file by file 307, 308 there are more bytes than the files may
 /// have, and those of `load_typed`. The catalogue file has the number behind that of the last table before it, and its entries' files
 /// have the next ones.
-pub fn catalogue_tables<F: Shelf>(
+pub fn catalogue_tables<R: Threads + Sync, F: Shelf>(
+    rt: &R,
     alloc: Global,
     shelf: &mut F,
     path: &str,
     room: usize,
+    workers: u32,
     tables: Catalogue,
 ) -> Result<Catalogue, CatalogueStop>
+    requires workers { AreWorkers workers }
     requires few { length tables ≤ 64 }
     requires room { room ≤ size_top }
     ensures files { F.files shelf.new ≡ F.files shelf.old }
@@ -47,18 +53,30 @@ pub fn catalogue_tables<F: Shelf>(
     let entries = read_entries(alloc, shelf, path, number)?;
     let names = names_of(alloc, tables.tables())?;
     check_entries(alloc, names, entries.as_slice(), number)?;
-    add_entries(alloc, shelf, entries.as_slice(), count, room, tables)
+    add_entries(
+        rt,
+        alloc,
+        shelf,
+        entries.as_slice(),
+        count,
+        room,
+        workers,
+        tables,
+    )
 }
 
 // These tables and then those of entries without a fault, behind so many table files.
-fn add_entries<F: Shelf>(
+fn add_entries<R: Threads + Sync, F: Shelf>(
+    rt: &R,
     alloc: Global,
     shelf: &mut F,
     entries: &[Entry],
     count: usize,
     room: usize,
+    workers: u32,
     tables: Catalogue,
 ) -> Result<Catalogue, CatalogueStop>
+    requires workers { AreWorkers workers }
     requires clean { AreClean (map table_name tables) count entries.now }
     requires few { count ≤ 256 }
     requires room { room ≤ size_top }
@@ -73,7 +91,7 @@ fn add_entries<F: Shelf>(
     let mut room = room;
     let mut left = entries;
     'entries: while let Some((entry, more)) = left.split_first() {
-        room = add_entry(alloc, shelf, entry, count, room, &mut tables)?;
+        room = add_entry(rt, alloc, shelf, entry, count, room, workers, &mut tables)?;
         count += entry.files.len();
         left = more;
     }
@@ -81,14 +99,17 @@ fn add_entries<F: Shelf>(
 }
 
 // Adds the table of an entry; answers how many bytes the files behind its own may have.
-fn add_entry<F: Shelf>(
+fn add_entry<R: Threads + Sync, F: Shelf>(
+    rt: &R,
     alloc: Global,
     shelf: &mut F,
     entry: &Entry,
     count: usize,
     room: usize,
+    workers: u32,
     tables: &mut Catalogue,
 ) -> Result<usize, CatalogueStop>
+    requires workers { AreWorkers workers }
     requires clean { entry_code (map table_name tables.old) count entry.now ≡ None }
     requires room { room ≤ size_top }
     ensures files { F.files shelf.new ≡ F.files shelf.old }
@@ -99,7 +120,8 @@ fn add_entry<F: Shelf>(
     ensures names { OnOk result (map table_name tables.new ≡ map table_name tables.old ++ entry.now.name ∷ []) }
     ensures table { IfSome (F.files shelf.old) (λ files. AddsEntry files count room entry.now tables.old tables.new result) }
 {
-    let (table, left) = read_rows(alloc, shelf, entry, count as u32 + 2, room)?;
+    let first = count as u32 + 2;
+    let (table, left) = read_rows(rt, alloc, shelf, entry, first, room, workers)?;
     let name = entry.name.copy(alloc)?;
     tables.push(Named { name, table })?;
     Ok(left)

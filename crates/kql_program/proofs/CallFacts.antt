@@ -94,13 +94,13 @@ memory-stops b n r i h = raised-stops b n r stop.OutOfMemory i h
 -- Writing.
 
 text-heeds : (c : Command) (e : Ended) (b n : CallsNow) → EndsAs c e → Went NoneFailed NoneFailed Uncalled b n → HeedsFaults b n e
-text-heeds (command.Run asked) (ended.Table plan) b n h w = w
+text-heeds (command.Run asked) (ended.Table plan report) b n h w = w
 text-heeds (command.Run asked) _ b n h w = absurd h
 text-heeds (command.Plain asked) ended.PlainTable b n h w = w
 text-heeds (command.Plain asked) _ b n h w = absurd h
 text-heeds (command.Explain asked) (ended.Explained plan) b n h w = w
 text-heeds (command.Explain asked) _ b n h w = absurd h
-text-heeds (command.Trial trial) ended.Trial b n h w = w
+text-heeds (command.Trial trial) (ended.Trial reports) b n h w = w
 text-heeds (command.Trial trial) _ b n h w = absurd h
 
 -- the text was written, or left unfinished
@@ -147,10 +147,6 @@ pub query-alone : (told : Option Files) (words : List (List ℕ)) (path : List �
     → IfSome told (λ files. HasOwnFault words files asked → n ≡ one_more b)
 query-alone None words path asked tokens b m n p t s f = tt
 query-alone (Some files) words path asked tokens b m n p t s f = alone-of tokens (file_tokens files (query_path words asked)) b m n (ap (file_tokens files) p ∙ t) s f
-
-pub told-starts : (told : Option Files) (words : List (List ℕ)) (asked : Asked) (b n : Option ℕ) → n ≡ one_more b → IfSome told (λ files. HasOwnFault words files asked → n ≡ one_more b)
-told-starts None words asked b n e = tt
-told-starts (Some files) words asked b n e = λ own. e
 
 -- the command that the words are
 pub starts-asked : (words : List (List ℕ)) (told : Option Files) (c : Command) (b n : Option ℕ) → Ok c ≡ command_of words → StartsFor words told (asked_in (Ok c)) b n → StartsFor words told (asked_in (command_of words)) b n

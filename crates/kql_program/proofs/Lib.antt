@@ -5,9 +5,11 @@ pub mod FileFacts
 pub mod MemoryFacts
 pub mod OutcomeFacts
 pub mod PlanFacts
+pub mod StartFacts
 pub mod StepFacts
 pub mod TableFacts
 pub mod TopFacts
 pub mod TrialFacts
 pub mod VerdictFacts
 pub mod WordFacts
+pub mod WorkerFacts

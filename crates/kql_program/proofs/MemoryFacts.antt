@@ -79,10 +79,10 @@ line-answers words files o p e f line (inr (inr (l, fails))) short memory = absu
 
 pub clean-ends : (words : List (List ℕ)) (files : Files) (o p e f : SinkState) (d : Ended) → Ends words (Answers words files) (outside 0 (in_memory o) (in_memory e)) (outside 0 (in_memory p) (in_memory f)) d → HasRoomForMemoryLine e
     → Answered words files o p e f d ⊎ RunsOut o p e f d
-clean-ends words files o p e f (ended.Table plan) h room = inl (text-answers words files o p e f (ended.Table plan) h)
+clean-ends words files o p e f (ended.Table plan report) h room = inl (text-answers words files o p e f (ended.Table plan report) h)
 clean-ends words files o p e f (ended.Explained plan) h room = inl (text-answers words files o p e f (ended.Explained plan) h)
 clean-ends words files o p e f ended.PlainTable h room = inl (text-answers words files o p e f ended.PlainTable h)
-clean-ends words files o p e f ended.Trial h room = inl (text-answers words files o p e f ended.Trial h)
+clean-ends words files o p e f (ended.Trial reports) h room = inl (text-answers words files o p e f (ended.Trial reports) h)
 clean-ends words files o p e f (ended.QueryRefused code place) h room = inl (refused-answers words files o p e f (refusal.Query code place) (ended.QueryRefused code place) h.is refl h.quiet h.line)
 clean-ends words files o p e f (ended.Usage word code) h room = inl (refused-answers words files o p e f (refusal.Usage word code) (ended.Usage word code) h.is refl h.quiet h.line)
 clean-ends words files o p e f (ended.DataRefused file code row column) h room =

@@ -28,10 +28,10 @@ use Rattle.kql_program.specs.declared.refusal.Stop.TheVariants as stop
 
 ends-read : (words : List (List ℕ)) (Is : OfAnswers) (b n : Outside) (e : Ended) → Ends words Is b n e → e ≡ ended.ReadFault → Rose b.shelf_faults n.shelf_faults
 ends-read words Is b n ended.ReadFault h q = h.fails.cause
-ends-read words Is b n (ended.Table plan) h q = cc q
+ends-read words Is b n (ended.Table plan report) h q = cc q
 ends-read words Is b n ended.PlainTable h q = cc q
 ends-read words Is b n (ended.Explained plan) h q = cc q
-ends-read words Is b n ended.Trial h q = cc q
+ends-read words Is b n (ended.Trial reports) h q = cc q
 ends-read words Is b n (ended.QueryRefused code place) h q = cc q
 ends-read words Is b n (ended.Usage word code) h q = cc q
 ends-read words Is b n (ended.DataRefused file code row column) h q = cc q
@@ -40,10 +40,10 @@ ends-read words Is b n ended.OutOfMemory h q = cc q
 
 ends-turn : (words : List (List ℕ)) (Is : OfAnswers) (b n : Outside) (e : Ended) → Ends words Is b n e → e ≡ ended.ReadFault → ReadsFiles words
 ends-turn words Is b n ended.ReadFault h q = h.fails.turn
-ends-turn words Is b n (ended.Table plan) h q = cc q
+ends-turn words Is b n (ended.Table plan report) h q = cc q
 ends-turn words Is b n ended.PlainTable h q = cc q
 ends-turn words Is b n (ended.Explained plan) h q = cc q
-ends-turn words Is b n ended.Trial h q = cc q
+ends-turn words Is b n (ended.Trial reports) h q = cc q
 ends-turn words Is b n (ended.QueryRefused code place) h q = cc q
 ends-turn words Is b n (ended.Usage word code) h q = cc q
 ends-turn words Is b n (ended.DataRefused file code row column) h q = cc q
@@ -53,10 +53,10 @@ ends-turn words Is b n ended.OutOfMemory h q = cc q
 ends-write : (words : List (List ℕ)) (Is : OfAnswers) (b n : Outside) (e : Ended) → Ends words Is b n e → e ≡ ended.WriteFault → Rose b.out.faults n.out.faults ⊎ Rose b.err.faults n.err.faults
 ends-write words Is b n ended.WriteFault (inl h) q = inl h.cut.cause
 ends-write words Is b n ended.WriteFault (inr h) q = inr h.cut.cause
-ends-write words Is b n (ended.Table plan) h q = cc q
+ends-write words Is b n (ended.Table plan report) h q = cc q
 ends-write words Is b n ended.PlainTable h q = cc q
 ends-write words Is b n (ended.Explained plan) h q = cc q
-ends-write words Is b n ended.Trial h q = cc q
+ends-write words Is b n (ended.Trial reports) h q = cc q
 ends-write words Is b n (ended.QueryRefused code place) h q = cc q
 ends-write words Is b n (ended.Usage word code) h q = cc q
 ends-write words Is b n (ended.DataRefused file code row column) h q = cc q
@@ -64,10 +64,10 @@ ends-write words Is b n ended.ReadFault h q = cc q
 ends-write words Is b n ended.OutOfMemory h q = cc q
 
 ends-quiet : (words : List (List ℕ)) (Is : OfAnswers) (b n : Outside) (e : Ended) → Ends words Is b n e → IsQuiet e → IsSame b.out n.out
-ends-quiet words Is b n (ended.Table plan) h q = absurd q
+ends-quiet words Is b n (ended.Table plan report) h q = absurd q
 ends-quiet words Is b n ended.PlainTable h q = absurd q
 ends-quiet words Is b n (ended.Explained plan) h q = absurd q
-ends-quiet words Is b n ended.Trial h q = absurd q
+ends-quiet words Is b n (ended.Trial reports) h q = absurd q
 ends-quiet words Is b n ended.WriteFault h q = absurd q
 ends-quiet words Is b n (ended.QueryRefused code place) h q = h.quiet
 ends-quiet words Is b n (ended.Usage word code) h q = h.quiet
@@ -76,10 +76,10 @@ ends-quiet words Is b n ended.ReadFault h q = h.quiet
 ends-quiet words Is b n ended.OutOfMemory h q = h.quiet
 
 ends-complete : (words : List (List ℕ)) (Is : OfAnswers) (b n : Outside) (e : Ended) → Ends words Is b n e → IsFaultless b n → ((a : Answer (List ℕ)) × Is a × IsEndingOf words a e) ⊎ (e ≡ ended.OutOfMemory)
-ends-complete words Is b n (ended.Table plan) h f = inl (Ok h.text, h.is, h.done)
+ends-complete words Is b n (ended.Table plan report) h f = inl (Ok h.text, h.is, h.done)
 ends-complete words Is b n ended.PlainTable h f = inl (Ok h.text, h.is, h.done)
 ends-complete words Is b n (ended.Explained plan) h f = inl (Ok h.text, h.is, h.done)
-ends-complete words Is b n ended.Trial h f = inl (Ok h.text, h.is, h.done)
+ends-complete words Is b n (ended.Trial reports) h f = inl (Ok h.text, h.is, h.done)
 ends-complete words Is b n (ended.QueryRefused code place) h f = inl (Err (refusal.Query code place), h.is, refl)
 ends-complete words Is b n (ended.Usage word code) h f = inl (Err (refusal.Usage word code), h.is, refl)
 ends-complete words Is b n (ended.DataRefused file code row column) h f = inl (Err (refusal.Data file code row column), h.is, refl)
@@ -111,7 +111,7 @@ outcome words files b n e h p x = record {
 
 -- The command that the words are.
 
-abbrev command_is : Command → Answer Command
+abbrev pub command_is : Command → Answer Command
 command_is c = Ok c
 
 abbrev no_command : Refusal → Answer Command
@@ -123,7 +123,7 @@ no_text r = Err r
 abbrev some_text : List ℕ → Answer (List ℕ)
 some_text t = Ok t
 
-command-same : (c d : Command) → command_is c ≡ command_is d → c ≡ d
+pub command-same : (c d : Command) → command_is c ≡ command_is d → c ≡ d
 command-same c d e = cc
 
 command-refused : (q r : Refusal) → no_command q ≡ no_command r → q ≡ r
@@ -159,13 +159,13 @@ answer-ok words None c text e q h t d = record {
 answer-ok words (Some told) c text e q h t d = subst (λ (x : Answer Command). AnswersCommand words told x (Ok text)) q h
 
 text-ends : (words : List (List ℕ)) (Is : OfAnswers) (b n : Outside) (c : Command) (e : Ended) → EndsAs c e → IsText words Is b n e → Ends words Is b n e
-text-ends words Is b n (command.Run asked) (ended.Table plan) h t = t
+text-ends words Is b n (command.Run asked) (ended.Table plan report) h t = t
 text-ends words Is b n (command.Run asked) _ h t = absurd h
 text-ends words Is b n (command.Plain asked) ended.PlainTable h t = t
 text-ends words Is b n (command.Plain asked) _ h t = absurd h
 text-ends words Is b n (command.Explain asked) (ended.Explained plan) h t = t
 text-ends words Is b n (command.Explain asked) _ h t = absurd h
-text-ends words Is b n (command.Trial trial) ended.Trial h t = t
+text-ends words Is b n (command.Trial trial) (ended.Trial reports) h t = t
 text-ends words Is b n (command.Trial trial) _ h t = absurd h
 
 explained-adds : (b n : Outside) (text : List ℕ) (e : Ended) → IfExplained (λ plan. text ≡ plan_text plan) e → Adds b.out n.out text → IfExplained (λ plan. Adds b.out n.out (plan_text plan)) e
@@ -255,7 +255,7 @@ abbrev HasNoPlan : Ended → Type 0
 HasNoPlan e = IfPlan (λ plan. ⊥) e
 
 no-plan : (P : Program → Type 0) (e : Ended) → HasNoPlan e → IfPlan P e
-no-plan P (ended.Table plan) h = absurd h
+no-plan P (ended.Table plan report) h = absurd h
 no-plan P (ended.Explained plan) h = absurd h
 no-plan P _ h = tt
 

@@ -11,6 +11,7 @@ use Rattle.kql_words.specs.declared.command.Command.TheVariants as command
 use Rattle.kql_words.specs.declared.trial.Trial.{Trial}
 use Rattle.kql_program.specs.Answer.{AnswersCommand}
 use Rattle.catalogue_tables.specs.Files.{Files}
+use Rattle.kql_program.specs.Endings.{EndsAs}
 use Rattle.kql_program.specs.Outcomes.{IsDone, IsPlanFor, text_in}
 use Rattle.kql_program.specs.Plans.{AnswersExplain, IsExplainedBy, IsPlanOf, IsRunBy}
 use Rattle.kql_program.specs.Queries.{AnswersQuery, IsBoundAsked, text_as}
@@ -64,7 +65,7 @@ planned (Some files) words asked bound plan h i = record { bound = bound; is_bou
 
 pub run-done : (told : Option Files) (words : List (List ℕ)) (asked : Asked) (bound : BoundQuery) (text : List ℕ) (e : Ended) → IfSome told (λ files. IsBoundAsked words files asked (Ok bound))
     → IsRunBy asked.options.types bound.program bound.catalogue text e → IsDone words told (command.Run asked) text e
-run-done told words asked bound text (ended.Table plan) h i = record { ends = tt; plan = planned told words asked bound plan h i.0; explained = tt }
+run-done told words asked bound text (ended.Table plan report) h i = record { ends = tt; plan = planned told words asked bound plan h i.0; explained = tt }
 run-done told words asked bound text _ h i = absurd i
 
 pub plain-done : (told : Option Files) (words : List (List ℕ)) (asked : Asked) (text : List ℕ) (e : Ended) → e ≡ ended.PlainTable → IsDone words told (command.Plain asked) text e
@@ -94,5 +95,14 @@ pub trial-told : (told : Option Files) (words : List (List ℕ)) (trial : Trial)
 trial-told None words trial r h = tt
 trial-told (Some files) words trial r h = reached (AnswersTrial trial) r h
 
-pub trial-done : (told : Option Files) (words : List (List ℕ)) (trial : Trial) (text : List ℕ) (e : Ended) → e ≡ ended.Trial → IsDone words told (command.Trial trial) text e
-trial-done told words trial text e q = subst (λ (x : Ended). IsDone words told (command.Trial trial) text x) (sym q) (record { ends = tt; plan = tt; explained = tt })
+pub trial-done : (told : Option Files) (words : List (List ℕ)) (trial : Trial) (text : List ℕ) (e : Ended) → EndsAs (command.Trial trial) e → IsDone words told (command.Trial trial) text e
+trial-done told words trial text (ended.Trial reports) q = record { ends = tt; plan = tt; explained = tt }
+trial-done told words trial text (ended.Table plan report) q = absurd q
+trial-done told words trial text ended.PlainTable q = absurd q
+trial-done told words trial text (ended.Explained plan) q = absurd q
+trial-done told words trial text (ended.QueryRefused code place) q = absurd q
+trial-done told words trial text (ended.Usage word code) q = absurd q
+trial-done told words trial text (ended.DataRefused file code row column) q = absurd q
+trial-done told words trial text ended.ReadFault q = absurd q
+trial-done told words trial text ended.WriteFault q = absurd q
+trial-done told words trial text ended.OutOfMemory q = absurd q

@@ -1,15 +1,17 @@
 -- How the calls of the shelf and the sinks went, where these tell it: after one that failed there is no other.
-use Rattle.std.specs.Prelude.{◌≡◌, ◌⊎◌, ℕ, List, Option, Some, None, IfSome, Result, Ok, Err}
+use Rattle.std.specs.Prelude.{◌≡◌, ◌⊎◌, ◌+◌, ◌-◌, ℕ, List, [], ◌∷◌, length, map, Option, Some, None, IfSome, Result, Ok, Err}
 use Rattle.kql_lexer.specs.declared.place.Place.{Place}
 use Rattle.kql_lexer.specs.declared.token.Token.{Token}
 use Rattle.kql_outside.specs.Calls.{CallCounts, LastFailed, NoneFailed, one_more}
 use Rattle.kql_parser.specs.Parsing.{Refuses}
-use Rattle.kql_words.specs.Command.{query_path}
-use Rattle.kql_words.specs.Refusals.{Answer}
+use Rattle.kql_words.specs.Command.{catalogue_path, name_in, path_in, query_path, table_words}
+use Rattle.kql_words.specs.Refusals.{Answer, ◌>>=◌}
 use Rattle.kql_words.specs.declared.command.Asked.{Asked}
 use Rattle.kql_program.specs.Endings.{refused_as}
-use Rattle.catalogue_tables.specs.Files.{Files}
-use Rattle.kql_program.specs.Files.{file_tokens}
+use Rattle.catalogue_tables.specs.Computes.{IsRefused}
+use Rattle.catalogue_tables.specs.Entries.{entries_taken}
+use Rattle.catalogue_tables.specs.Files.{Files, file_bytes}
+use Rattle.kql_program.specs.Files.{file_tokens, table_in}
 use Rattle.kql_program.specs.declared.ended.Ended.{Ended}
 use Rattle.kql_program.specs.declared.ended.Ended.TheVariants as ended
 use Rattle.kql_program.specs.declared.refusal.Stop.{Stop}
@@ -71,10 +73,10 @@ pub record Went (Shelf Out Err : Course) (before now : CallsNow) : Type 0 where
 -- What each ending says of the calls. A call that failed is the last of its object, and the ending is that fault: nothing more is read
 -- after it, and nothing more is written, but for the line that tells a read fault.
 abbrev pub HeedsFaults : CallsNow → CallsNow → Ended → Type 0
-HeedsFaults before now (ended.Table plan) = Went NoneFailed NoneFailed Uncalled before now
+HeedsFaults before now (ended.Table plan report) = Went NoneFailed NoneFailed Uncalled before now
 HeedsFaults before now ended.PlainTable = Went NoneFailed NoneFailed Uncalled before now
 HeedsFaults before now (ended.Explained plan) = Went NoneFailed NoneFailed Uncalled before now
-HeedsFaults before now ended.Trial = Went NoneFailed NoneFailed Uncalled before now
+HeedsFaults before now (ended.Trial reports) = Went NoneFailed NoneFailed Uncalled before now
 HeedsFaults before now (ended.QueryRefused code place) = Went NoneFailed Uncalled NoneFailed before now
 HeedsFaults before now (ended.Usage word code) = Went NoneFailed Uncalled NoneFailed before now
 HeedsFaults before now (ended.DataRefused file code row column) = Went NoneFailed Uncalled NoneFailed before now
@@ -92,7 +94,33 @@ OwnFault (Ok tokens) = (code : ℕ) × (place : Place) × Refuses tokens code pl
 abbrev pub HasOwnFault : List (List ℕ) → Files → Asked → Type 0
 HasOwnFault words files asked = OwnFault (file_tokens files (query_path words asked))
 
--- How many files were started: none where no query is asked for, and the query file alone where the query has a fault of its own.
+-- the table of a word is not refused, and the files behind its own may have so many bytes
+unfoldable pub left_behind : Files → ℕ → ℕ → List ℕ → Answer ℕ
+left_behind files number room word = file_bytes number files (path_in word) >>= λ bytes. table_in number room bytes >>= λ grid. Ok (room - length bytes)
+
+-- of a catalogue file: where it, or one of its entries, is refused, it is the last that was started
+abbrev pub StartsBehind : Files → List (List ℕ) → Option (List ℕ) → Option ℕ → Option ℕ → Type 0
+StartsBehind files names None before now = ⊥
+StartsBehind files names (Some path) before now = IsRefused (entries_taken files names path) → now ≡ one_more before
+
+-- The files that were started for the tables of words: none; or that of the first word; or that and then those of the words behind it, where the table
+-- is not refused. What may be started behind all words is handed in.
+unfoldable pub StartsFrom : Files → (Option ℕ → Option ℕ → Type 0) → ℕ → ℕ → List (List ℕ) → Option ℕ → Option ℕ → Type 0
+StartsFrom files Behind number room [] before now = (now ≡ before) ⊎ Behind before now
+StartsFrom files Behind number room (word ∷ words) before now =
+    (now ≡ before) ⊎ (now ≡ one_more before)
+    ⊎ ((left : ℕ) × (left_behind files number room word ≡ Ok left) × StartsFrom files Behind (number + 1) left words (one_more before) now)
+
+-- the files that were started for the tables of words and of a catalogue file, whose files may have so many bytes together
+abbrev pub StartsTables : Files → ℕ → Option (List ℕ) → List (List ℕ) → Option ℕ → Option ℕ → Type 0
+StartsTables files limit catalogue words before now = StartsFrom files (StartsBehind files (map name_in words) catalogue) 1 limit words before now
+
+-- The files that were started for a query: its own, and no other where it has a fault of its own; else those of its tables, one after another.
+pub record StartsOf (words : List (List ℕ)) (files : Files) (asked : Asked) (before now : Option ℕ) : Type 0 where
+  pub own : HasOwnFault words files asked → now ≡ one_more before
+  pub tables : StartsTables files asked.options.limit (catalogue_path words asked) (table_words words asked) (one_more before) now
+
+-- How many files were started: none where no query is asked for.
 abbrev pub StartsFor : List (List ℕ) → Option Files → Option Asked → Option ℕ → Option ℕ → Type 0
 StartsFor words told None before now = now ≡ before
-StartsFor words told (Some asked) before now = IfSome told (λ files. HasOwnFault words files asked → now ≡ one_more before)
+StartsFor words told (Some asked) before now = IfSome told (λ files. StartsOf words files asked before now)

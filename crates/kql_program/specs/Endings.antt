@@ -12,10 +12,10 @@ use Rattle.kql_words.specs.Refusals.{Answer}
 
 -- the exit status of an ending
 abbrev pub status_of : Ended → ℕ
-status_of (ended.Table plan) = 0
+status_of (ended.Table plan report) = 0
 status_of ended.PlainTable = 0
 status_of (ended.Explained plan) = 0
-status_of ended.Trial = 0
+status_of (ended.Trial reports) = 0
 status_of (ended.QueryRefused code place) = 1
 status_of (ended.Usage word code) = 2
 status_of (ended.DataRefused file code row column) = 3
@@ -31,10 +31,10 @@ refused_as (refusal.Data file code row column) = ended.DataRefused file code row
 
 -- the ending after a command's text was written
 abbrev pub EndsAs : Command → Ended → Type 0
-EndsAs (command.Run asked) (ended.Table plan) = Unit {0}
+EndsAs (command.Run asked) (ended.Table plan report) = Unit {0}
 EndsAs (command.Plain asked) ended.PlainTable = Unit {0}
 EndsAs (command.Explain asked) (ended.Explained plan) = Unit {0}
-EndsAs (command.Trial trial) ended.Trial = Unit {0}
+EndsAs (command.Trial trial) (ended.Trial reports) = Unit {0}
 EndsAs _ _ = ⊥
 
 -- the words are a command, and the ending is that after its text was written
@@ -49,7 +49,7 @@ IsEndingOf words (Err r) e = e ≡ refused_as r
 
 -- this holds of the plan in an ending
 abbrev pub IfPlan : (Program → Type 0) → Ended → Type 0
-IfPlan P (ended.Table plan) = P plan
+IfPlan P (ended.Table plan report) = P plan
 IfPlan P (ended.Explained plan) = P plan
 IfPlan P _ = Unit {0}
 
@@ -60,9 +60,9 @@ IfExplained P _ = Unit {0}
 
 -- an ending after which nothing was written to the output
 abbrev pub IsQuiet : Ended → Type 0
-IsQuiet (ended.Table plan) = ⊥
+IsQuiet (ended.Table plan report) = ⊥
 IsQuiet ended.PlainTable = ⊥
 IsQuiet (ended.Explained plan) = ⊥
-IsQuiet ended.Trial = ⊥
+IsQuiet (ended.Trial reports) = ⊥
 IsQuiet ended.WriteFault = ⊥
 IsQuiet _ = Unit {0}

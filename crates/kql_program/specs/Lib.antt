@@ -11,3 +11,4 @@ pub mod Refusals
 pub mod Stops
 pub mod Syntax
 pub mod Trials
+pub mod Workers

@@ -63,6 +63,8 @@ usage_name code =
     else if code == 608 then codes "TableTwice"
     else if code == 609 then codes "BadCount"
     else if code == 610 then codes "TooManyTables"
+    else if code == 611 then codes "EmptyPath"
+    else if code == 612 then codes "NoTable"
     else []
 
 -- the name of a code of a refused file, up to 308
@@ -78,7 +80,7 @@ file_name code =
     else if code == 308 then codes "TooLong"
     else []
 
--- and 309 to 314
+-- and 309 to 315
 abbrev pub catalogue_name : ℕ → List ℕ
 catalogue_name code =
     if code == 309 then codes "NotJson"
@@ -87,6 +89,7 @@ catalogue_name code =
     else if code == 312 then codes "HeaderDiffers"
     else if code == 313 then codes "TooManyFiles"
     else if code == 314 then codes "CatalogueTooLong"
+    else if code == 315 then codes "SchemaDiffers"
     else []
 
 -- the name of a code of a refused file

@@ -175,10 +175,10 @@ pub record IsCutLine (words : List (List ℕ)) (Is : OfAnswers) (before now : Ou
 
 -- what each ending says of the answer and of the outside
 abbrev pub Ends : List (List ℕ) → OfAnswers → Outside → Outside → Ended → Type 0
-Ends words Is before now (ended.Table plan) = IsText words Is before now (ended.Table plan)
+Ends words Is before now (ended.Table plan report) = IsText words Is before now (ended.Table plan report)
 Ends words Is before now ended.PlainTable = IsText words Is before now ended.PlainTable
 Ends words Is before now (ended.Explained plan) = IsText words Is before now (ended.Explained plan)
-Ends words Is before now ended.Trial = IsText words Is before now ended.Trial
+Ends words Is before now (ended.Trial reports) = IsText words Is before now (ended.Trial reports)
 Ends words Is before now (ended.QueryRefused code place) = IsRefused Is before now (refusal.Query code place)
 Ends words Is before now (ended.Usage word code) = IsRefused Is before now (refusal.Usage word code)
 Ends words Is before now (ended.DataRefused file code row column) = IsRefused Is before now (refusal.Data file code row column)

@@ -48,7 +48,7 @@ pub record ExplainOne (words : List (List ℕ)) (files : Files) (asked : Asked) 
 
 -- The ending after `run` wrote a table: a plan of the program, and the text is that of the table which this very plan means over the tables.
 abbrev pub IsRunBy : Bool → Program → List Named → List ℕ → Ended → Type 0
-IsRunBy types program tables text (ended.Table plan) = IsPlanOf program plan × (text ≡ text_as types (means plan tables))
+IsRunBy types program tables text (ended.Table plan report) = IsPlanOf program plan × (text ≡ text_as types (means plan tables))
 IsRunBy types program tables text _ = ⊥
 
 -- the ending after `explain` wrote a text: that of a plan of the program

@@ -2,16 +2,21 @@ ghost use Rattle.std.specs.Prelude.{◌≡◌};
 ghost use Rattle.kql_program.specs.Endings.{refused_as, status_of};
 
 use kql_bound::Program;
-use kql_items::Boxed;
+use kql_items::{Boxed, Items};
 use kql_lexer::Place;
 use kql_words::Refusal;
+use phase_run::Report;
+
+/// The phases of some queries, one after another.
+pub type Reports = Items<Report>;
 
 /// How a call of `kql` ended.
 #[derive(Debug, Drop)]
 pub enum Ended {
-    /// The table's text was written, as `run` asks. The query was answered by this plan.
+    /// The table's text was written, as `run` asks. The query was answered by this plan, in these phases.
     Table {
         plan: Boxed<Program>,
+        report: Report,
     },
     /// The table's text was written, as `plain` asks.
     PlainTable,
@@ -19,8 +24,10 @@ pub enum Ended {
     Explained {
         plan: Boxed<Program>,
     },
-    /// The lines of the stored queries were written, as `trial` asks.
-    Trial,
+    /// The lines of the stored queries were written, as `trial` asks. Each was answered in these phases.
+    Trial {
+        reports: Reports,
+    },
     /// The query is refused at a place of its text.
     QueryRefused {
         code: u32,
@@ -76,7 +83,7 @@ pub fn status(ended: &Ended) -> u8
         Ended::Table { .. } => 0,
         Ended::PlainTable => 0,
         Ended::Explained { .. } => 0,
-        Ended::Trial => 0,
+        Ended::Trial { .. } => 0,
         Ended::QueryRefused { .. } => 1,
         Ended::Usage { .. } => 2,
         Ended::DataRefused { .. } => 3,

@@ -1,5 +1,5 @@
 //! Queries over tables: what they are bound to, plans, and rows.
-ghost use Rattle.std.specs.Prelude.{◌≡◌, All, IfOk, IfSome, IsSome, IsTrue, true};
+ghost use Rattle.std.specs.Prelude.{◌≡◌, All, IfOk, IfSome, OnOk, IsSome, IsTrue, None, true};
 ghost use Rattle.kql_cells.specs.Catalogues.{Named as Seen, schemas_of};
 ghost use Rattle.kql_cells.specs.Values.{IsMoment};
 ghost use Rattle.kql_cells.specs.declared.schemas.NamedSchema.{NamedSchema};
@@ -11,20 +11,25 @@ ghost use Rattle.kql_values.specs.Kept.{all_named};
 ghost use Rattle.bind_query_laws.specs.Sound.{AreColumns};
 ghost use Rattle.kql_program.specs.Plans.{IsPlanOf};
 ghost use Rattle.kql_program.specs.Queries.{bound_over, program_of, rows_over};
+ghost use Rattle.kql_program.specs.Workers.{AddsReport, IsCrew, IsReportOf};
 ghost use Rattle.kql_program.specs.Refusals.{Gives};
 
 use crate::bound::BoundQuery;
+use crate::crew::Crew;
+use crate::ended::Reports;
 use crate::refusal::Stop;
 use bind_query::bind;
 use bind_query_laws::law_of_binding_queries;
 use kql_bound::Program;
 use kql_cells::NamedSchema;
 use kql_items::Boxed;
-use kql_plain::plain;
+use kql_outside::Gate;
 use kql_syntax::Query;
 use kql_values::{Catalogue, Named, Table};
+use phase_run::{Answer, run_plan};
 use plan_push::settle;
 use std::alloc::{AllocError, Global};
+use std::thread::Threads;
 
 /// A query bound to the tables of a catalogue, at a moment.
 #[tactic(auto, unfolding(crate::specs::Queries::bound_over))]
@@ -43,21 +48,27 @@ pub(crate) fn bound_over(
     Ok(BoundQuery { program, catalogue })
 }
 
-/// The rows of a query over the tables of a catalogue, at a moment.
+/// The rows of a stored query over the tables of a catalogue; the phases that made them are added to the reports.
 #[tactic(auto, unfolding(crate::specs::Queries::rows_over, crate::specs::Queries::bound_over))]
-pub(crate) fn rows_over(
+pub(crate) fn rows_over<R: Threads + Sync, G: Gate + Sync>(
+    rt: &R,
     alloc: Global,
     query: &Query,
-    moment: Option<i64>,
     catalogue: &Catalogue,
+    crew: Crew,
+    gate: &G,
+    reports: &mut Reports,
 ) -> Result<Table, Stop>
-    requires moment { IfSome moment IsMoment }
+    requires crew { IsCrew crew }
     requires patterns { has_patterns query.now ≡ true }
-    ensures rows { Gives (rows_over query.now moment catalogue.now) result }
+    ensures rows { Gives (rows_over query.now None catalogue.now) result }
+    ensures reports { OnOk result (AddsReport crew.workers reports.old reports.new) }
 {
-    let program = program_of(alloc, query, moment, catalogue)?;
-    let (rows, _plan) = planned_rows(alloc, program.get(), catalogue)?;
-    Ok(rows)
+    let program = program_of(alloc, query, None, catalogue)?;
+    let (answer, _plan) = planned_rows(rt, alloc, program.get(), catalogue, crew, gate)?;
+    let Answer { table, report } = answer;
+    reports.push(report)?;
+    Ok(table)
 }
 
 /// The plan of a program: what it is settled to.
@@ -71,22 +82,36 @@ pub(crate) fn plan_of(alloc: Global, program: &Program) -> Result<Boxed<Program>
     Ok(plan)
 }
 
-/// The rows of a program over the tables that it fits, and the plan that they were answered by: they are what this very plan means.
+/// The rows of a program over the tables that it fits, the phases that made them, and the plan that they were answered by: they are what
+/// this very plan means.
 #[tactic(auto, using(crate::proofs::PlanFacts::plan_facts))]
-pub(crate) fn planned_rows(
+pub(crate) fn planned_rows<R: Threads + Sync, G: Gate + Sync>(
+    rt: &R,
     alloc: Global,
     program: &Program,
     catalogue: &Catalogue,
-) -> Result<(Table, Boxed<Program>), AllocError>
+    crew: Crew,
+    gate: &G,
+) -> Result<(Answer, Boxed<Program>), AllocError>
+    requires crew { IsCrew crew }
     requires fits { IsTrue (fits program.now (schemas_of catalogue.now)) }
-    ensures rows { IfOk result (λ made. made.0 ≡ means program.now catalogue.now) }
+    ensures rows { IfOk result (λ made. made.0.table ≡ means program.now catalogue.now) }
     ensures plan { IfOk result (λ made. IsPlanOf program.now made.1) }
-    ensures evaluated { IfOk result (λ made. made.0 ≡ means made.1 catalogue.now) }
+    ensures evaluated { IfOk result (λ made. made.0.table ≡ means made.1 catalogue.now) }
+    ensures report { IfOk result (λ made. IsReportOf crew.workers made.1 made.0.report) }
 {
     know_tables(catalogue.tables());
     let plan = plan_of(alloc, program)?;
-    let rows = plain(alloc, plan.get(), catalogue)?;
-    Ok((rows, plan))
+    let answer = run_plan(
+        rt,
+        alloc,
+        plan.get(),
+        catalogue,
+        crew.workers,
+        crew.sizes,
+        gate,
+    )?;
+    Ok((answer, plan))
 }
 
 // Each table's rows fit its columns, and no two of these have one name: so tables are made.
@@ -109,9 +134,9 @@ fn columns_differ(schemas: &[NamedSchema])
     }
 }
 
-// The program that the query is bound to, which fits the tables.
+/// The program that a query is bound to, which fits the tables, or binding's first refusal. `moment` is what `now()` stands for.
 #[tactic(auto, using(crate::proofs::BoundFacts::bound_facts), unfolding(crate::specs::Queries::program_of))]
-fn program_of(
+pub fn program_of(
     alloc: Global,
     query: &Query,
     moment: Option<i64>,

@@ -2,6 +2,7 @@
 #![tactic(auto)]
 
 mod bound;
+mod crew;
 mod ended;
 mod evaluate;
 mod files;
@@ -12,7 +13,12 @@ mod steps;
 mod top;
 mod trial;
 
-pub use ended::{Ended, status};
+pub use ended::{Ended, Reports, status};
+pub use evaluate::program_of;
+pub use files::{read_query, read_table};
 pub use kql_words::Refusal;
+pub use lines::line_of;
 pub use memory::kql_in_memory;
-pub use top::kql;
+pub use phase_run::{PhaseReport, Report, Sizes};
+pub use refusal::Stop;
+pub use top::{kql, kql_in_pieces};

@@ -5,7 +5,7 @@ use kql_words::Refusal;
 use std::alloc::{AllocError, Global};
 
 /// The line of a refusal, with its line feed.
-pub(crate) fn line_of(alloc: Global, refusal: Refusal) -> Result<String, AllocError>
+pub fn line_of(alloc: Global, refusal: Refusal) -> Result<String, AllocError>
     ensures { IfOk result (λ line. string_bytes line ≡ line_of refusal) }
 {
     match refusal {
@@ -125,6 +125,8 @@ fn usage_name(code: u32) -> &'static str
         608 => "TableTwice",
         609 => "BadCount",
         610 => "TooManyTables",
+        611 => "EmptyPath",
+        612 => "NoTable",
         _ => "",
     }
 }
@@ -166,6 +168,7 @@ fn catalogue_name(code: u32) -> &'static str
         312 => "HeaderDiffers",
         313 => "TooManyFiles",
         314 => "CatalogueTooLong",
+        315 => "SchemaDiffers",
         _ => "",
     }
 }

@@ -3,6 +3,7 @@ ghost use Rattle.kql_program.specs.Answer.{HasOneAnswer};
 ghost use Rattle.kql_words.specs.Command.{texts};
 ghost use Rattle.kql_program.specs.InMemory.{Answered, HasRoomForMemoryLine, RunsOut, in_memory};
 ghost use Rattle.kql_program.specs.Outcomes.{HasOutcome, outside};
+ghost use Rattle.kql_program.specs.Workers.{IsByWorkers};
 
 use crate::ended::Ended;
 use crate::top::kql;
@@ -31,6 +32,8 @@ pub fn kql_in_memory<R: Threads + Sync, G: Gate + Sync>(
 
     ensures answers { HasRoomForMemoryLine err.old →
         Answered (texts words.now) shelf.old.files out.old out.new err.old err.new result ⊎ RunsOut out.old out.new err.old err.new result }
+
+    ensures workers { IsByWorkers (texts words.now) result }
 
     ensures one { HasOneAnswer (texts words.now) shelf.old.files }
 {

@@ -2,18 +2,21 @@ ghost use Rattle.std.specs.Prelude.{◌≡◌, ◌≤◌, ◌<◌, ◌+◌, IfSo
 ghost use Rattle.kql_cells.specs.Values.{IsMoment};
 ghost use Rattle.kql_program.specs.Answer.{HasOneAnswer};
 ghost use Rattle.kql_program.specs.Calls.{EndsAtWrite, HeedsFaults, LineEndsAtWrite, StartsFor, calls_now};
+ghost use Rattle.kql_program.specs.Workers.{IsBy, IsByWorkers, IsCrew};
 ghost use Rattle.kql_words.specs.Command.{AreTables, IfAsks, command_of, texts};
 ghost use Rattle.kql_words.specs.Sizes.{size_top};
 ghost use Rattle.kql_program.specs.Outcomes.{HasOutcome, SinkNow, Writes, WritesStop, asked_in, outside, sink_now};
 ghost use Rattle.kql_program.specs.declared.refusal.Stop.TheVariants as stop;
 
 use crate::bound::Done;
+use crate::crew::{Crew, workers_for};
 use crate::ended::{Ended, ending_of};
 use crate::lines::line_of;
 use crate::refusal::Stop;
 use crate::steps::command_text;
 use kql_outside::{Gate, Shelf, Sink, write_all};
 use kql_words::{Command, Refusal, read_command};
+use phase_run::Sizes;
 use std::alloc::Global;
 use std::thread::Threads;
 
@@ -35,16 +38,18 @@ const MEMORY_LINE: &str = "kql: out of memory\n";
 /// as the query is written, and `explain` writes the text of the plan in place of a table; it reads the table files all the same, whose columns decide
 /// what the plan is.
 ///
-/// The text is made whole before its first byte is written. No result depends on the runtime, on N or on `gate`: no worker is started
-/// yet, and no gate entered.
+/// `run` and `trial` evaluate by N workers, and where no number is given by as many as the machine has processors, but no more than eight. Each
+/// takes pieces of the rows, and enters `gate` with each. A worker that wants memory stops the others, and the answer is want of memory. The
+/// text is made whole before its first byte is written. What is answered depends neither on the runtime, on N or on `gate`, nor on who takes which
+/// piece and when.
 pub fn kql<R: Threads + Sync, F: Shelf, O: Sink, E: Sink, G: Gate + Sync>(
-    _rt: &R,
+    rt: &R,
     alloc: Global,
     words: &[String],
     shelf: &mut F,
     out: &mut O,
     err: &mut E,
-    _gate: &G,
+    gate: &G,
 ) -> Ended
     ensures files { F.files shelf.new ≡ F.files shelf.old }
 
@@ -57,27 +62,63 @@ pub fn kql<R: Threads + Sync, F: Shelf, O: Sink, E: Sink, G: Gate + Sync>(
     // that tells a read fault.
     ensures heeds { HeedsFaults (calls_now (F.calls shelf.old) (O.calls out.old) (E.calls err.old)) (calls_now (F.calls shelf.new) (O.calls out.new) (E.calls err.new)) result }
 
-    // No other file is started where the query has a fault of its own: in its file, its tokens or its syntax.
+    // No other file is started where the query has a fault of its own: in its file, its tokens or its syntax. The files of the tables are started one after
+    // another, none behind one that is refused, and none of a catalogue's own where its file or one of its entries is refused.
     ensures starts { StartsFor (texts words.now) (F.files shelf.old) (asked_in (command_of (texts words.now))) (F.starts shelf.old) (F.starts shelf.new) }
+
+    // The phases that the ending tells of ran by as many workers as the words ask for, each of their pieces once.
+    ensures workers { IsByWorkers (texts words.now) result }
 
     // Where the files are told there is one answer; of `explain` one refusal, or texts of plans of the one program that the query is bound to.
     ensures one { IfSome (F.files shelf.old) (λ files. HasOneAnswer (texts words.now) files) }
 {
+    kql_in_pieces(rt, alloc, words, shelf, out, err, gate, Sizes::usual())
+}
+
+/// `kql` where the pieces of rows that a worker takes have other sizes. What is answered does not depend on them.
+pub fn kql_in_pieces<R: Threads + Sync, F: Shelf, O: Sink, E: Sink, G: Gate + Sync>(
+    rt: &R,
+    alloc: Global,
+    words: &[String],
+    shelf: &mut F,
+    out: &mut O,
+    err: &mut E,
+    gate: &G,
+    sizes: Sizes,
+) -> Ended
+    requires sizes { 0 < sizes.piece_rows }
+    ensures files { F.files shelf.new ≡ F.files shelf.old }
+    ensures outcome { let out_at : O → SinkNow = λ o. sink_now (O.written o) (O.room o) (O.faults o) in
+        let err_at : E → SinkNow = λ e. sink_now (E.written e) (E.room e) (E.faults e) in
+        HasOutcome (texts words.now) (F.files shelf.old) (outside (F.faults shelf.old) (out_at out.old) (err_at err.old)) (outside (F.faults shelf.new) (out_at out.new) (err_at err.new)) result }
+    ensures heeds { HeedsFaults (calls_now (F.calls shelf.old) (O.calls out.old) (E.calls err.old)) (calls_now (F.calls shelf.new) (O.calls out.new) (E.calls err.new)) result }
+    ensures starts { StartsFor (texts words.now) (F.files shelf.old) (asked_in (command_of (texts words.now))) (F.starts shelf.old) (F.starts shelf.new) }
+    ensures workers { IsByWorkers (texts words.now) result }
+    ensures one { IfSome (F.files shelf.old) (λ files. HasOneAnswer (texts words.now) files) }
+{
     match read_command(words) {
-        Ok(command) => answer_command(alloc, words, command, shelf, out, err),
+        Ok(command) => {
+            let workers = workers_for(rt, &command);
+            let crew = Crew { workers, sizes };
+            answer_command(rt, alloc, words, command, shelf, out, err, crew, gate)
+        }
         Err(refusal) => write_refusal(alloc, err, refusal),
     }
 }
 
 // Answers a command, which these words are.
-fn answer_command<F: Shelf, O: Sink, E: Sink>(
+fn answer_command<R: Threads + Sync, F: Shelf, O: Sink, E: Sink, G: Gate + Sync>(
+    rt: &R,
     alloc: Global,
     words: &[String],
     command: Command,
     shelf: &mut F,
     out: &mut O,
     err: &mut E,
+    crew: Crew,
+    gate: &G,
 ) -> Ended
+    requires crew { IsCrew crew }
     requires read { Ok command ≡ command_of (texts words.now) }
     requires within { IfAsks (λ a. a.query < length words.now) command }
     requires tables { IfAsks (λ a. AreTables (texts (drop (a.query + 1) words.now))) command }
@@ -90,8 +131,9 @@ fn answer_command<F: Shelf, O: Sink, E: Sink>(
         HasOutcome (texts words.now) (F.files shelf.old) (outside (F.faults shelf.old) (out_at out.old) (err_at err.old)) (outside (F.faults shelf.new) (out_at out.new) (err_at err.new)) result }
     ensures heeds { HeedsFaults (calls_now (F.calls shelf.old) (O.calls out.old) (E.calls err.old)) (calls_now (F.calls shelf.new) (O.calls out.new) (E.calls err.new)) result }
     ensures starts { StartsFor (texts words.now) (F.files shelf.old) (asked_in (command_of (texts words.now))) (F.starts shelf.old) (F.starts shelf.new) }
+    ensures by { IsBy crew.workers result }
 {
-    match command_text(alloc, words, command, shelf) {
+    match command_text(rt, alloc, words, command, shelf, crew, gate) {
         Ok(Done { text, ended }) => write_ending(out, text.as_slice(), ended),
         Err(stop) => write_stop(alloc, err, stop),
     }

@@ -78,7 +78,7 @@ pub(crate) fn name_of(ended: &Ended) -> &'static str {
         Ended::Table { .. } => "Table",
         Ended::PlainTable => "PlainTable",
         Ended::Explained { .. } => "Explained",
-        Ended::Trial => "Trial",
+        Ended::Trial { .. } => "Trial",
         Ended::QueryRefused { .. } => "QueryRefused",
         Ended::Usage { .. } => "Usage",
         Ended::DataRefused { .. } => "DataRefused",

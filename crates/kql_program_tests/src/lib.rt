@@ -9,3 +9,5 @@ mod catalogues;
 mod faults;
 #[cfg(test)]
 mod refusals;
+#[cfg(test)]
+mod workers;

@@ -10,7 +10,7 @@ use Rattle.catalogue_tables.proofs.TableFacts.{entries-end, entries-next, entrie
 use Rattle.catalogue_tables.proofs.tables.add_entries.Goals as goal
 
 pub add_entry-requires-clause-clean : goal.add_entry-requires-clause-clean
-add_entry-requires-clause-clean g c = first-clean (map table_name c.entries.tables) c.entries.count c.in-Some.entry.now c.in-Some.more.now c.entries.left.now c.in-Some.ensures.cases.0 c.entries.invariant.clean
+add_entry-requires-clause-clean g c κs within = first-clean (map table_name c.entries.tables) c.entries.count c.in-Some.entry.now c.in-Some.more.now c.entries.left.now c.in-Some.ensures.cases.0 c.entries.invariant.clean
 
 pub returns-in_err-room-clause-tables : goal.returns-in_err-room-clause-tables
 returns-in_err-room-clause-tables g c =

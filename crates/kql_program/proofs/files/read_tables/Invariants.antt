@@ -6,6 +6,7 @@ use Rattle.kql_words.specs.Command.{name_in, texts}
 use Rattle.kql_words.specs.Sizes.{size_top}
 use Rattle.kql_program.specs.Files.{tables_behind, tables_from, tables_of}
 use Rattle.kql_program.specs.Refusals.{after}
+use Rattle.kql_program.proofs.StartFacts.{StartsLead}
 use Rattle.kql_program.proofs.files.read_tables.Given as goal
 
 abbrev pub invariant-loop-i : goal.invariant-loop-i
@@ -14,6 +15,7 @@ invariant-loop-i g l = record {
   names : map table_name l.tables ≡ map name_in (texts (take l.i l.words));
   files : g.F.Shelf.files l.shelf ≡ g.F.Shelf.files l.initial.shelf;
   calls : NoneFailed (g.F.Shelf.calls l.initial.shelf) (g.F.Shelf.calls l.shelf);
+  starts : IfSome (g.F.Shelf.files l.initial.shelf) (λ files. StartsLead files (option_map (λ path. path.now) l.catalogue) l.limit l.words l.i l.room (g.F.Shelf.starts l.initial.shelf) (g.F.Shelf.starts l.shelf));
   later : g.F.Shelf.faults l.initial.shelf ≤ g.F.Shelf.faults l.shelf;
   left : IfSome (g.F.Shelf.files l.initial.shelf) (λ files. after l.tables (tables_from files (tables_behind files (map name_in (texts l.words)) (option_map (λ path. path.now) l.catalogue)) (l.i + 1) l.room (drop l.i (texts l.words))) ≡ tables_of files l.limit (option_map (λ path. path.now) l.catalogue) (texts l.words));
 }

@@ -3,6 +3,7 @@ use Rattle.kql_program.proofs.StepFacts.{parsed-fault, parsed-bound}
 use Rattle.kql_program.proofs.WordFacts.{raised-words, syntax-words}
 use Rattle.std.proofs.Common.{refl}
 use Rattle.kql_program.proofs.CallFacts.{no-syntax-fault, syntax-stops}
+use Rattle.kql_program.proofs.StartFacts.{none-start}
 use Rattle.kql_program.proofs.steps.parsed_bound.Goals as goal
 
 pub returns-in_err-query-clause-bound : goal.returns-in_err-query-clause-bound
@@ -17,5 +18,8 @@ returns-in_err-query-clause-words g c = raised-words _ _ c.from_residual.ensures
 pub returns-in_err-query-clause-stops : goal.returns-in_err-query-clause-stops
 returns-in_err-query-clause-stops g c = syntax-stops _ _ _ _ c.from_residual.ensures.1 refl
 
-pub returns-clause-starts : goal.returns-clause-starts
-returns-clause-starts g c = λ code place r. no-syntax-fault _ _ _ code place c.in_ok-query.ensures.parsed r
+pub returns-clause-alone : goal.returns-clause-alone
+returns-clause-alone g c = λ code place r. no-syntax-fault _ _ _ code place c.in_ok-query.ensures.parsed r
+
+pub returns-in_err-query-clause-starts : goal.returns-in_err-query-clause-starts
+returns-in_err-query-clause-starts g c = none-start _ c.args.options.limit _ (texts c.args.words.now) _ _ refl

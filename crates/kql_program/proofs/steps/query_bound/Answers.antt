@@ -3,7 +3,8 @@ use Rattle.std.specs.Prelude.{string_bytes}
 use Rattle.kql_words.specs.Command.{texts}
 use Rattle.kql_program.proofs.StepFacts.{asked-parsed, asked-tokens, path-asked}
 use Rattle.kql_program.proofs.WordFacts.{raised-words, stopped-words}
-use Rattle.kql_program.proofs.CallFacts.{query-alone, raised-stops, reads-behind, told-starts}
+use Rattle.kql_program.proofs.CallFacts.{query-alone, raised-stops, reads-behind}
+use Rattle.kql_program.proofs.StartFacts.{query-start, tables-start}
 use Rattle.kql_program.proofs.steps.query_bound.Goals as goal
 
 pub returns-in_err-tokens-clause-bound : goal.returns-in_err-tokens-clause-bound
@@ -26,9 +27,10 @@ pub returns-clause-stops : goal.returns-clause-stops
 returns-clause-stops g c = reads-behind _ _ _ _ c.in_ok-tokens.ensures.stops c.parsed_bound.ensures.stops
 
 pub returns-in_err-tokens-clause-starts : goal.returns-in_err-tokens-clause-starts
-returns-in_err-tokens-clause-starts g c = told-starts _ (texts c.args.words.now) c.args.asked _ _ c.in_err-tokens.ensures.starts
+returns-in_err-tokens-clause-starts g c = query-start _ (texts c.args.words.now) c.args.asked _ _ c.in_err-tokens.ensures.starts
 
 pub returns-clause-starts : goal.returns-clause-starts
 returns-clause-starts g c =
     let path = c.as_str.ensures.value ∙ ap string_bytes c.index-words-asked.is in
-    query-alone _ (texts c.args.words.now) c.as_str.result.now c.args.asked _ _ _ _ (path-asked c.args.words.now c.args.asked _ c.as_str.result.now c.requires.within path) c.in_ok-tokens.ensures.tokens c.in_ok-tokens.ensures.starts c.parsed_bound.ensures.starts
+    let own = query-alone _ (texts c.args.words.now) c.as_str.result.now c.args.asked _ _ _ _ (path-asked c.args.words.now c.args.asked _ c.as_str.result.now c.requires.within path) c.in_ok-tokens.ensures.tokens c.in_ok-tokens.ensures.starts c.parsed_bound.ensures.alone in
+    tables-start _ _ c.args.words.now _ c.args.asked _ _ _ _ refl c.catalogue_path-catalogue.ensures.path c.in_ok-tokens.ensures.files c.in_ok-tokens.ensures.starts own c.parsed_bound.ensures.starts

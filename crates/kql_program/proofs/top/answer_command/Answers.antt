@@ -2,6 +2,7 @@ use Rattle.std.proofs.Common.{refl, ap}
 use Rattle.std.specs.Prelude.{Err}
 use Rattle.kql_program.proofs.OutcomeFacts.{outcome-stop, outcome-text}
 use Rattle.kql_program.proofs.CallFacts.{heeds-line, heeds-text, starts-asked}
+use Rattle.kql_program.proofs.WorkerFacts.{stopped-by, written-by}
 use Rattle.kql_program.proofs.top.answer_command.Goals as goal
 
 pub returns-in-Ok-clause-outcome : goal.returns-in-Ok-clause-outcome
@@ -23,3 +24,9 @@ returns-in-Ok-clause-starts g c = starts-asked _ _ c.args.command _ _ c.requires
 
 pub returns-in-Err-clause-starts : goal.returns-in-Err-clause-starts
 returns-in-Err-clause-starts g c = starts-asked _ _ c.args.command _ _ c.requires.read c.in-Err.ensures.starts
+
+pub returns-in-Ok-clause-by : goal.returns-in-Ok-clause-by
+returns-in-Ok-clause-by g c = written-by c.args.crew.workers _ _ _ _ _ c.in-Ok.ensures.by c.write_ending.ensures.written
+
+pub returns-in-Err-clause-by : goal.returns-in-Err-clause-by
+returns-in-Err-clause-by g c = stopped-by c.args.crew.workers _ _ _ _ c.write_stop.ensures.written
