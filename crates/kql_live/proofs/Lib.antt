@@ -1,0 +1,6 @@
+mod LiveFileFacts
+mod LiveStepFacts
+mod LiveRunFacts
+mod LiveCallFacts
+mod LiveOutcomeFacts
+mod LiveOneFacts

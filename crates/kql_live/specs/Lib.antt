@@ -1,0 +1,5 @@
+pub mod LiveEndings
+pub mod LiveFiles
+pub mod LiveAnswer
+pub mod LiveOutcomes
+pub mod LiveCalls

@@ -1,0 +1,2 @@
+mod CrossingLaws
+mod WatchFacts

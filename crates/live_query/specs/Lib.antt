@@ -1,0 +1,2 @@
+pub mod LiveMeaning
+pub mod Watching

@@ -1,0 +1,3 @@
+pub mod LiveReaders
+pub mod LiveOptionWords
+pub mod LiveWords
