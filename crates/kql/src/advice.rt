@@ -11,6 +11,9 @@ use kql_words::{Asked, Command, read_command, table_parts};
 use std::thread::Threads;
 use std::{fs, io};
 
+// For how long a word at the place of a refusal another one is looked for: each is compared with all others there are, byte by byte.
+const WORD_TOP: usize = 1_000;
+
 // What is told where `run` has `-e` or `-q`.
 const WITHOUT_RUN: &str =
     "A query on the command line stands without run: kql -e 'QUERY' NAME=PATH";
@@ -128,8 +131,8 @@ fn query_told<T: Threads + Sync>(
     byte: usize,
 ) -> io::Result<String> {
     let text = query_text(rt, words, query)?;
-    if text.is_empty() {
-        return Ok(text);
+    if text.is_empty() || has_long_word(text.as_bytes(), byte) {
+        return Ok(String::new(rt.alloc()));
     }
     let headers = headers_of(rt, words)?;
     let seen = columns_at(rt, threads, words, &headers, text.as_str(), code, byte)?;
@@ -149,6 +152,24 @@ fn query_told<T: Threads + Sync>(
         columns: columns.as_slice(),
     };
     Ok(query_message(rt.alloc(), &refused)?)
+}
+
+// Whether what stands at a place is long up to the next sign that ends a name.
+fn has_long_word(text: &[u8], byte: usize) -> bool {
+    let mut length = 0usize;
+    for c in text.get(byte..).unwrap_or(&[]) {
+        if matches!(
+            *c,
+            b'\n' | b'|' | b',' | b';' | b'(' | b')' | b'=' | b'<' | b'>' | b'!'
+        ) {
+            return false;
+        }
+        length = length.saturating_add(1);
+        if length > WORD_TOP {
+            return true;
+        }
+    }
+    false
 }
 
 // The names of the files in the folder of a path.

@@ -26,6 +26,7 @@ kql: answers a query of the Kusto Query Language over tables in CSV files.
     kql plain [OPTION ..] QUERY NAME=PATH ..
     kql explain [OPTION ..] QUERY NAME=PATH ..
     kql trial ROWS SEED [--workers N]
+    kql live [--readers R] [--now T] [--watch] QUERY NAME=PATH PATH ..
 
 Behind -e stands a query, and behind -q its file; FILE is NAME=PATH or a path, whose
 table has the file's name, and - is the standard input. FORM is csv, table, json or
@@ -37,13 +38,15 @@ CSV file of a table. The answer is CSV on standard output. A query or file that 
 is told in one line on standard error, with its place. plain answers as run, one
 operator after another on one thread. explain prints the plan by which run
 answers. trial answers five stored queries over a log of ROWS lines that SEED
-makes up, with a line for each.
+makes up, with a line for each. live answers over a table that grows by the further
+files while R readers ask, 2 where R is not given; --watch shows each answer that
+differs from the one before.
 
     --now T           the datetime that now() is, as 2024-03-01 or 2024-03-01T10:00
     --limit SIZE      how many bytes the files may have together, as 1GiB; else 64 MiB
     --catalogue FILE  a file of JSON that names tables, with their columns and files
     --types           the header of an answer as CSV has the types too; not of explain
-    --workers N       how many workers share the work, 1 to 64; without effect yet
+    --workers N       how many workers share the work, 1 to 64; else a processor each, to 8
     kql --help        this text
     kql --version     the version
     kql help          the topics of help: each operator, function and refusal
@@ -106,7 +109,7 @@ fn asks_for_help(words: &[String]) -> bool {
 // The text of a command, or that of all.
 fn help_on(command: &str) -> Help {
     match command {
-        "run" | "plain" | "explain" | "trial" | "show" | "schema" | "types" => {
+        "run" | "plain" | "explain" | "trial" | "live" | "show" | "schema" | "types" => {
             match topic_text(command) {
                 Some(text) => Help::Text(text),
                 None => Help::Text(HELP),

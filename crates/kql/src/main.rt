@@ -4,7 +4,7 @@
 mod advice;
 mod caret;
 mod help;
-mod losses;
+mod output;
 mod probe;
 mod query;
 mod refuse;
@@ -12,16 +12,20 @@ mod screen;
 mod shell;
 mod shown;
 mod types;
+mod under;
 
 use help::{Help, USAGE, told};
+use kql_live::{kql_live, live_status};
 use kql_outside::{DirShelf, OpenGate, StreamSink};
 use kql_program::{Ended, kql, status};
 use kql_shell::Verb;
+use output::{tell_cause, tell_fault, watched};
 use shell::run_shell;
 use shown::{Asked, show_more};
 use std::io::{ErrorKind, IsTerminal};
 use std::process::ExitCode;
 use std::rt::Env;
+use std::sync::Wait;
 use std::thread::Threads;
 use std::{env, io};
 use types::run_types;
@@ -40,7 +44,10 @@ fn tell(rt: &HostRuntime, help: Help) -> io::Result<ExitCode> {
     match help {
         Help::Text(text) => match rt.print(text) {
             Ok(()) => Ok(ExitCode::SUCCESS),
-            Err(_) => Ok(ExitCode::from(status(&Ended::WriteFault))),
+            Err(error) => {
+                tell_cause(rt, error.kind());
+                Ok(ExitCode::from(status(&Ended::WriteFault)))
+            }
         },
         Help::Usage => {
             rt.print(USAGE)?;
@@ -97,19 +104,54 @@ fn run_top<T: Threads + Sync>(
     words: &[String],
 ) -> io::Result<ExitCode> {
     let mut shelf = DirShelf::new(rt);
-    let mut out = StreamSink::new(rt.stdout());
+    let mut out = watched(rt);
+    let mut sink = StreamSink::new(&mut out);
     let mut err = StreamSink::new(rt.stderr());
     let ended = kql(
         threads,
         rt.alloc(),
         words,
         &mut shelf,
-        &mut out,
+        &mut sink,
         &mut err,
         &OpenGate,
     );
+    drop(sink);
+    tell_fault(rt, &out);
     show_more(rt, threads, Asked { words, query: None }, &ended);
     Ok(ExitCode::from(status(&ended)))
+}
+
+// Answers the words of `live`, by a top call of their own.
+fn run_live<T: Threads + Wait + Sync>(
+    rt: &HostRuntime,
+    threads: &T,
+    words: &[String],
+) -> io::Result<ExitCode> {
+    let mut shelf = DirShelf::new(rt);
+    let mut out = watched(rt);
+    let mut sink = StreamSink::new(&mut out);
+    let mut err = StreamSink::new(rt.stderr());
+    let ended = kql_live(
+        threads,
+        rt.alloc(),
+        words,
+        &mut shelf,
+        &mut sink,
+        &mut err,
+        &OpenGate,
+    );
+    drop(sink);
+    tell_fault(rt, &out);
+    Ok(ExitCode::from(live_status(&ended)))
+}
+
+// Whether the words are those of `live`.
+fn is_live(words: &[String]) -> bool {
+    match words.first() {
+        Some(word) => word.as_str() == "live",
+        None => false,
+    }
 }
 
 fn main(rt: HostRuntime) -> io::Result<ExitCode> {
@@ -122,6 +164,9 @@ fn main(rt: HostRuntime) -> io::Result<ExitCode> {
     }
     if words.is_empty() && rt.stdout().is_terminal() {
         return tell(&rt, Help::Usage);
+    }
+    if is_live(&words) {
+        return run_live(&rt, &rt, &words);
     }
     match verb_of(&words) {
         Some(Verb::Types) => run_types(&rt, &words),

@@ -95,8 +95,8 @@ fn header_in(rt: &HostRuntime, path: &str) -> Vec<u8> {
     bytes
 }
 
-// The catalogue of a command, where it can be read again.
-fn catalogue_of(rt: &HostRuntime, words: &[String]) -> Option<CatalogueFile> {
+/// The catalogue of a command, where it can be read again.
+pub(crate) fn catalogue_of(rt: &HostRuntime, words: &[String]) -> Option<CatalogueFile> {
     let path = words.get(asked_in(words)?.options.catalogue?)?;
     let bytes = front_of(rt, path.as_str(), CATALOGUE_TOP)?;
     read_catalogue(rt.alloc(), bytes.as_slice()).ok()

@@ -1,9 +1,11 @@
 //! The lines that the shell itself writes, and the endings after them.
 
 use crate::advice;
+use crate::output::{tell_fault, watched};
 use crate::shown::show_meaning;
 use kql_help::topic_text;
 use kql_messages::RefusedFile;
+use kql_outside::{StreamSink, write_all};
 use kql_program::{Ended, status};
 use std::io;
 use std::io::IsTerminal;
@@ -93,8 +95,12 @@ pub(crate) fn no_proposal(rt: &HostRuntime) -> io::Result<ExitCode> {
 
 /// Writes a text to the output, and answers the status.
 pub(crate) fn write_out(rt: &HostRuntime, text: &[u8]) -> ExitCode {
-    let mut out = kql_outside::StreamSink::new(rt.stdout());
-    match kql_outside::write_all(&mut out, text) {
+    let mut out = watched(rt);
+    let mut sink = StreamSink::new(&mut out);
+    let written = write_all(&mut sink, text);
+    drop(sink);
+    tell_fault(rt, &out);
+    match written {
         Ok(()) => ExitCode::SUCCESS,
         Err(_) => ExitCode::from(status(&Ended::WriteFault)),
     }

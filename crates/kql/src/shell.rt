@@ -1,5 +1,6 @@
 //! The commands around the top call: a query of the command line, `show` and `schema`.
 
+use crate::output::{tell_fault, watched};
 use crate::query::{Query, path_of, query_of, word_at};
 use crate::refuse::{csv_alone, no_memory, read_fault, refuse_file, refuse_word, write_out};
 use crate::screen::look;
@@ -144,8 +145,11 @@ fn answer<T: Threads + Sync>(
     shows_all: bool,
 ) -> io::Result<ExitCode> {
     if form == Form::Csv {
-        let mut out = StreamSink::new(rt.stdout());
-        let ended = run_call(rt, threads, call, &mut out);
+        let mut out = watched(rt);
+        let mut sink = StreamSink::new(&mut out);
+        let ended = run_call(rt, threads, call, &mut sink);
+        drop(sink);
+        tell_fault(rt, &out);
         show_call(rt, threads, call, &ended);
         return Ok(ExitCode::from(status(&ended)));
     }
@@ -285,7 +289,7 @@ fn run_schema<T: Threads + Sync>(
         return no_memory(rt);
     }
     let code = match &ended {
-        Ended::Table { plan } => match listing(rt, plan.get(), &call.made.words, out.bytes()) {
+        Ended::Table { plan, .. } => match listing(rt, plan.get(), &call.made.words, out.bytes()) {
             Ok(table) => write_table(rt, &table, form, request.shows_all),
             Err(_) => no_memory(rt),
         },

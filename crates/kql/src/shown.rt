@@ -1,7 +1,7 @@
 //! What a terminal is shown of a refusal beside its line.
 
 use crate::advice::{self, asked_in};
-use crate::{caret, losses};
+use crate::{caret, under};
 use kql_lexer::Place;
 use kql_program::Ended;
 use std::io;
@@ -15,7 +15,8 @@ pub(crate) struct Asked<'a> {
     pub query: Option<&'a str>,
 }
 
-/// Shows a terminal more of a call that ended, behind what it wrote: of a refusal more than its line, and what its tables lost of JSON. What cannot be shown is left out.
+/// Shows a terminal more of a call that ended, behind what it wrote: of a refusal more than its line, and of an answer what its files have that may
+/// surprise. What cannot be shown is left out.
 pub(crate) fn show_more<T: Threads + Sync>(
     rt: &HostRuntime,
     threads: &T,
@@ -43,7 +44,11 @@ fn told<T: Threads + Sync>(
 ) -> io::Result<()> {
     match ended {
         // Lines under an answer are told here.
-        Ended::Table { plan } => return losses::tell(rt, asked.words, plan.get().tables.schemas()),
+        Ended::Table { plan, .. } => return under::tell(
+            rt,
+            asked.words,
+            plan.get().tables.schemas(),
+        ),
         Ended::PlainTable => return Ok(()),
         Ended::QueryRefused { place, .. } => show_place(rt, asked, *place)?,
         _ => {}

@@ -42,6 +42,7 @@ of_queries =
     (codes "plain" ∷ [], queries.PLAIN.now) ∷
     (codes "explain" ∷ [], queries.EXPLAIN.now) ∷
     (codes "trial" ∷ [], queries.TRIAL.now) ∷
+    (codes "live" ∷ [], queries.LIVE.now) ∷
     (codes "query" ∷ [], queries.QUERY.now) ∷
     (codes "literals" ∷ codes "words" ∷ [], queries.LITERALS.now) ∷
     (codes "let" ∷ [], queries.LET.now) ∷
@@ -117,6 +118,8 @@ of_word_codes =
     (codes "608" ∷ [], word_codes.TABLE_TWICE.now) ∷
     (codes "609" ∷ [], word_codes.BAD_COUNT.now) ∷
     (codes "610" ∷ [], word_codes.TOO_MANY_TABLES.now) ∷
+    (codes "611" ∷ [], word_codes.EMPTY_PATH.now) ∷
+    (codes "612" ∷ [], word_codes.NO_TABLE.now) ∷
     []
 
 -- the codes of a query that is refused for its text
@@ -173,6 +176,7 @@ of_file_codes =
     (codes "312" ∷ [], file_codes.HEADER_DIFFERS.now) ∷
     (codes "313" ∷ [], file_codes.TOO_MANY_FILES.now) ∷
     (codes "314" ∷ [], file_codes.CATALOGUE_TOO_LONG.now) ∷
+    (codes "315" ∷ [], file_codes.SCHEMA_DIFFERS.now) ∷
     []
 
 -- all topics

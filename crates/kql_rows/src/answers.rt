@@ -3,14 +3,15 @@
 //! A line that begins with `#` is a heading, which tells what the lines under it show and forgets the tables so far. A line `NAME=TEXT` gives the
 //! table NAME its text of CSV, or where there is a `.` in NAME the file of that path its text, and a line `> WORDS` the words in front of the query's, which are `run` where there is no such line. Every other
 //! line is a row: a query, a tab, and the text that it is answered, or `! ` and the line of its refusal; where there is no `> `, `plain` must
-//! answer the same, and `explain` must be refused alike or not at all. What stands behind a second tab is a row of its own: the text that
+//! answer the same, and `explain` must be refused alike or not at all. One worker and three, who take two rows at a time, must answer as
+//! `run` does, or as the words say. What stands behind a second tab is a row of its own: the text that
 //! `explain` prints of the query. `⏎` stands for the end of a line, and none stands at the end of a text. A row that begins with `$ ` has all
 //! words of the command in place of a query, where the file `q` has the query `print 1`.
 
 mod asked;
 mod seat;
 
-use crate::answers::asked::{answer, other_by_explain, other_by_plain};
+use crate::answers::asked::{answer, other_by_explain, other_by_plain, other_by_workers};
 use crate::answers::seat::Seat;
 use crate::counts::{Counts, tell, tell_no_row};
 use std::io;
@@ -47,6 +48,20 @@ fn told<R: Print>(
     Ok(counts.with_wrong())
 }
 
+// Checks that one worker and three answer as is found.
+fn by_workers<R: Print + AllocGlobal + Threads + Sync>(
+    rt: &R,
+    counts: Counts,
+    seat: &Seat,
+    asked: &str,
+    found: &str,
+) -> io::Result<Counts> {
+    let other = other_by_workers(rt, rt.alloc(), seat, "--workers 1", asked, found)?;
+    let counts = told(rt, counts, asked, "one worker", other)?;
+    let other = other_by_workers(rt, rt.alloc(), seat, "--workers 3", asked, found)?;
+    told(rt, counts, asked, "three workers", other)
+}
+
 // Checks a row: a query, what it is answered, and the text of its plan where that is told.
 fn checked<R: Print + AllocGlobal + Threads + Sync>(
     rt: &R,
@@ -65,6 +80,7 @@ fn checked<R: Print + AllocGlobal + Threads + Sync>(
     let counts = told(rt, counts, asked, "plain", other)?;
     let other = other_by_explain(rt, rt.alloc(), seat, asked, found.as_str())?;
     let counts = told(rt, counts, asked, "explain", other)?;
+    let counts = by_workers(rt, counts, seat, asked, found.as_str())?;
     let Some(plan) = plan else {
         return Ok(counts);
     };

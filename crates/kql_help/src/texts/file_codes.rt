@@ -128,6 +128,17 @@ The catalogue file has more than 1,048,576 bytes.
 It has names and paths alone; rows stand in the files of its tables.
 ";
 
+pub(crate) const SCHEMA_DIFFERS: &str = "\
+315 SchemaDiffers
+
+A further file of live has other columns than the opening table, by name, type or
+order; the column is the first that differs.
+
+    the opening table x:long, the file y:long  at 0:1
+
+Give its header the names and types of the opening table's.
+";
+
 /// The topics of these texts.
 pub(crate) const TOPICS: &[Topic] = &[
     Topic {
@@ -185,5 +196,9 @@ pub(crate) const TOPICS: &[Topic] = &[
     Topic {
         names: &["314"],
         text: CATALOGUE_TOO_LONG,
+    },
+    Topic {
+        names: &["315"],
+        text: SCHEMA_DIFFERS,
     },
 ];

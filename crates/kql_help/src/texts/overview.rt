@@ -5,7 +5,7 @@ use crate::topic::Topic;
 pub(crate) const OVERVIEW: &str = "\
 kql help TOPIC tells of one of these; kql --help has the words of the command.
 
-    Commands:    command, show, schema, types, run, plain, explain, trial
+    Commands:    command, show, schema, types, run, plain, explain, trial, live
     Beginners:   examples, cookbook, csv, json, limits
     Queries:     query, literals, let, range, print, union, columns; kusto has what
                  to write for what Kusto has and this language has not
@@ -37,17 +37,18 @@ Refusals, told in one line on standard error; kql help CODE has each
     304 ColumnTwice          305 BadLength            306 BadCell
     307 NoFile               308 TooLong              309 NotJson
     310 BadCatalogue         311 BadTableName         312 HeaderDiffers
-    313 TooManyFiles         314 CatalogueTooLong     401 UnknownColumn
-    402 UnknownFunction      403 WrongArguments       404 WrongType
-    405 UnsupportedType      406 UnsupportedFunction  407 NotSerialised
-    408 WindowHere           409 NoMoment             410 UnknownTable
-    411 ColumnTwice          412 TooManyColumns       413 BadStep
-    414 BadRange             415 TypeClash            416 NotInPartition
-    417 NameTwice            418 BadLiteral           419 NoColumns
+    313 TooManyFiles         314 CatalogueTooLong     315 SchemaDiffers
+    401 UnknownColumn        402 UnknownFunction      403 WrongArguments
+    404 WrongType            405 UnsupportedType      406 UnsupportedFunction
+    407 NotSerialised        408 WindowHere           409 NoMoment
+    410 UnknownTable         411 ColumnTwice          412 TooManyColumns
+    413 BadStep              414 BadRange             415 TypeClash
+    416 NotInPartition       417 NameTwice            418 BadLiteral
+    419 NoColumns
     601 NoCommand            602 UnknownCommand       603 UnknownOption
     604 OptionTwice          605 OptionValue          606 NoQuery
     607 BadTable             608 TableTwice           609 BadCount
-    610 TooManyTables
+    610 TooManyTables        611 EmptyPath            612 NoTable
 
 The first fault counts: of the words, the query's text, the table files, and then
 the names and types of the query. Nothing is written to standard output then.

@@ -9,8 +9,9 @@ Answers the query of the file QUERY over the tables of the words NAME=PATH, each
 a CSV file, and writes its table as CSV to standard output. --now gives the
 datetime that now() stands for. --limit is how many bytes the files may have
 together, as 2GiB, up to 1024GiB; 64MiB where it is not given. --types writes the
-types into the header of the answer. --workers, from 1 to 64, has no effect yet.
-The options stand before QUERY, in any order. A path may be /dev/stdin.
+types into the header of the answer. --workers, from 1 to 64, is how many share
+the work, and changes no answer; unless given, a processor each, but up to 8. The
+options stand before QUERY, in any order. A path may be /dev/stdin.
 
     kql run examples/errors.kql Requests=examples/requests.csv
 ";
@@ -19,7 +20,7 @@ pub(crate) const PLAIN: &str = "\
 kql plain [--now T] [--limit SIZE] [--types] [--workers N] QUERY NAME=PATH ..
 
 Takes the words of run and answers the same: it evaluates one operator after
-another on one thread.
+another on one thread, whatever --workers says.
 ";
 
 pub(crate) const EXPLAIN: &str = "\
@@ -46,6 +47,22 @@ many bytes the table's text. The same words give the same lines on every
 machine.
 
     kql trial 1000 1
+";
+
+pub(crate) const LIVE: &str = "\
+kql live [--readers R] [--now T] [--watch] QUERY NAME=PATH PATH ..
+
+Answers the query over a table that grows while it is queried: NAME=PATH is the
+opening table, and each further PATH, up to 63, a batch, a file of the same
+columns whose rows come behind those before it. While the batches are published
+one after another, so many readers, 1 to 8 and else 2, ask the query again and
+again, each in a thread of its own. What is written is the answer over all rows.
+With --watch it is the answer over the opening table and, after each batch, the
+answer until then where it differs from the one before, each under a line that
+tells after how many batches it holds. The files may have 67,108,864 bytes
+together.
+
+    kql live q.kql Visits=monday.csv tuesday.csv
 ";
 
 pub(crate) const QUERY: &str = "\
@@ -244,6 +261,10 @@ pub(crate) const TOPICS: &[Topic] = &[
     Topic {
         names: &["trial"],
         text: TRIAL,
+    },
+    Topic {
+        names: &["live"],
+        text: LIVE,
     },
     Topic {
         names: &["query"],

@@ -13,7 +13,7 @@ There is no word behind kql.
 pub(crate) const UNKNOWN_COMMAND: &str = "\
 602 UnknownCommand
 
-The first word is not run, plain, explain or trial, nor help or --version.
+The first word is not run, plain, explain, trial or live, nor help or --version.
 
     kql walk q                                 at word 0
 
@@ -92,6 +92,26 @@ Here stands the 65th table, or a word that is left over behind those of trial.
     kql trial 5 7 9                            at word 3
 ";
 
+pub(crate) const EMPTY_PATH: &str = "\
+611 EmptyPath
+
+A further path of live is the empty word.
+
+    kql live q T=t.csv \"\"                     at word 3
+
+Leave it out, or name the file.
+";
+
+pub(crate) const NO_TABLE: &str = "\
+612 NoTable
+
+No word of live is left for the opening table.
+
+    kql live q                                 at word 2
+
+It stands behind the query file: kql live q T=t.csv more.csv
+";
+
 /// The topics of these texts.
 pub(crate) const TOPICS: &[Topic] = &[
     Topic {
@@ -133,5 +153,13 @@ pub(crate) const TOPICS: &[Topic] = &[
     Topic {
         names: &["610"],
         text: TOO_MANY_TABLES,
+    },
+    Topic {
+        names: &["611"],
+        text: EMPTY_PATH,
+    },
+    Topic {
+        names: &["612"],
+        text: NO_TABLE,
     },
 ];

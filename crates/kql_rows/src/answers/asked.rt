@@ -1,7 +1,9 @@
 //! What the program answers.
+ghost use Rattle.std.specs.Prelude.{◌<◌};
+
 use crate::answers::seat::{NamedText, Seat, words_in};
 use kql_outside::{CleanShelf, CleanSink, OpenGate};
-use kql_program::{kql, status};
+use kql_program::{Sizes, kql_in_pieces, status};
 use std::alloc::{AllocError, Global};
 use std::str;
 use std::thread::Threads;
@@ -9,19 +11,32 @@ use std::thread::Threads;
 /// Room for a text that is written.
 const ROOM: usize = 1_048_576;
 
+/// Pieces of two rows.
+const PAIRS: Sizes = Sizes { piece_rows: 2 };
+
 fn file(alloc: Global, path: &str, text: &str) -> Result<(String, Vec<u8>), AllocError> {
     let path = String::from_str(alloc, path)?;
     let bytes = Vec::from_slice(alloc, text.as_bytes())?;
     Ok((path, bytes))
 }
 
-// The words of a query's command: this one, where the seat has no words.
-fn words_of(alloc: Global, seat: &Seat, command: &str) -> Result<Vec<String>, AllocError> {
+// The words of a query's command: this one, where the seat has no words, and behind it these options.
+fn words_of(
+    alloc: Global,
+    seat: &Seat,
+    command: &str,
+    options: &str,
+) -> Result<Vec<String>, AllocError> {
     let mut words = Vec::new(alloc);
-    if seat.words.is_empty() {
-        words.push(String::from_str(alloc, command)?)?;
+    let first = match seat.words.first() {
+        Some(word) => word.as_str(),
+        None => command,
+    };
+    words.push(String::from_str(alloc, first)?)?;
+    for option in options.split_whitespace() {
+        words.push(String::from_str(alloc, option)?)?;
     }
-    for word in &seat.words {
+    for word in seat.words.iter().skip(1) {
         words.push(String::from_str(alloc, word.as_str())?)?;
     }
     words.push(String::from_str(alloc, "q")?)?;
@@ -53,16 +68,21 @@ fn shown(alloc: Global, before: &str, bytes: &[u8]) -> Result<String, AllocError
     format!(in alloc; "{before}{}", text.as_str())
 }
 
-// What the program answers to words.
+// What the program answers to words, in pieces of these sizes.
 fn answer_to(
     rt: &(impl Threads + Sync),
     alloc: Global,
     words: &[String],
     shelf: &mut CleanShelf,
-) -> Result<String, AllocError> {
+    sizes: Sizes,
+) -> Result<String, AllocError>
+    requires { 0 < sizes.piece_rows }
+{
     let mut out = CleanSink::new(alloc, 4096, ROOM)?;
     let mut err = CleanSink::new(alloc, 4096, ROOM)?;
-    let ended = kql(rt, alloc, words, shelf, &mut out, &mut err, &OpenGate);
+    let ended = kql_in_pieces(
+        rt, alloc, words, shelf, &mut out, &mut err, &OpenGate, sizes,
+    );
     if status(&ended) == 0 {
         shown(alloc, "", out.bytes())
     } else {
@@ -82,11 +102,34 @@ pub(crate) fn answer(
     if let Some(all) = asked.strip_prefix("$ ") {
         let words = words_in(alloc, all)?;
         let mut shelf = shelf_of(alloc, "print 1", &seat.tables)?;
-        return answer_to(rt, alloc, &words, &mut shelf);
+        return answer_to(rt, alloc, &words, &mut shelf, Sizes::usual());
     }
-    let words = words_of(alloc, seat, command)?;
+    let words = words_of(alloc, seat, command, "")?;
     let mut shelf = shelf_of(alloc, asked, &seat.tables)?;
-    answer_to(rt, alloc, &words, &mut shelf)
+    answer_to(rt, alloc, &words, &mut shelf, Sizes::usual())
+}
+
+/// What the program answers a query by so many workers, who take two rows at a time, where that is otherwise than it answers it without
+/// these options. A seat whose words tell how many workers there are keeps their number.
+pub(crate) fn other_by_workers(
+    rt: &(impl Threads + Sync),
+    alloc: Global,
+    seat: &Seat,
+    options: &str,
+    asked: &str,
+    found: &str,
+) -> Result<Option<String>, AllocError> {
+    if asked.starts_with("$ ") {
+        return Ok(None);
+    }
+    let options = if seat.tells_workers() { "" } else { options };
+    let words = words_of(alloc, seat, "run", options)?;
+    let mut shelf = shelf_of(alloc, asked, &seat.tables)?;
+    let other = answer_to(rt, alloc, &words, &mut shelf, PAIRS)?;
+    if other.as_str() == found {
+        return Ok(None);
+    }
+    Ok(Some(other))
 }
 
 /// What `plain` answers a query, where that is otherwise than `run` answers it. A seat with words of its own names its command.

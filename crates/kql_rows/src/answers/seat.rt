@@ -44,6 +44,11 @@ impl Seat {
         Ok(())
     }
 
+    /// Whether its words tell how many workers there are.
+    pub(crate) fn tells_workers(&self) -> bool {
+        self.words.iter().any(|word| word.as_str() == "--workers")
+    }
+
     pub(crate) fn add_table(
         &mut self,
         alloc: Global,

@@ -1,0 +1,2 @@
+mod CellFacts
+mod QuoteFacts
