@@ -238,7 +238,7 @@ unfolding distinct_by
 once-is-all E [] = refl
 once-is-all E (v ∷ vs) = without-one (insert_key same_key E v) (distinct_by same_key vs) v (put-in E v) ∙ once-is-all (insert_key same_key E v) vs
 
-distinct-append : (vs ws : List Value) → distinct_by same_key (vs ++ ws) ≡ all_in (distinct_by same_key vs) ws
+pub distinct-append : (vs ws : List Value) → distinct_by same_key (vs ++ ws) ≡ all_in (distinct_by same_key vs) ws
 distinct-append vs [] = ap (distinct_by same_key) (append-nil vs)
 distinct-append vs (w ∷ ws) =
     ap (distinct_by same_key) (sym (append_assoc vs (w ∷ []) ws))

@@ -8,6 +8,7 @@ pub mod JoinLaws
 pub mod JoinStates
 pub mod KeyFacts
 pub mod ListLaws
+pub mod OwnFacts
 pub mod PieceLaws
 pub mod RowLaws
 pub mod StateLaws

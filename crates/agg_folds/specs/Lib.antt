@@ -3,5 +3,6 @@ pub mod Folds
 pub mod Kept
 pub mod Keys
 pub mod Laws
+pub mod Own
 pub mod Pieces
 pub mod States

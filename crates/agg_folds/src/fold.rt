@@ -5,10 +5,11 @@ ghost use Rattle.kql_cells.specs.declared.value.Value.{Value as Cell};
 ghost use Rattle.kql_scalar_fns.specs.Arguments.{AreWellFormed};
 ghost use Rattle.agg_folds.specs.Folds.{chosen_row, folded, taken};
 ghost use Rattle.agg_folds.specs.Laws.{HaveOneKind};
-ghost use Rattle.agg_folds.specs.States.{fold_of, place_in, value_of, with_fold, with_row, with_value};
+ghost use Rattle.agg_folds.specs.States.{IsBounded, fold_of, place_in, value_of, with_fold, with_row, with_value};
 ghost use Rattle.agg_folds.specs.declared.call.FoldCall.{FoldCall};
 
 use crate::call::FoldCall;
+use crate::kept::{OwnFold, OwnState};
 use crate::rows::taken;
 use crate::state::State;
 use kql_cells::{CellRef, Value};
@@ -149,5 +150,24 @@ impl<'a> Fold<'a> {
         ensures { result ≡ place_in self.now.state }
     {
         self.state.place()
+    }
+
+    /// What the fold keeps, with values of its own.
+    pub fn own(&self, alloc: Global) -> Result<OwnFold, AllocError>
+        ensures same { IfOk result (λ f. f ≡ self.now) }
+    {
+        let state = OwnState::of(alloc, &self.state)?;
+        Ok(OwnFold::new(self.aggregate, self.count, state))
+    }
+
+    pub(crate) fn of(aggregate: Aggregate, count: usize, state: State<'a>) -> Fold<'a>
+        requires bounded { IsBounded count state }
+        ensures made { result ≡ record { aggregate = aggregate; count = count; state = state.entry } }
+    {
+        Fold {
+            aggregate,
+            count,
+            state,
+        }
     }
 }

@@ -1,4 +1,5 @@
 ghost use Rattle.std.specs.Prelude.{◌≡◌, ◌↔◌, [], IsTrue, OnErr, OnOk, length};
+ghost use Rattle.std.specs.List.{IsDistinct};
 ghost use Rattle.indexmap.specs.IndexSet.{insert_key};
 ghost use Rattle.kql_cells.specs.Keys.{same_key};
 ghost use Rattle.kql_cells.specs.Seen.{seen};
@@ -121,7 +122,8 @@ impl<'a> HeldSet<'a> {
     }
 
     pub(crate) fn as_slice(&self) -> &[Held<'a>]
-        ensures { result.now ≡ self.now }
+        ensures values { result.now ≡ self.now }
+        ensures different { IsDistinct same_key result.now }
     {
         match &self.values {
             None => &[],

@@ -12,8 +12,10 @@ mod cells;
 mod elements;
 mod fold;
 mod held;
+mod kept;
 mod laws;
 mod lists;
+mod own;
 mod pieces;
 mod rows;
 mod state;
@@ -21,5 +23,6 @@ mod totals;
 
 pub use call::{FoldCall, fold_call, needs};
 pub use fold::Fold;
+pub use kept::OwnFold;
 pub use laws::law_of_folds;
 pub use pieces::PieceFold;

@@ -86,10 +86,11 @@ fn are_same(a: &Value, b: &Value) -> bool {
     is_well_formed(a) && is_well_formed(b) && a.as_cell().is_same(b.as_cell())
 }
 
-// Whether pieces joined at a place give what all rows give at once, from the row that these take.
+// Whether pieces joined at a place give what all rows give at once, from the row that these take, also where they own their values.
 fn cut_gives(alloc: Global, call: &FoldCall, cells: &[CellRef<'_>], cut: usize) -> Made<bool> {
     let whole = piece(alloc, call, cells)?;
-    let parts = joined(alloc, call, cells, cut)?;
+    let kept = joined(alloc, call, cells, cut)?.own(alloc)?;
+    let parts = kept.lend(alloc)?;
     let same_row = whole.chosen() == parts.chosen();
     let a = call.finish(alloc, whole)?;
     let b = call.finish(alloc, parts)?;

@@ -1,7 +1,7 @@
 mod CallLaws
 mod CallSteps
 mod ChosenLaws
-mod ColumnSteps
+pub mod ColumnSteps
 mod FinishSteps
 mod FirstSteps
 mod GivenLaws
@@ -12,8 +12,8 @@ mod JoinSteps
 mod KeptSteps
 mod KeyLists
 mod KeySteps
-mod NeighbourLaws
+pub mod NeighbourLaws
 mod PartSteps
 mod PassSteps
-mod PlanSteps
+pub mod PlanSteps
 mod ValueSteps

@@ -176,7 +176,7 @@ drop-plain : (cs : List Column) (es : List BExpr) → list_all (fits_plain cs) e
 drop-plain cs [] h = refl
 drop-plain cs (e ∷ es) h = (and_parts (fits_plain cs e) (list_all (fits_plain cs) es) h).1
 
-further-plain : (cs : List Column) (f : Aggregate) (args : List BExpr) → list_all (fits_plain cs) args ≡ true → list_all (fits_plain cs) (further_args (f, args)) ≡ true
+pub further-plain : (cs : List Column) (f : Aggregate) (args : List BExpr) → list_all (fits_plain cs) args ≡ true → list_all (fits_plain cs) (further_args (f, args)) ≡ true
 unfolding further_args
 further-plain cs f args h = elim (cases_Bool (is_best f)) [
   | inl y ↦ rw y (drop-plain cs args h)

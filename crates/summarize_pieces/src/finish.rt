@@ -277,8 +277,12 @@ fn push_absent(
     Ok(())
 }
 
-// Cells, behind others.
-fn push_cells(alloc: Global, line: &mut Row, cells: &[CellRef<'_>]) -> Result<(), AllocError>
+/// Cells, behind others.
+pub(crate) fn push_cells(
+    alloc: Global,
+    line: &mut Row,
+    cells: &[CellRef<'_>],
+) -> Result<(), AllocError>
     ensures pushed { OnOk result (line.new ≡ line.old ++ map seen cells.now) }
 {
     'cells: for cell in cells {

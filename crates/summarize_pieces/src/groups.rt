@@ -8,6 +8,7 @@ ghost use Rattle.summarize_pieces.specs.Pieces.{AreGroupsOf, CanBeFolded, Column
 
 use crate::folds::fold_groups;
 use crate::kept::{GroupFold, group_folds};
+use crate::own::{OwnGroups, own_calls};
 use crate::piece::{CallRows, PieceRows};
 use agg_folds::FoldCall;
 use kql_items::Items;
@@ -37,6 +38,24 @@ impl<'a> Model for Groups<'a> {
     ghost coded = { Prim.hlevel (codes, dynamic.the_row.coded) };
 
     ghost view = { λ x. record { count = x.count; width = x.width; keys = x.keys; calls = x.calls.items; states = x.folds.items } };
+}
+
+impl<'a> Groups<'a> {
+    /// The same groups with values of their own, in time linear in what is kept.
+    pub fn own(&self, alloc: Global) -> Result<OwnGroups, AllocError>
+        ensures same { IfOk result (λ x. x ≡ self.now) }
+    {
+        let folds = own_calls(alloc, self.folds.as_slice())?;
+        let calls = Vec::from_slice(alloc, self.calls.as_slice())?;
+        let keys = self.keys.copy(alloc)?;
+        Ok(OwnGroups {
+            count: self.count,
+            width: self.width,
+            keys,
+            calls,
+            folds,
+        })
+    }
 }
 
 /// The groups of the rows of a piece. Without keys all rows are one group, also where there is none.

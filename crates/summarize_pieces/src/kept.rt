@@ -38,7 +38,7 @@ impl<'a> Model for GroupFold<'a> {
 }
 
 impl<'a> GroupFold<'a> {
-    fn new(fold: Fold<'a>, further: Vec<CellRef<'a>>) -> GroupFold<'a>
+    pub(crate) fn new(fold: Fold<'a>, further: Vec<CellRef<'a>>) -> GroupFold<'a>
         ensures made { result ≡ record { kept = fold.entry; further = map seen further.entry.items } }
     {
         GroupFold { fold, further }
