@@ -11,10 +11,10 @@ use Rattle.kql_cells.specs.Seen.{row_at}
 use Rattle.kql_cells.specs.Table.{Grid}
 use Rattle.kql_cells.specs.declared.value.Value.{Value}
 
-slice-none : {X : Type 0} (xs : List X) (from : ℕ) → slice_range xs from from ≡ []
+pub slice-none : {X : Type 0} (xs : List X) (from : ℕ) → slice_range xs from from ≡ []
 slice-none xs from = let none : from - from ≡ 0 = omega arith in rw none refl
 
-slice-push : {X : Type 0} (xs : List X) (from i : ℕ) (d : X) → from ≤ i → i < length xs → slice_range xs from (i + 1) ≡ slice_range xs from i ++ get_or xs i d ∷ []
+pub slice-push : {X : Type 0} (xs : List X) (from i : ℕ) (d : X) → from ≤ i → i < length xs → slice_range xs from (i + 1) ≡ slice_range xs from i ++ get_or xs i d ∷ []
 slice-push xs from i d order lt =
     let count : i + 1 - from ≡ (i - from) + 1 = omega arith in
     let place : from + (i - from) ≡ i = omega arith in

@@ -1,8 +1,8 @@
 -- Records that are read byte by byte.
-use Rattle.std.proofs.Common.{◌≡◌, ◌≤◌, ◌<◌, ◌+◌, ◌==◌, ◌∷◌, ◌++◌, ◌∙◌, ℕ, true, false, List, [], length, drop, get_or, refl, sym, ap, inl, inr}
-use Rattle.std.specs.Prelude.{Some}
+use Rattle.std.proofs.Common.{◌≡◌, ◌≤◌, ◌<◌, ◌+◌, ◌-◌, ◌==◌, ◌∷◌, ◌++◌, ◌∙◌, ℕ, zero, suc, true, false, List, [], length, drop, get_or, refl, sym, ap, arith, append_assoc, subst, inl, inr}
+use Rattle.std.specs.Prelude.{Some, slice_range}
 use Rattle.std.proofs.lemmas.Bool.{cases_Bool}
-use Rattle.std.proofs.lemmas.List.{drop_all, drop_more}
+use Rattle.std.proofs.lemmas.List.{append-nil, drop_all, drop_more}
 use Rattle.csv.specs.Machine.{ends_at_end, field_after, fields_after, is_end, next_record, step}
 use Rattle.csv.specs.Reading.{default_config}
 use Rattle.csv.specs.declared.parser.Action.{Action}
@@ -10,13 +10,14 @@ use Rattle.csv.specs.declared.parser.Action.TheVariants as act
 use Rattle.csv.specs.declared.parser.State.{State}
 use Rattle.csv.specs.declared.parser.State.TheVariants as st
 use Rattle.csv_io.specs.Cuts.{records_at}
-use Rattle.csv_io.specs.Quoted.{IsStep, action_of, state_of}
-use Rattle.csv_io.specs.Runs.{ends_line, is_plain}
+use Rattle.csv_io.specs.Quoted.{IsStep, JoinsBetween, action_of, state_of}
+use Rattle.csv_io.specs.Runs.{IsRun, ends_line, is_plain, is_unquoted}
 use Rattle.csv_io.specs.declared.quoted.Act.{Act}
 use Rattle.csv_io.specs.declared.quoted.Act.TheVariants as does
 use Rattle.csv_io.specs.declared.quoted.Within.{Within}
 use Rattle.csv_io.specs.declared.quoted.Within.TheVariants as within
 use Rattle.csv_io.proofs.CutFacts.{after, go, left-after, left-skipped, line-byte, plain-step, record-first}
+use Rattle.csv_io.proofs.LinesFacts.{slice-none, slice-push}
 use Rattle.csv_io.proofs.RecordFacts.{left-some}
 
 -- ---- one byte
@@ -123,5 +124,41 @@ reading-out text start at s fs gs f le r eg =
     let here = drop_all at text le in
     rw (eg, here) (left-some st.StartRecord (drop start text) (fs ++ f ∷ [], st.StartRecord, [])
     (sym r ∙ (ap (λ xs. go (state_of s) fs f xs) here ∙ out-last (state_of s) fs f (out-ends s))))
+
+-- ---- bytes that join a field
+
+pub plain-joins : (text : List ℕ) (at end : ℕ) → IsRun is_plain text at end → JoinsBetween within.Plain text at end
+plain-joins text at end r k from below = step-plain (get_or text k 0) (r.pass k from below)
+
+pub unquoted-joins : (text : List ℕ) (at end : ℕ) → IsRun is_unquoted text at end → JoinsBetween within.Quoted text at end
+unquoted-joins text at end r k from below = elim (cases_Bool (get_or text k 0 == 34)) [
+  | inl t ↦ let pass = r.pass k from below in cc (rw t at pass)
+  | inr n ↦ quoted-joins (get_or text k 0) n
+]
+
+pub nothing-joins : (s : Within) (text : List ℕ) (at : ℕ) → JoinsBetween s text at at
+nothing-joins s text at k from below = absurd (omega arith)
+
+pub ruleset run_facts = (plain-joins, unquoted-joins, nothing-joins)
+
+-- so many bytes more
+run-on : (n : ℕ) (text : List ℕ) (start at end : ℕ) (s : Within) (fs : List (List ℕ)) (f : List ℕ) → end ≡ at + n → end ≤ length text → Reading text start s fs f at
+    → JoinsBetween s text at end → Reading text start s fs (f ++ slice_range text at end) end
+run-on zero text start at end s fs f e le r joins =
+    let same : end ≡ at = omega arith in
+    rw same (subst (λ (g : List ℕ). Reading text start s fs g at) (sym (ap (λ t. f ++ t) (slice-none text at) ∙ append-nil f)) r)
+run-on (suc n) text start at end s fs f e le r joins =
+    let mid = at + n in
+    let last : end ≡ mid + 1 = omega arith in
+    let before : Reading text start s fs (f ++ slice_range text at mid) mid = run-on n text start at mid s fs f refl (omega arith) r (λ k from below. joins k from (omega arith)) in
+    let step : IsStep s (get_or text mid 0) s does.Copy = joins mid (omega arith) (omega arith) in
+    let grown : f ++ slice_range text at (mid + 1) ≡ (f ++ slice_range text at mid) ++ get_or text mid 0 ∷ [] =
+    ap (λ t. f ++ t) (slice-push text at mid 0 (omega arith) (omega arith)) ∙ sym (append_assoc f (slice_range text at mid) (get_or text mid 0 ∷ [])) in
+    rw last (reading-next text start mid s s does.Copy fs fs (f ++ slice_range text at mid) (f ++ slice_range text at (mid + 1)) (omega arith) before step refl refl grown)
+
+pub reading-run : (text : List ℕ) (start at end : ℕ) (s : Within) (fs : List (List ℕ)) (f g : List ℕ) → at ≤ end → end ≤ length text → Reading text start s fs f at
+    → JoinsBetween s text at end → g ≡ f ++ slice_range text at end → Reading text start s fs g end
+reading-run text start at end s fs f g order within r joins eg =
+    subst (λ (h : List ℕ). Reading text start s fs h end) (sym eg) (run-on (end - at) text start at end s fs f (omega arith) within r joins)
 
 pub ruleset step_facts = (step-plain, step-comma, step-line, step-start, step-closed, quote-opens, quote-closes, quote-doubles, quoted-joins)

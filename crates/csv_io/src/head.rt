@@ -41,7 +41,7 @@ impl<'a> Model for Head<'a> {
 }
 
 impl<'a> Head<'a> {
-    /// Reads the header of a text as `load` does, or tells the first fault of the text, which is of its header.
+    /// Reads the header of a text as `load` does, or tells the first fault of the text.
     pub fn read(alloc: Global, text: &'a str) -> Result<Head<'a>, DataFault>
         ensures text { IfOk result (λ h. h.text ≡ text.now) }
         ensures loads { IfOk result (λ h. loaded text.now ≡ loaded_rows h.columns text.now) }
@@ -57,7 +57,7 @@ impl<'a> Head<'a> {
         }
     }
 
-    /// Reads the header of a text as `load_typed` does, or tells the first fault of the text, which is of its header.
+    /// Reads the header of a text as `load_typed` does, or tells the first fault of the text.
     pub fn read_typed(alloc: Global, text: &'a str, schema: &Schema) -> Result<Head<'a>, DataFault>
         ensures text { IfOk result (λ h. h.text ≡ text.now) }
         ensures columns { IfOk result (λ h. h.columns ≡ schema.now) }
@@ -75,7 +75,7 @@ impl<'a> Head<'a> {
         }
     }
 
-    /// How many ranges of so many bytes the rows have, each of which can be read as a piece.
+    /// How many ranges of so many bytes the rows have, each of which can be read as a piece. No answer depends on it.
     pub fn ranges(&self, size: usize) -> u32 {
         let left = self.text.len().saturating_sub(self.end);
         let count = left / size.max(1);
@@ -84,7 +84,7 @@ impl<'a> Head<'a> {
 
     /// Reads a range of so many bytes of the rows: the records from its first line on up to the first line of the next.
     pub fn piece(&self, alloc: Global, range: u32, size: usize) -> Result<Piece<'a>, AllocError>
-        ensures { IfOk result (λ p. p ≡ self.now) }
+        ensures of_text { IfOk result (λ p. p ≡ self.now) }
     {
         let from = size.saturating_mul(range as usize).saturating_add(self.end);
         let to = from.saturating_add(size);
@@ -94,7 +94,7 @@ impl<'a> Head<'a> {
     /// The table of the rows in parts, or the first fault in them, from pieces that were read, whichever they are. What is
     /// in none of them is read here.
     pub fn stack(self, alloc: Global, pieces: Items<Piece<'a>>) -> Result<Stack, DataFault>
-        requires { All (λ p. p ≡ self) pieces }
+        requires of_text { All (λ p. p ≡ self) pieces }
         ensures table { IfOk result (λ t. loaded_rows self.entry.columns self.entry.text ≡ Ok t) }
         ensures columns { IfOk result (λ t. t.columns ≡ self.entry.columns) }
         ensures fault { IfErr result (IsFaultOf (loaded_rows self.entry.columns self.entry.text)) }
@@ -105,7 +105,7 @@ impl<'a> Head<'a> {
 
     /// The same, put together.
     pub fn join(self, alloc: Global, pieces: Items<Piece<'a>>) -> Result<Table, DataFault>
-        requires { All (λ p. p ≡ self) pieces }
+        requires of_text { All (λ p. p ≡ self) pieces }
         ensures table { IfOk result (λ t. loaded_rows self.entry.columns self.entry.text ≡ Ok t) }
         ensures columns { IfOk result (λ t. t.columns ≡ self.entry.columns) }
         ensures fault { IfErr result (IsFaultOf (loaded_rows self.entry.columns self.entry.text)) }

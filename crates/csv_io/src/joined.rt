@@ -1,3 +1,4 @@
+//! Pieces of a text, put together.
 ghost use Rattle.std.specs.Prelude.{◌≡◌, ◌≤◌, ◌++◌, [], All, IfErr, IfOk, OnOk, length};
 ghost use Rattle.csv_io.specs.Cuts.{records_at};
 ghost use Rattle.csv_io.specs.Faults.{IsFirstOf, Reads};

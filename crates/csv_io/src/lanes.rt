@@ -39,7 +39,7 @@ pub(crate) fn is_plain(b: u8) -> bool
 }
 
 // Where a field without quotes ends that begins at a place, byte by byte.
-fn far_end(text: &[u8], at: usize) -> usize
+pub(crate) fn far_end(text: &[u8], at: usize) -> usize
     requires { at ≤ length text.now }
     ensures { IsRun is_plain text.now at result }
 {

@@ -46,7 +46,7 @@ impl<'a> Printed<'a> {
         from: usize,
         count: usize,
     ) -> Result<Printed<'a>, AllocError>
-        ensures { IfOk result (λ p. p ≡ table.now) }
+        ensures of_table { IfOk result (λ p. p ≡ table.now) }
     {
         let from = from.min(table.len());
         let to = from.saturating_add(count).min(table.len());
@@ -77,7 +77,7 @@ impl<'a> Printed<'a> {
 /// What `table_text` answers, from texts of rows that were printed, whichever they are. What is in none of them is printed
 /// here.
 pub fn join_text(alloc: Global, t: &Table, printed: Items<Printed<'_>>) -> Result<Bytes, AllocError>
-    requires { All (λ p. p ≡ t.now) printed }
+    requires of_table { All (λ p. p ≡ t.now) printed }
     ensures text { IfOk result (λ b. b ≡ table_text t.now) }
     ensures loads { IfOk result (λ b. IsLoadable t.now.columns → loaded (with_kinds t.now.columns b) ≡ Ok t.now) }
 {
@@ -93,7 +93,7 @@ pub fn join_typed_text(
     t: &Table,
     printed: Items<Printed<'_>>,
 ) -> Result<Bytes, AllocError>
-    requires { All (λ p. p ≡ t.now) printed }
+    requires of_table { All (λ p. p ≡ t.now) printed }
     ensures text { IfOk result (λ b. b ≡ typed_text t.now) }
     ensures loads { IfOk result (λ b. IsLoadable t.now.columns → loaded b ≡ Ok t.now) }
 {

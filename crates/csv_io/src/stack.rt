@@ -109,7 +109,7 @@ impl Model for Stack {
 impl Stack {
     // One table.
     pub(crate) fn new(alloc: Global, first: Table) -> Stack
-        ensures { result ≡ first }
+        ensures same { result ≡ first }
     {
         let count = first.len();
         Stack {
@@ -129,7 +129,7 @@ impl Stack {
 
     // Puts a table behind the others.
     pub(crate) fn append(&mut self, more: Table) -> Result<(), AllocError>
-        requires { more.columns ≡ self.old.columns }
+        requires alike { more.columns ≡ self.old.columns }
         ensures columns { OnOk result (self.new.columns ≡ self.old.columns) }
         ensures lines { OnOk result (self.new.lines ≡ self.old.lines ++ more.lines) }
     {

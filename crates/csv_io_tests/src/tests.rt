@@ -176,6 +176,12 @@ const TABLES: &[(&str, &str, &str)] = &[
         "ttttttt",
         "a\n\"abcdefghijklmno,\"\n\",abcdefghijklmno\"\n\"abcdefghijklmnop,\"\n\",abcdefghijklmnop\"\n\"0123456789abcdef0123456789abcde,\"\n\"0123456789abcdef0123456789abcdef,\"\nabcdefghijklmnop\n",
     ),
+    // Doubled quotes behind and before 16 bytes and more, and a record's other fields with them.
+    (
+        "a,b,c\nabcdefghijklmnopqrstuvw,\"0123456789abcdef\"\"0123456789abcdefg\",x\r\n\"\"\"a,b\r\nc\"\"\",0123456789abcdef,\"\"\"\"\r\ny,\"\"\"\"\"\",\"z\"\"",
+        "ttttttttt",
+        "a,b,c\nabcdefghijklmnopqrstuvw,\"0123456789abcdef\"\"0123456789abcdefg\",x\n\"\"\"a,b\r\nc\"\"\",0123456789abcdef,\"\"\"\"\ny,\"\"\"\"\"\",\"z\"\"\"\n",
+    ),
     // From day to day and back.
     (
         "t:datetime,x\n2024-03-01T23:59:59.9999999Z,a\n2024-03-02T00:00:00.0000000Z,b\n2024-03-02T00:00:00.0000001Z,c\n2024-03-01T23:59:59.9999999Z,d\n,e\n0001-01-01T00:00:00.0000000Z,f\n9999-12-31T23:59:59.9999999Z,g\n",

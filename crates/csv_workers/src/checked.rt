@@ -56,7 +56,7 @@ struct Checking<'a> {
 impl<'a> Checking<'a> {
     // Where a range begins, before a byte of ASCII.
     fn start(&self, range: u32) -> usize
-        ensures { result ≤ length self.now.bytes.now }
+        ensures within { result ≤ length self.now.bytes.now }
     {
         if range == 0 {
             return 0;

@@ -62,7 +62,7 @@ fn slots_of(alloc: Global, parts: Vec<Parts>) -> Result<Vec<Slot>, AllocError>
     Ok(slots)
 }
 
-// Puts the parts of each column together, each in one thread.
+// Puts the parts of each column together.
 fn settle_each<R: Threads + Sync>(rt: &R, workers: u32, slots: &mut Vec<Slot>)
     requires workers { 0 < workers }
     ensures count { length slots.new.items ≡ length slots.old.items }
@@ -71,7 +71,18 @@ fn settle_each<R: Threads + Sync>(rt: &R, workers: u32, slots: &mut Vec<Slot>)
     let settle = |_: usize, slot: &mut Slot|
         ensures { KeepsParts slot.entry.now slot.exit.now }
     { settle_slot(slot) };
-    thread::for_each_mut(rt, slots.as_mut_slice(), workers as usize, &settle);
+    let threads = threads_for(workers, slots.len());
+    thread::for_each_mut(rt, slots.as_mut_slice(), threads, &settle);
+}
+
+// In how many threads so many columns are put together: one for each where that is at most two a worker, so that no
+// thread has two columns of texts while another has none.
+fn threads_for(workers: u32, columns: usize) -> usize
+    requires workers { 0 < workers }
+    ensures some { 0 < result }
+{
+    let most = (workers as usize).saturating_mul(2);
+    columns.min(most).max(workers as usize)
 }
 
 // Puts the parts of a column together.

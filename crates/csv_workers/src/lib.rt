@@ -1,6 +1,8 @@
 //! Tables from CSV and back by many workers, with the same answers as by one.
 //!
-//! A file is cut into ranges of bytes, a table into ranges of rows. Where the cuts are changes no answer.
+//! A file is cut into ranges of bytes, a table into ranges of rows. Where the cuts are changes no answer. The pieces enter
+//! the gate as phases 0 (is it a text), 1 (reading) and 2 (printing), which are no phases of an evaluation: who counts those
+//! hands a gate of its own.
 #![tactic(auto)]
 
 mod checked;

@@ -1,6 +1,6 @@
-use Rattle.std.proofs.Common.{◌≤◌, ◌∙◌, sym, length, arith}
+use Rattle.std.proofs.Common.{◌≤◌, ◌+◌, ◌∙◌, sym, length, arith}
 use Rattle.csv.specs.Records.{fields_of}
-use Rattle.csv_io.proofs.QuotedFacts.{reading-first, reading-last, reading-next, reading-out}
+use Rattle.csv_io.proofs.QuotedFacts.{reading-first, reading-last, reading-next, reading-out, reading-run}
 use Rattle.csv_io.proofs.quoted.copy_record.Goals as goal
 
 pub bytes-init : goal.bytes-init
@@ -18,12 +18,16 @@ returns-then-ends_record c = (
 )
 
 pub bytes-preserved : goal.bytes-preserved
-bytes-preserved c = record {
-  within = omega (arith, c.bytes-test.true);
-  whole = c.in_ok-take_byte.ensures.whole;
-  read = reading-next c.args.text.now c.args.start c.bytes.at c.bytes.within c.step-next.result.0 c.step-next.result.1 (fields_of c.bytes.fields) _ c.bytes.field.items _ c.bytes-test.true
-      c.bytes.invariant.read c.step-next.ensures (sym c.ends_record.ensures ∙ c.if-ends_record.false) c.in_ok-take_byte.ensures.fields c.in_ok-take_byte.ensures.field;
-}
+bytes-preserved c =
+    let text = c.args.text.now in
+    let read = reading-next text c.args.start c.bytes.at c.bytes.within c.step-next.result.0 c.step-next.result.1 (fields_of c.bytes.fields) _ c.bytes.field.items _ c.bytes-test.true
+    c.bytes.invariant.read c.step-next.ensures (sym c.ends_record.ensures ∙ c.if-ends_record.false) c.in_ok-take_byte.ensures.fields c.in_ok-take_byte.ensures.field in
+    let run = c.run_end-at.ensures in
+    record {
+      within = run.within;
+      whole = c.in_ok-take_byte.ensures.whole;
+      read = reading-run text c.args.start (c.bytes.at + 1) c.run_end-at.result c.step-next.result.0 _ _ _ run.order run.within read run.joins c.in_ok-extend_from_slice.ensures.items;
+    }
 
 pub returns : goal.returns
 returns c =
