@@ -1,0 +1,4 @@
+pub mod RegexFacts
+pub mod Groups
+pub mod LiteralFacts
+pub mod CrossingLaws

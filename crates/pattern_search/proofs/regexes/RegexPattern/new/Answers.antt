@@ -1,0 +1,5 @@
+use Rattle.pattern_search.proofs.RegexFacts.{is_expression}
+use Rattle.pattern_search.proofs.regexes.RegexPattern.new.Goals as goal
+
+pub returns-in-Ok-clause-expression : goal.returns-in-Ok-clause-expression
+returns-in-Ok-clause-expression c = is_expression c.in-Ok.regex _ c.in-Ok.ensures.config c.in-Ok.ensures.read c.in-Ok.ensures.source
