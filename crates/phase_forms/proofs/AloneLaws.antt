@@ -41,7 +41,7 @@ pub alone-Summarize : (g : _) → goes_alone (V.Summarize g) ≡ true
 unfolding goes_alone
 alone-Summarize g = let is : out-Op (V.Summarize g) ≡ (Op-F.Summarize g) = search (rules, the_lemmas) in ap goes_alone_step is
 
-pub alone-MakeSeries : (s : _) → goes_alone (V.MakeSeries s) ≡ false
+pub alone-MakeSeries : (s : _) → goes_alone (V.MakeSeries s) ≡ true
 unfolding goes_alone
 alone-MakeSeries s = let is : out-Op (V.MakeSeries s) ≡ (Op-F.MakeSeries s) = search (rules, the_lemmas) in ap goes_alone_step is
 

@@ -48,7 +48,7 @@ form-Top many n keys = ap (λ (p : Part). p.form) (parted many (V.Top n keys) (O
 pub form-Summarize : (many : Bool) (g : _) → (part_of many (V.Summarize g)).form ≡ alone_if many
 form-Summarize many g = ap (λ (p : Part). p.form) (parted many (V.Summarize g) (Op-F.Summarize g) (search (rules, the_lemmas)))
 
-pub form-MakeSeries : (many : Bool) (s : _) → (part_of many (V.MakeSeries s)).form ≡ phase_form.Whole
+pub form-MakeSeries : (many : Bool) (s : _) → (part_of many (V.MakeSeries s)).form ≡ alone_if many
 form-MakeSeries many s = ap (λ (p : Part). p.form) (parted many (V.MakeSeries s) (Op-F.MakeSeries s) (search (rules, the_lemmas)))
 
 pub form-MvExpand : (many : Bool) (x : Expand) → (part_of many (V.MvExpand x)).form ≡ range_if (many && are_plain_parts x.items)
@@ -82,6 +82,9 @@ rounds-Top many n keys = ap (λ (p : Part). p.rounds) (parted many (V.Top n keys
 
 pub rounds-Summarize : (many : Bool) (g : _) → (part_of many (V.Summarize g)).rounds ≡ true ∷ []
 rounds-Summarize many g = ap (λ (p : Part). p.rounds) (parted many (V.Summarize g) (Op-F.Summarize g) (search (rules, the_lemmas)))
+
+pub rounds-MakeSeries : (many : Bool) (s : _) → (part_of many (V.MakeSeries s)).rounds ≡ true ∷ []
+rounds-MakeSeries many s = ap (λ (p : Part). p.rounds) (parted many (V.MakeSeries s) (Op-F.MakeSeries s) (search (rules, the_lemmas)))
 
 pub rounds-Join : (many : Bool) (j : _) (right : _) → (part_of many (V.Join j right)).rounds ≡ true ∷ []
 rounds-Join many j right = ap (λ (p : Part). p.rounds) (parted many (V.Join j right) (Op-F.Join j right) (search (rules, the_lemmas)))

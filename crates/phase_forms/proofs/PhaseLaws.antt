@@ -55,6 +55,7 @@ ranged many (Op-F.Extend items) h = not-range many h
 ranged many (Op-F.Project items) h = not-range _ h
 ranged many (Op-F.Top n keys) h = not-range many h
 ranged many (Op-F.Summarize g) h = not-range many h
+ranged many (Op-F.MakeSeries s) h = not-range many h
 ranged many (Op-F.Join j right) h = not-range many h
 ranged many (Op-F.Partition column ops) h = not-range many h
 ranged many _ h = absurd cc

@@ -17,6 +17,7 @@ goes_alone_step (Op-F.Extend items) = true
 goes_alone_step (Op-F.Project items) = true
 goes_alone_step (Op-F.Top n keys) = true
 goes_alone_step (Op-F.Summarize g) = true
+goes_alone_step (Op-F.MakeSeries s) = true
 goes_alone_step (Op-F.Join j right) = true
 goes_alone_step (Op-F.Partition column ops) = true
 goes_alone_step _ = false

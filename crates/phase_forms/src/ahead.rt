@@ -80,7 +80,7 @@ fn form_of(op: &Op, many: bool) -> Form
         Op::Sort(_) => Form::Whole,
         Op::Top(_, _) => alone_if(many),
         Op::Summarize(_) => alone_if(many),
-        Op::MakeSeries(_) => Form::Whole,
+        Op::MakeSeries(_) => alone_if(many),
         Op::MvExpand(expand) => range_if(many && are_plain_parts(expand.items.as_slice())),
         Op::Parse(parse) => range_if(many && is_plain(&parse.text)),
         Op::Join(_, _) => alone_if(many),

@@ -2,3 +2,4 @@ mod CrossingLaws
 mod JoinSteps
 mod ReadSteps
 mod RunSteps
+mod ShareSteps

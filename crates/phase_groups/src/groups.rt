@@ -1,9 +1,10 @@
 //! `summarize` and `distinct`.
-ghost use Rattle.std.specs.Prelude.{◌≡◌, ◌<◌, ◌≤◌, ◌∷◌, [], IfOk, IsTrue, is_some};
+ghost use Rattle.std.specs.Prelude.{◌≡◌, ◌<◌, ◌≤◌, ◌∷◌, [], IfOk, IsTrue, is_some, length};
 ghost use Rattle.kql_meaning.specs.FittingOperators.{answer_if, summarize_fits};
 ghost use Rattle.kql_meaning.specs.Summarize.{group_columns, summarize_table};
 ghost use Rattle.summarize_pieces.specs.Pieces.{piece_of};
-ghost use Rattle.phase_pieces.specs.Reports.{IsWholeFor};
+ghost use Rattle.phase_pieces.specs.Reports.{IsCutFor, IsWholeFor};
+ghost use Rattle.phase_groups.specs.Shares.{AreCutBy, rows_wanted};
 ghost use Rattle.phase_groups.specs.Works.{IsGroupRun, all_read, run_over};
 
 use crate::joined::all_joined;
@@ -23,7 +24,7 @@ use worker_board::{Outcome, run_pieces};
 ///
 /// In a first round the values of the keys and of the arguments are read at the rows of each piece, in a second one each piece's groups are
 /// made. Who claimed the pieces is told of the first. Where keys hardly repeat there is one piece alone.
-#[tactic(auto)]
+#[tactic(auto, using(crate::proofs::ShareSteps::cut_steps))]
 pub fn run_groups<R: Threads + Sync, G: Gate + Sync>(
     rt: &R,
     gate: &G,
@@ -39,10 +40,17 @@ pub fn run_groups<R: Threads + Sync, G: Gate + Sync>(
     requires fits { IsTrue (is_some (answer_if (summarize_fits plan.now table.now.columns) (group_columns plan.now table.now.columns))) }
     ensures table { IfOk result (λ r. r.table ≡ summarize_table plan.now table.now) }
     ensures whole { IfOk result (λ r. IsWholeFor workers r.gathered) }
+    ensures pieces { IfOk result (λ r. AreCutBy (rows_wanted workers sizes.piece_rows plan.now table.now) (length table.now.lines) r.gathered) }
 {
     match rows_of_piece(alloc, plan, table, workers, sizes)? {
-        Some(rows) => run_ranges(rt, gate, alloc, workers, phase, plan, table, rows),
-        None => run_whole(rt, gate, alloc, workers, phase, plan, table),
+        Some(rows) => {
+            let ran = run_ranges(rt, gate, alloc, workers, phase, plan, table, rows)?;
+            Ok(ran)
+        }
+        None => {
+            let ran = run_whole(rt, gate, alloc, workers, phase, plan, table)?;
+            Ok(ran)
+        }
     }
 }
 
@@ -61,6 +69,7 @@ fn run_whole<R: Threads + Sync, G: Gate + Sync>(
     requires fits { IsTrue (is_some (answer_if (summarize_fits plan.now table.now.columns) (group_columns plan.now table.now.columns))) }
     ensures table { IfOk result (λ r. r.table ≡ summarize_table plan.now table.now) }
     ensures whole { IfOk result (λ r. IsWholeFor workers r.gathered) }
+    ensures pieces { IfOk result (λ r. r.gathered.size.pieces ≡ 1) }
 {
     let work = WholeRun { alloc, table, plan };
     let Outcome { results, gathered } = run_pieces(rt, alloc, workers, phase, &work, gate)?;
@@ -100,6 +109,7 @@ fn run_ranges<R: Threads + Sync, G: Gate + Sync>(
     requires fits { IsTrue (is_some (answer_if (summarize_fits plan.now table.now.columns) (group_columns plan.now table.now.columns))) }
     ensures table { IfOk result (λ r. r.table ≡ summarize_table plan.now table.now) }
     ensures whole { IfOk result (λ r. IsWholeFor workers r.gathered) }
+    ensures pieces { IfOk result (λ r. IsCutFor (length table.now.lines) rows r.gathered) }
 {
     let _columns = table.schema().columns();
     let cut = cut_rows(table.len(), rows);

@@ -1,5 +1,6 @@
 -- Joins of each kind.
-use Rattle.std.proofs.Common.{◌≡◌, ℕ, Bool, true, false, List, ◌++◌, refl, ap, ap₂, sym, ◌∙◌, subst}
+use Rattle.std.proofs.Common.{◌≡◌, ℕ, Bool, true, false, List, ◌++◌, length, refl, ap, ap₂, sym, ◌∙◌, subst}
+use Rattle.std.specs.Prelude.{if◌then◌else◌}
 use Rattle.kql_cells.specs.Named.{HasDistinctNames, column_name}
 use Rattle.kql_cells.specs.Table.{Grid}
 use Rattle.kql_cells.specs.declared.schema.Column.{Column}
@@ -10,6 +11,9 @@ use Rattle.kql_values.specs.Moves.{kinds_of}
 use Rattle.join_op.specs.Led.{LedByBoth, LedByOne, all_leads, columns_led, led_table, pairs_table}
 use Rattle.join_op.specs.Pairs.{has_lead, shows_both}
 use Rattle.join_op.specs.Sides.{lead_side}
+use Rattle.phase_pieces.specs.Reports.{IsCutFor}
+use Rattle.phase_joins.specs.Leads.{leads_of}
+use Rattle.worker_board.specs.Views.{WholeClaims}
 
 -- One side leads.
 
@@ -21,7 +25,11 @@ names-one law j a b both led e h t =
 pub made-one : (law : LedByOne) (j : JoinPlan) (a b t : Grid) (both : Bool) → has_lead j.kind ≡ true → both ≡ shows_both j.kind → t ≡ led_table both j.kind j a b (all_leads j.kind j a b) → t ≡ join_table j a b
 made-one law j a b t both led e is = is ∙ (ap (λ (x : Bool). led_table x j.kind j a b (all_leads j.kind j a b)) e ∙ sym (law j a b led))
 
-pub ruleset join_steps = (made-one)
+pub leads-one : (j : JoinPlan) (a b : Grid) (asked : ℕ) (g : WholeClaims) → has_lead j.kind ≡ true → IsCutFor (length (all_leads j.kind j a b)) asked g → IsCutFor (length (leads_of j a b)) asked g
+unfolding leads_of
+leads-one j a b asked g led h = subst (λ (x : Bool). IsCutFor (length (if x then all_leads j.kind j a b else all_leads join.LeftOuter j a b)) asked g) (sym led) h
+
+pub ruleset join_steps = (made-one, leads-one)
 
 -- Both lead.
 
@@ -39,4 +47,8 @@ unfolding led_table pairs_table columns_led
 made-full law j a b t u made full et eu is =
     is ∙ (ap₂ {C = Grid} (λ (x y : Grid). record { columns = x.columns; lines = x.lines ++ y.lines }) et eu ∙ sym (law j a b full))
 
-pub ruleset full_steps = (kinds-full, made-full)
+pub leads-full : (j : JoinPlan) (a b : Grid) (asked : ℕ) (g : WholeClaims) → has_lead j.kind ≡ false → IsCutFor (length (all_leads join.LeftOuter j a b)) asked g → IsCutFor (length (leads_of j a b)) asked g
+unfolding leads_of
+leads-full j a b asked g full h = subst (λ (x : Bool). IsCutFor (length (if x then all_leads j.kind j a b else all_leads join.LeftOuter j a b)) asked g) (sym full) h
+
+pub ruleset full_steps = (kinds-full, made-full, leads-full)

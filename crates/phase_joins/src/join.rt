@@ -1,10 +1,11 @@
 //! A join of any kind, and a lookup.
-ghost use Rattle.std.specs.Prelude.{◌≡◌, ◌<◌, ◌≤◌, false, IfOk, IsTrue};
+ghost use Rattle.std.specs.Prelude.{◌≡◌, ◌<◌, ◌≤◌, false, IfOk, IsTrue, length};
 ghost use Rattle.kql_cells.specs.Named.{HasDistinctNames, column_name};
 ghost use Rattle.kql_meaning.specs.FittingOperators.{join_fits};
 ghost use Rattle.kql_meaning.specs.Join.{join_columns, join_table};
 ghost use Rattle.join_op.specs.Pairs.{has_lead};
-ghost use Rattle.phase_pieces.specs.Reports.{IsWholeFor};
+ghost use Rattle.phase_pieces.specs.Reports.{IsCutFor, IsWholeFor};
+ghost use Rattle.phase_joins.specs.Leads.{leads_of};
 
 use crate::led::run_led;
 use join_op::{has_lead, law_of_leads, shows_both};
@@ -36,6 +37,7 @@ pub fn run_join<R: Threads + Sync, G: Gate + Sync>(
     requires names { HasDistinctNames column_name (join_columns j.now.kind j.now left.now.columns right.now.columns) }
     ensures table { IfOk result (λ r. r.table ≡ join_table j.now left.now right.now) }
     ensures whole { IfOk result (λ r. IsWholeFor workers r.gathered) }
+    ensures pieces { IfOk result (λ r. IsCutFor (length (leads_of j.now left.now right.now)) sizes.piece_rows r.gathered) }
 {
     law_of_leads();
     if has_lead(j.kind) {
@@ -70,6 +72,7 @@ fn run_full<R: Threads + Sync, G: Gate + Sync>(
     requires names { HasDistinctNames column_name (join_columns j.now.kind j.now left.now.columns right.now.columns) }
     ensures table { IfOk result (λ r. r.table ≡ join_table j.now left.now right.now) }
     ensures whole { IfOk result (λ r. IsWholeFor workers r.gathered) }
+    ensures pieces { IfOk result (λ r. IsCutFor (length (leads_of j.now left.now right.now)) sizes.piece_rows r.gathered) }
 {
     law_of_leads();
     let outer = JoinKind::LeftOuter;

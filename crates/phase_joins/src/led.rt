@@ -7,7 +7,7 @@ ghost use Rattle.kql_values.specs.Grids.{rows_of};
 ghost use Rattle.join_op.specs.Led.{all_leads, led_table};
 ghost use Rattle.join_op.specs.Sides.{key_cells, lead_of, lead_side, opposite};
 ghost use Rattle.phase_laws.specs.Pieces.{slice_of};
-ghost use Rattle.phase_pieces.specs.Reports.{IsWholeFor};
+ghost use Rattle.phase_pieces.specs.Reports.{IsCutFor, IsWholeFor};
 
 use join_op::{
     key_columns, law_of_leads, lead_side, leading_rows, opposite, other_rows, side_table,
@@ -133,6 +133,7 @@ pub(crate) fn run_led<'a, R: Threads + Sync, G: Gate + Sync>(
     requires names { IsTrue both → HasDistinctNames column_name (both_columns j.now left.now.columns right.now.columns) }
     ensures table { IfOk result (λ r. r.table ≡ led_table both kind j.now left.now right.now (all_leads kind j.now left.now right.now)) }
     ensures whole { IfOk result (λ r. IsWholeFor workers r.gathered) }
+    ensures pieces { IfOk result (λ r. IsCutFor (length (all_leads kind j.now left.now right.now)) sizes.piece_rows r.gathered) }
 {
     law_of_leads();
     let side = lead_side(kind);
@@ -189,6 +190,7 @@ fn run_keyed<'a, R: Threads + Sync, G: Gate + Sync>(
     requires within { All (λ i. i < length (lead_of (lead_side kind) left.now right.now).lines) leads.now }
     ensures table { IfOk result (λ r. r.table ≡ led_table both kind j.now left.now right.now leads.now) }
     ensures whole { IfOk result (λ r. IsWholeFor workers r.gathered) }
+    ensures pieces { IfOk result (λ r. IsCutFor (length leads.now) sizes.piece_rows r.gathered) }
 {
     let side = lead_side(kind);
     let against = opposite(side);
@@ -226,6 +228,7 @@ fn run_leads<'a, R: Threads + Sync, G: Gate + Sync>(
     requires within { All (λ i. i < length (lead_of (lead_side kind) left.now right.now).lines) leads.now }
     ensures table { IfOk result (λ r. r.table ≡ led_table both kind j.now left.now right.now leads.now) }
     ensures whole { IfOk result (λ r. IsWholeFor workers r.gathered) }
+    ensures pieces { IfOk result (λ r. IsCutFor (length leads.now) sizes.piece_rows r.gathered) }
 {
     let cut = cut_rows(leads.len(), sizes.piece_rows);
     let first = table_of_leads(alloc, left, right, j, kind, both, keys, probe, &[])?;

@@ -5,8 +5,10 @@ ghost use Rattle.kql_meaning.specs.Partition.{partition_table};
 ghost use Rattle.kql_meaning.specs.Tables.{emptied};
 ghost use Rattle.kql_plain.specs.AtHand.{OpsFit, world_of};
 ghost use Rattle.phase_laws.specs.Runs.{made_of};
-ghost use Rattle.phase_pieces.specs.Reports.{IsWholeFor};
+ghost use Rattle.phase_pieces.specs.Reports.{IsCutFor, IsWholeFor};
 ghost use Rattle.phase_partitions.specs.Works.{made_piece, rows_made};
+ghost use Rattle.phase_scans.specs.Keys.{keys_of_piece};
+ghost use Rattle.scan_ops.specs.Scans.{rows_by_key};
 
 use kql_bound::Op;
 use kql_keys::PlaceLists;
@@ -159,7 +161,7 @@ fn made_of_rows(
 
 /// The partition of operators by the keys of a column, by so many workers, in ranges of keys: what they make of the rows of each key, one
 /// after another, keys in order of first occurrence. Null is a key.
-#[tactic(auto, using(crate::proofs::OpSteps::run_steps))]
+#[tactic(auto, using(crate::proofs::OpSteps::run_steps, phase_scans::proofs::KeySteps::told_steps))]
 pub fn run_partition<R: Threads + Sync, G: Gate + Sync>(
     rt: &R,
     gate: &G,
@@ -179,6 +181,7 @@ pub fn run_partition<R: Threads + Sync, G: Gate + Sync>(
     requires fits { OpsFit ops.now (world_of catalogue.now lets.now) table.now }
     ensures table { IfOk result (λ r. r.table ≡ partition_table key.now (made_of ops.now (world_of catalogue.now lets.now)) table.now) }
     ensures whole { IfOk result (λ r. IsWholeFor workers r.gathered) }
+    ensures pieces { IfOk result (λ r. IsCutFor (length (rows_by_key key.now table.now)) (keys_of_piece (length (rows_by_key key.now table.now)) (length table.now.lines) sizes.piece_rows) r.gathered) }
 {
     let lists = rows_by_key(alloc, table, key)?;
     let made = made_of_rows(alloc, ops, catalogue, lets, emptied(alloc, table)?)?;
@@ -213,6 +216,7 @@ fn run_keys<R: Threads + Sync, G: Gate + Sync>(
     ensures columns { IfOk result (λ r. r.table.columns ≡ (made_of ops.now (world_of catalogue.now lets.now) (emptied table.now)).columns) }
     ensures lines { IfOk result (λ r. r.table.lines ≡ rows_made ops.now (world_of catalogue.now lets.now) table.now lists.now) }
     ensures whole { IfOk result (λ r. IsWholeFor workers r.gathered) }
+    ensures pieces { IfOk result (λ r. IsCutFor (length lists.now) (keys_of_piece (length lists.now) (length table.now.lines) sizes.piece_rows) r.gathered) }
 {
     let cut = cut_keys(lists.len(), table.len(), sizes);
     let first = emptied(alloc, none)?;

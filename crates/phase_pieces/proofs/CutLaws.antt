@@ -6,7 +6,9 @@ use Rattle.std.proofs.lemmas.Grind.{pow_more}
 use Rattle.std.proofs.lemmas.Nat.{div-add-mod'}
 use Rattle.kql_cells.specs.Table.{Grid}
 use Rattle.phase_laws.specs.Pieces.{piece_of}
-use Rattle.phase_pieces.specs.Sizes.{IsPieceSize}
+use Rattle.phase_pieces.specs.Reports.{IsCutFor}
+use Rattle.phase_pieces.specs.Sizes.{ArePieces, IsPieceSize}
+use Rattle.worker_board.specs.Views.{WholeClaims}
 
 -- Enough rows in a piece.
 
@@ -52,7 +54,13 @@ cases-lt a b = grind arith
 one-times : (n : ℕ) → n * 2 ^ 0 ≡ n
 one-times n = omega arith
 
-pub size-asked : (count asked : ℕ) → IsPieceSize count asked asked
+-- What is asked, or twice as many, and so on, where no smaller one of these sizes is enough.
+pub record IsDoubled (count asked rows : ℕ) : Type 0 where
+  pub times : ℕ
+  pub doubled : rows ≡ asked * 2 ^ times
+  pub needed : (fewer : ℕ) → fewer < times → 2147483647 * (asked * 2 ^ fewer) < count
+
+pub size-asked : (count asked : ℕ) → IsDoubled count asked asked
 size-asked count asked = record { times = 0; doubled = sym (one-times asked); needed = λ fewer lt. absurd (omega (arith, lt)) }
 
 twice : (n times : ℕ) → n * 2 ^ times * 2 ≡ n * 2 ^ (times + 1)
@@ -64,7 +72,7 @@ too-few count least rows is lt =
     let m : (count + 2147483646) % 2147483647 < 2147483647 = mod-lt (count + 2147483646) (omega arith) in
     omega (arith, d, m, is, lt)
 
-pub size-doubled : (count least asked rows : ℕ) → least ≡ (count + 2147483646) / 2147483647 → rows < least → IsPieceSize count asked rows → IsPieceSize count asked (rows * 2)
+pub size-doubled : (count least asked rows : ℕ) → least ≡ (count + 2147483646) / 2147483647 → rows < least → IsDoubled count asked rows → IsDoubled count asked (rows * 2)
 size-doubled count least asked rows is lt s = record {
   times = s.times + 1;
   doubled = ap (λ (k : ℕ). k * 2) s.doubled ∙ twice asked s.times;
@@ -77,7 +85,27 @@ size-doubled count least asked rows is lt s = record {
   ];
 }
 
-pub ruleset cut_steps = (enough, least-small, size-asked, size-doubled)
+pub size-found : (count least asked rows : ℕ) → least ≡ (count + 2147483646) / 2147483647 → least ≤ rows → IsDoubled count asked rows → IsPieceSize count asked rows
+size-found count least asked rows is le s = record {
+  times = s.times;
+  doubled = s.doubled;
+  needed = s.needed;
+  enough = enough count least rows is le;
+}
+
+pub pieces-found : (count asked rows pieces : ℕ) → IsPieceSize count asked rows → count ≤ pieces * rows → pieces * rows < count + rows → ArePieces count asked pieces
+pieces-found count asked rows pieces s all each = record { rows = rows; size = s; all = all; each = each }
+
+-- The pieces that a phase tells of.
+pub pieces-told : (count n asked pieces told : ℕ) → ArePieces count asked pieces → count ≡ n → told ≡ pieces → ArePieces n asked told
+pieces-told count n asked pieces told p same is = subst (λ (k : ℕ). ArePieces k asked told) same (subst (λ (k : ℕ). ArePieces count asked k) (sym is) p)
+
+pub cut-same : (count n asked : ℕ) (g : WholeClaims) → IsCutFor count asked g → count ≡ n → IsCutFor n asked g
+cut-same count n asked g p same = subst (λ (k : ℕ). IsCutFor k asked g) same p
+
+pub ruleset told_steps = (cut-same)
+
+pub ruleset cut_steps = (enough, least-small, size-asked, size-doubled, size-found)
 
 pub ruleset piece_steps = (whole-few, none-behind, none-more, some-behind, some-more)
 

@@ -1,7 +1,7 @@
 //! How a table's rows are cut into pieces.
 ghost use Rattle.std.specs.Prelude.{◌≡◌, ◌<◌, ◌≤◌, ◌*◌, ◌+◌, ◌^◌, IfOk, length, min};
 ghost use Rattle.phase_laws.specs.Pieces.{piece_of};
-ghost use Rattle.phase_pieces.specs.Sizes.{IsPieceSize};
+ghost use Rattle.phase_pieces.specs.Sizes.{ArePieces, IsPieceSize};
 
 use kql_values::Table;
 use std::alloc::{AllocError, Global};
@@ -42,6 +42,7 @@ pub fn cut_rows(count: usize, piece_rows: u32) -> Cut
     ensures each { result.pieces * result.rows < count + result.rows }
     ensures rows { (0 < result.rows) × (result.rows < 2 ^ 63) }
     ensures size { IsPieceSize count piece_rows result.rows }
+    ensures pieces { ArePieces count piece_rows result.pieces }
 {
     let least = (count + (MOST_PIECES - 1)) / MOST_PIECES;
     let mut rows = piece_rows as usize;

@@ -6,16 +6,18 @@ use Rattle.kql_cells.specs.Table.{Grid}
 use Rattle.kql_bound.specs.declared.parts.BItem.{BItem}
 use Rattle.kql_bound.specs.declared.parts.BKey.{BKey}
 use Rattle.kql_bound.specs.declared.parts.GroupPlan.{GroupPlan}
+use Rattle.kql_bound.specs.declared.parts.SeriesPlan.{SeriesPlan}
 use Rattle.kql_bound.specs.declared.plan.Op.{Op}
 use Rattle.kql_bound.specs.declared.plan.Op.TheVariants as V
-use Rattle.kql_meaning.specs.FittingOperators.{answer_if, items_fit, sort_fits, summarize_fits}
+use Rattle.kql_meaning.specs.FittingOperators.{answer_if, items_fit, series_fits, sort_fits, summarize_fits}
 use Rattle.kql_meaning.specs.Extend.{extend_columns}
 use Rattle.kql_meaning.specs.Items.{items_columns}
+use Rattle.kql_meaning.specs.MakeSeries.{series_columns}
 use Rattle.kql_meaning.specs.Summarize.{group_columns}
 use Rattle.kql_meaning.specs.declared.position.Position.TheVariants as position
 use Rattle.kql_meaning.specs.Plans.{World, op_means}
 use Rattle.kql_plain.specs.AtHand.{OpFits, OpsFit}
-use Rattle.kql_plain.proofs.FitLaws.{answers-Summarize, fits-Extend, fits-Project, fits-Top, names-Extend, names-Project}
+use Rattle.kql_plain.proofs.FitLaws.{answers-MakeSeries, answers-Summarize, fits-Extend, fits-Project, fits-Top, names-Extend, names-Project}
 use Rattle.kql_plain.proofs.OperatorLaws.{first-fits, no-more, one-more}
 use Rattle.phase_laws.specs.Runs.{made_of}
 use Rattle.phase_forms.specs.Held.{goes_alone, holds_plan}
@@ -60,6 +62,9 @@ top-fits o n keys seen w t a is same here f = ap (λ (ks : List BKey). sort_fits
 
 pub groups-fit : (o : Op) (g : GroupPlan) (w : World) (t a : Grid) → o ≡ V.Summarize g → a ≡ t → OpFits o w t → is_some (answer_if (summarize_fits g a.columns) (group_columns g a.columns)) ≡ true
 groups-fit o g w t a is here f = answers-Summarize g w a (at-hand o (V.Summarize g) w t a is here f)
+
+pub series-fit : (o : Op) (s : SeriesPlan) (w : World) (t a : Grid) → o ≡ V.MakeSeries s → a ≡ t → OpFits o w t → is_some (answer_if (series_fits s a.columns) (series_columns s a.columns)) ≡ true
+series-fit o s w t a is here f = answers-MakeSeries s w a (at-hand o (V.MakeSeries s) w t a is here f)
 
 pub extend-fits : (o : Op) (items seen : List BItem) (w : World) (t a : Grid) → o ≡ V.Extend items → seen ≡ items → a ≡ t → OpFits o w t → items_fit seen a.columns position.Window ≡ true
 extend-fits o items seen w t a is same here f =

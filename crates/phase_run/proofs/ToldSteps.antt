@@ -13,7 +13,7 @@ use Rattle.kql_bound.specs.declared.plan.Program.{Program}
 use Rattle.phase_forms.specs.Held.{holds_plan}
 use Rattle.phase_forms.specs.Phases.{alone_if, first_rounds, ops_phases, part_of, phases_from, plan_phases, plans_phases, program_phases, rounds_for, told}
 use Rattle.phase_forms.specs.declared.ahead.Form.{Form}
-use Rattle.phase_forms.proofs.FormLaws.{form-Join, form-Union, rounds-Extend, rounds-Join, rounds-Partition, rounds-Project, rounds-Summarize, rounds-Top}
+use Rattle.phase_forms.proofs.FormLaws.{form-Join, form-Union, rounds-Extend, rounds-Join, rounds-MakeSeries, rounds-Partition, rounds-Project, rounds-Summarize, rounds-Top}
 use Rattle.phase_forms.proofs.PhaseLaws.{held-phases, inner-Join, inner-Union, inner-none, plan-ops}
 use Rattle.phase_pieces.specs.Reports.{IsWholeFor}
 use Rattle.phase_windows.specs.Rounds.{rounds_for as count_for}
@@ -150,6 +150,9 @@ top-told old new o n keys is t = told-as old new (λ m. true ∷ []) (λ m. (par
 
 pub groups-told : (old new : PhasesSeen) (o : Op) (g : _) → o ≡ V.Summarize g → Tells old new (λ m. true ∷ []) → Tells old new (λ m. (part_of m o).rounds)
 groups-told old new o g is t = told-as old new (λ m. true ∷ []) (λ m. (part_of m o).rounds) t (λ m. sym (ap (λ (p : Op). (part_of m p).rounds) is ∙ rounds-Summarize m g))
+
+pub series-told : (old new : PhasesSeen) (o : Op) (s : _) → o ≡ V.MakeSeries s → Tells old new (λ m. true ∷ []) → Tells old new (λ m. (part_of m o).rounds)
+series-told old new o s is t = told-as old new (λ m. true ∷ []) (λ m. (part_of m o).rounds) t (λ m. sym (ap (λ (p : Op). (part_of m p).rounds) is ∙ rounds-MakeSeries m s))
 
 pub partition-told : (old new : PhasesSeen) (o : Op) (key : _) (ops : List Op) → o ≡ V.Partition key ops → Tells old new (λ m. true ∷ []) → Tells old new (λ m. (part_of m o).rounds)
 partition-told old new o key ops is t = told-as old new (λ m. true ∷ []) (λ m. (part_of m o).rounds) t (λ m. sym (ap (λ (p : Op). (part_of m p).rounds) is ∙ rounds-Partition m key ops))

@@ -3,8 +3,9 @@ ghost use Rattle.std.specs.Prelude.{◌≡◌, ◌<◌, ◌≤◌, ◌∷◌, []
 ghost use Rattle.kql_bound.specs.declared.plan.Op.TheVariants as operator;
 ghost use Rattle.kql_cells.specs.Named.{HasDistinctNames, column_name, place_of};
 ghost use Rattle.kql_meaning.specs.Extend.{extend_columns, extend_table};
-ghost use Rattle.kql_meaning.specs.FittingOperators.{answer_if, items_fit, sort_fits, summarize_fits};
+ghost use Rattle.kql_meaning.specs.FittingOperators.{answer_if, items_fit, series_fits, sort_fits, summarize_fits};
 ghost use Rattle.kql_meaning.specs.Items.{items_columns};
+ghost use Rattle.kql_meaning.specs.MakeSeries.{series_columns, series_table};
 ghost use Rattle.kql_meaning.specs.Partition.{partition_table};
 ghost use Rattle.kql_meaning.specs.Plans.{op_means};
 ghost use Rattle.kql_meaning.specs.Project.{project_table};
@@ -22,7 +23,7 @@ ghost use Rattle.phase_windows.specs.Rounds.{AreRounds};
 ghost use Rattle.window_ops.specs.Calls.{calls_of_items};
 
 use crate::report::Phases;
-use kql_bound::{BItem, BKey, GroupPlan, Op, ScanPlan};
+use kql_bound::{BItem, BKey, GroupPlan, Op, ScanPlan, SeriesPlan};
 use kql_outside::Gate;
 use kql_plain::Input;
 use kql_values::{Catalogue, Table};
@@ -31,6 +32,7 @@ use phase_groups::run_groups;
 use phase_partitions::run_partition;
 use phase_pieces::{Ran, Sizes};
 use phase_scans::run_keyed_scan;
+use phase_series::run_series;
 use phase_tops::run_top;
 use phase_windows::{Rounds, run_extend, run_items, run_project};
 use std::alloc::{AllocError, Global};
@@ -75,7 +77,7 @@ pub(crate) fn run_alone<R: Threads + Sync, G: Gate + Sync>(
             from.as_table(),
         ),
         Op::Summarize(plan) => run_told_groups(rt, gate, phases, alloc, plan, from.as_table()),
-        Op::MakeSeries(_) => unreachable!(),
+        Op::MakeSeries(series) => run_told_series(rt, gate, phases, alloc, series, from.as_table()),
         Op::MvExpand(_) => unreachable!(),
         Op::Parse(_) => unreachable!(),
         Op::Join(_, _) => unreachable!(),
@@ -112,6 +114,27 @@ fn run_told_groups<R: Threads + Sync, G: Gate + Sync>(
     let number = phases.number();
     let sizes = phases.sizes();
     let ran = run_groups(rt, gate, alloc, workers, number, plan, table, sizes)?;
+    let made = phases.tell_pieces(ran)?;
+    Ok(made)
+}
+
+// `make-series`.
+fn run_told_series<R: Threads + Sync, G: Gate + Sync>(
+    rt: &R,
+    gate: &G,
+    phases: &mut Phases,
+    alloc: Global,
+    series: &SeriesPlan,
+    table: &Table,
+) -> Result<Table, AllocError>
+    requires fits { IsTrue (is_some (answer_if (series_fits series.now table.now.columns) (series_columns series.now table.now.columns))) }
+    ensures table { IfOk result (λ t. t ≡ series_table series.now table.now) }
+    ensures told { OnOk result (Tells phases.old phases.new (λ many. true ∷ [])) }
+{
+    let workers = phases.workers();
+    let number = phases.number();
+    let sizes = phases.sizes();
+    let ran = run_series(rt, gate, alloc, workers, number, series, table, sizes)?;
     let made = phases.tell_pieces(ran)?;
     Ok(made)
 }

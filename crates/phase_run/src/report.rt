@@ -1,5 +1,5 @@
 //! What phases leave behind: how each ran, and who worked on it.
-ghost use Rattle.std.specs.Prelude.{◌≡◌, ◌<◌, ◌≤◌, ◌∷◌, ◌++◌, [], All, IfOk, OnOk, length, replicate, true};
+ghost use Rattle.std.specs.Prelude.{◌≡◌, ◌<◌, ◌≤◌, ◌∷◌, ◌++◌, [], All, IfOk, OnOk, length, min, replicate, true};
 ghost use Rattle.phase_pieces.specs.Reports.{IsWholeFor};
 ghost use Rattle.phase_run.specs.Reports.{AreToldBy, IsToldBy, Tells};
 
@@ -71,7 +71,9 @@ impl Phases {
     }
 
     /// The number of the next phase.
-    pub(crate) fn number(&self) -> u32 {
+    pub(crate) fn number(&self) -> u32
+        ensures number { result ≡ min (length self.now.report) 4294967295 }
+    {
         self.report.len().min(u32::MAX as usize) as u32
     }
 

@@ -7,7 +7,7 @@ ghost use Rattle.kql_meaning.specs.Where.{where_table};
 ghost use Rattle.kql_plain.specs.AtHand.{OpsFit, world_of};
 ghost use Rattle.phase_laws.specs.Pieces.{piece_of};
 ghost use Rattle.phase_laws.specs.Runs.{are_by_row, made_of};
-ghost use Rattle.phase_pieces.specs.Reports.{IsWholeFor};
+ghost use Rattle.phase_pieces.specs.Reports.{IsCutFor, IsWholeFor};
 
 use kql_bound::{BExpr, Op};
 use kql_meaning::law_of_rows;
@@ -189,6 +189,7 @@ pub(crate) fn run_rows<R: Threads + Sync, G: Gate + Sync>(
     requires by_row { IsTrue (are_by_row ops.now) }
     ensures table { IfOk result (λ r. r.table ≡ made_of ops.now (world_of catalogue.now lets.now) table.now) }
     ensures whole { IfOk result (λ r. IsWholeFor workers r.gathered) }
+    ensures pieces { IfOk result (λ r. IsCutFor (length table.now.lines) sizes.piece_rows r.gathered) }
 {
     law_of_row_runs();
     let cut = cut_rows(table.len(), sizes.piece_rows);

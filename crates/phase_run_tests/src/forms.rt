@@ -4,6 +4,7 @@ use crate::plans::{
     added, column, extended, filter, greater, joined, key, named, none, one, pair, plan, projected,
     table, with,
 };
+use crate::reads::reading_ops;
 use crate::tables::Made;
 use kql_bound::{
     BExpr, BItems, Decls, Exprs, GroupPlan, JoinKind, JoinPlan, Keys, Op, Ops, Output, Plan,
@@ -29,7 +30,7 @@ const KINDS: &[JoinKind] = &[
 ];
 
 /// How many forms there are.
-pub(crate) const FORMS: usize = 21;
+pub(crate) const FORMS: usize = 26;
 
 fn grouped(items: Made<BItems>, keys: Made<BItems>) -> Made<Op> {
     let items = items?;
@@ -128,6 +129,23 @@ fn looked_up(alloc: Global, kind: JoinKind) -> Made<Op> {
 
 // The operators of a form, over the table `T`.
 fn ops_of(alloc: Global, form: usize) -> Made<Ops> {
+    if form < 7 {
+        return early_ops(alloc, form);
+    }
+    if form > 20 {
+        return reading_ops(alloc, form);
+    }
+    if form > 15 {
+        return keyed_ops(alloc, form);
+    }
+    match KINDS.get(form - 7) {
+        Some(kind) => one(alloc, joined(alloc, *kind, right(alloc))),
+        None => none(alloc),
+    }
+}
+
+// Groups, the first rows, and items.
+fn early_ops(alloc: Global, form: usize) -> Made<Ops> {
     match form {
         0 => one(alloc, grouped(sums(alloc), by_key(alloc))),
         1 => one(alloc, grouped(none(alloc), by_key(alloc))),
@@ -135,10 +153,16 @@ fn ops_of(alloc: Global, form: usize) -> Made<Ops> {
         3 => with(one(alloc, Ok(Op::Serialize)), extended(running(alloc))),
         4 => with(one(alloc, Ok(Op::Serialize)), extended(before(alloc))),
         5 => one(alloc, projected(computed(alloc))),
-        6 => with(
+        _ => with(
             one(alloc, filter(greater(alloc, "x", 1))),
             projected(running(alloc)),
         ),
+    }
+}
+
+// Partitions, a scan, and lookups.
+fn keyed_ops(alloc: Global, form: usize) -> Made<Ops> {
+    match form {
         16 => with(
             one(alloc, Ok(Op::Serialize)),
             partitioned(alloc, one(alloc, one_step(alloc))),
@@ -149,11 +173,7 @@ fn ops_of(alloc: Global, form: usize) -> Made<Ops> {
         ),
         18 => with(one(alloc, Ok(Op::Serialize)), one_step(alloc)),
         19 => one(alloc, looked_up(alloc, JoinKind::LeftOuter)),
-        20 => one(alloc, looked_up(alloc, JoinKind::Inner)),
-        n => match KINDS.get(n.saturating_sub(7)) {
-            Some(kind) => one(alloc, joined(alloc, *kind, right(alloc))),
-            None => none(alloc),
-        },
+        _ => one(alloc, looked_up(alloc, JoinKind::Inner)),
     }
 }
 
@@ -179,6 +199,11 @@ pub(crate) fn cuts_of(form: usize) -> Cuts {
         16 => &[Some(3)],
         17 => &[Some(3)],
         18 => &[None],
+        21 => &[Some(7)],
+        22 => &[Some(7)],
+        23 => &[Some(5)],
+        24 => &[Some(7), None],
+        25 => &[Some(7)],
         _ => &[Some(7), Some(7)],
     }
 }
@@ -195,6 +220,10 @@ pub(crate) fn cuts_by_one(form: usize) -> Cuts {
         16 => &[None],
         17 => &[None],
         18 => &[None],
+        21 => &[None],
+        22 => &[None],
+        23 => &[None],
+        25 => &[None],
         _ => &[Some(7), None],
     }
 }

@@ -8,4 +8,8 @@ mod phases;
 #[cfg(test)]
 mod plans;
 #[cfg(test)]
+mod reads;
+#[cfg(test)]
+mod sizes;
+#[cfg(test)]
 mod tables;

@@ -31,6 +31,8 @@ const ROWS: &[(u32, u32)] = &[
     (64, 3),
 ];
 
+const FEW: &[(u32, u32)] = &[(1, 2), (3, 2)];
+
 // How many pieces of so many rows hold them all.
 fn pieces_of(count: u32, rows: u32) -> u32 {
     let rows = rows.max(1);
@@ -136,14 +138,14 @@ fn every_count_of_workers_and_size_of_pieces_gives_the_same(rt: HostRuntime) -> 
     Ok(())
 }
 
-// Whether the phases have the pieces that hold so many rows.
-fn have_cuts(report: &[PhaseReport], cuts: Cuts, rows: u32, workers: u32) -> bool {
+// Whether the phases have the pieces that hold so many rows, or none where the table has none.
+fn have_cuts(report: &[PhaseReport], cuts: Cuts, rows: u32, workers: u32, is_empty: bool) -> bool {
     if report.len() != cuts.len() {
         return false;
     }
     for k in 0..report.len() {
         let want = match cuts[k] {
-            Some(count) => Some(pieces_of(count, rows)),
+            Some(count) => Some(if is_empty { 0 } else { pieces_of(count, rows) }),
             None => None,
         };
         if !has_pieces(&report[k], want, workers) {
@@ -161,6 +163,7 @@ fn form_gives_the_same<R: Threads + Sync>(
     catalogue: &Catalogue,
     workers: u32,
     rows: u32,
+    is_empty: bool,
 ) -> Made<bool> {
     let p = program_of(
         catalogue.schemas(alloc),
@@ -184,7 +187,7 @@ fn form_gives_the_same<R: Threads + Sync>(
     };
     Ok(
         are_same(&table, &answer.table)
-            && have_cuts(answer.report.as_slice(), cuts, counted, workers),
+            && have_cuts(answer.report.as_slice(), cuts, counted, workers, is_empty),
     )
 }
 
@@ -192,12 +195,14 @@ fn form_gives_the_same<R: Threads + Sync>(
 fn first_wrong_form<R: Threads + Sync>(
     rt: &R,
     alloc: Global,
+    lines: &'static [Line],
     rows: &'static [(u32, u32)],
 ) -> Made<Option<(usize, u32, u32)>> {
-    let catalogue = catalogue_of(alloc, LINES)?;
+    let catalogue = catalogue_of(alloc, lines)?;
+    let is_empty = lines.is_empty();
     for form in 0..FORMS {
         for (workers, piece_rows) in rows {
-            if !form_gives_the_same(rt, alloc, form, &catalogue, *workers, *piece_rows)? {
+            if !form_gives_the_same(rt, alloc, form, &catalogue, *workers, *piece_rows, is_empty)? {
                 return Ok(Some((form, *workers, *piece_rows)));
             }
         }
@@ -207,6 +212,12 @@ fn first_wrong_form<R: Threads + Sync>(
 
 #[test]
 fn every_form_gives_the_same(rt: HostRuntime) -> Result<(), Fail> {
-    assert_eq!(rt; first_wrong_form(&rt, rt.alloc(), ROWS)?, None);
+    assert_eq!(rt; first_wrong_form(&rt, rt.alloc(), LINES, ROWS)?, None);
+    Ok(())
+}
+
+#[test]
+fn every_form_gives_the_same_of_no_rows(rt: HostRuntime) -> Result<(), Fail> {
+    assert_eq!(rt; first_wrong_form(&rt, rt.alloc(), &[], FEW)?, None);
     Ok(())
 }

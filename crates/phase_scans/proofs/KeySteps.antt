@@ -12,7 +12,11 @@ use Rattle.kql_meaning.specs.Groups.{distinct_keys}
 use Rattle.kql_meaning.specs.Partition.{key_in_column}
 use Rattle.kql_meaning.specs.Tables.{distinct_by, places, places_below}
 use Rattle.kql_meaning.specs.Values.{same_keys}
+use Rattle.phase_pieces.specs.Reports.{IsCutFor}
+use Rattle.phase_pieces.specs.Sizes.{ArePieces}
+use Rattle.phase_scans.specs.Keys.{keys_of_piece}
 use Rattle.scan_ops.specs.Scans.{rows_by_key, rows_of_key}
+use Rattle.worker_board.specs.Views.{WholeClaims}
 
 -- There are no more keys than rows.
 
@@ -44,5 +48,17 @@ cut-all count n pieces rows is le = subst (λ (k : ℕ). k ≤ pieces * rows) is
 
 pub cut-each : (count n pieces rows : ℕ) → count ≡ n → pieces * rows < count + rows → pieces * rows < n + rows
 cut-each count n pieces rows is lt = subst (λ (k : ℕ). pieces * rows < k + rows) is lt
+
+-- The pieces of keys that a phase tells of.
+
+pub keys-told : (count n rows m asked pieces told : ℕ) → ArePieces count (keys_of_piece count rows asked) pieces → count ≡ n → rows ≡ m → told ≡ pieces → ArePieces n (keys_of_piece n m asked) told
+keys-told count n rows m asked pieces told p keys all is =
+    subst (λ (k : ℕ). ArePieces k (keys_of_piece k m asked) told) keys
+    (subst (λ (k : ℕ). ArePieces count (keys_of_piece count k asked) told) all (subst (λ (k : ℕ). ArePieces count (keys_of_piece count rows asked) k) (sym is) p))
+
+pub lists-told : (a b : List (List ℕ)) (rows asked : ℕ) (g : WholeClaims) → a ≡ b → IsCutFor (length a) (keys_of_piece (length a) rows asked) g → IsCutFor (length b) (keys_of_piece (length b) rows asked) g
+lists-told a b rows asked g is p = subst (λ (ls : List (List ℕ)). IsCutFor (length ls) (keys_of_piece (length ls) rows asked) g) is p
+
+pub ruleset told_steps = (lists-told)
 
 pub ruleset key_steps = (few-lists)

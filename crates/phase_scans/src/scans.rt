@@ -3,9 +3,10 @@ ghost use Rattle.std.specs.Prelude.{◌≡◌, ◌<◌, ◌≤◌, ◌*◌, ◌+
 ghost use Rattle.kql_cells.specs.Named.{column_name, place_of};
 ghost use Rattle.kql_meaning.specs.Partition.{partition_table};
 ghost use Rattle.kql_meaning.specs.Scan.{scan_columns, scan_table, with_declared};
-ghost use Rattle.phase_pieces.specs.Reports.{IsWholeFor};
+ghost use Rattle.phase_pieces.specs.Reports.{IsCutFor, IsWholeFor};
+ghost use Rattle.phase_scans.specs.Keys.{keys_of_piece};
 ghost use Rattle.phase_scans.specs.Works.{scanned_piece};
-ghost use Rattle.scan_ops.specs.Scans.{scans_of};
+ghost use Rattle.scan_ops.specs.Scans.{rows_by_key, scans_of};
 ghost use Rattle.scan_ops.specs.Steps.{scan_answers};
 
 use crate::lists::{cut_keys, rows_by_key};
@@ -96,7 +97,7 @@ fn scan_of_piece(
 
 /// The partition of one scan by the keys of a column, by so many workers, in ranges of keys. The results come one key after another, keys
 /// in order of first occurrence, and match ids begin at 0 for each. Null is a key.
-#[tactic(auto, using(crate::proofs::ScanSteps::scan_steps, scan_ops::proofs::KeyedFacts::keyed_facts))]
+#[tactic(auto, using(crate::proofs::ScanSteps::scan_steps, crate::proofs::KeySteps::told_steps, scan_ops::proofs::KeyedFacts::keyed_facts))]
 pub fn run_keyed_scan<R: Threads + Sync, G: Gate + Sync>(
     rt: &R,
     gate: &G,
@@ -114,6 +115,7 @@ pub fn run_keyed_scan<R: Threads + Sync, G: Gate + Sync>(
     requires fits { IsTrue (scan_answers scan.now table.now.columns) }
     ensures table { IfOk result (λ r. r.table ≡ partition_table key.now (scan_table scan.now) table.now) }
     ensures whole { IfOk result (λ r. IsWholeFor workers r.gathered) }
+    ensures pieces { IfOk result (λ r. IsCutFor (length (rows_by_key key.now table.now)) (keys_of_piece (length (rows_by_key key.now table.now)) (length table.now.lines) sizes.piece_rows) r.gathered) }
 {
     let lists = rows_by_key(alloc, table, key)?;
     if scan.declared.is_empty() {
@@ -150,6 +152,7 @@ fn run_lists<R: Threads + Sync, G: Gate + Sync>(
     requires few { length lists.now < 2 ^ 63 }
     ensures table { IfOk result (λ r. r.table ≡ record { columns = scan_columns scan.now table.now.columns; lines = scans_of scan.now extended.now lists.now }) }
     ensures whole { IfOk result (λ r. IsWholeFor workers r.gathered) }
+    ensures pieces { IfOk result (λ r. IsCutFor (length lists.now) (keys_of_piece (length lists.now) (length table.now.lines) sizes.piece_rows) r.gathered) }
 {
     let cut = cut_keys(lists.len(), table.len(), sizes);
     let first = scan_lists(alloc, table, scan, extended, lists, 0, 0)?;

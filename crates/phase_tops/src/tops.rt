@@ -1,12 +1,12 @@
 //! The first rows by the keys.
-ghost use Rattle.std.specs.Prelude.{◌≡◌, ◌<◌, ◌≤◌, ◌*◌, ◌^◌, IfOk, IsTrue};
+ghost use Rattle.std.specs.Prelude.{◌≡◌, ◌<◌, ◌≤◌, ◌*◌, ◌^◌, IfOk, IsTrue, length};
 ghost use Rattle.kql_meaning.specs.FittingOperators.{sort_fits};
 ghost use Rattle.kql_meaning.specs.Sort.{top_table};
 ghost use Rattle.kql_meaning.specs.Tables.{places_below};
 ghost use Rattle.order_ops.specs.Order.{places_cmp};
 ghost use Rattle.order_ops.specs.Tops.{top_of};
 ghost use Rattle.phase_laws.specs.Pieces.{slice_of};
-ghost use Rattle.phase_pieces.specs.Reports.{IsWholeFor};
+ghost use Rattle.phase_pieces.specs.Reports.{IsCutFor, IsWholeFor};
 
 use crate::places::{one_list, places_from};
 use kql_bound::BKey;
@@ -115,6 +115,7 @@ fn tops_of<R: Threads + Sync, G: Gate + Sync>(
     requires small { count < 2 ^ 63 }
     ensures places { IfOk result (λ x. x.places ≡ top_of (places_cmp columns.now) wanted (places_below count)) }
     ensures whole { IfOk result (λ x. IsWholeFor workers x.gathered) }
+    ensures pieces { IfOk result (λ x. IsCutFor count sizes.piece_rows x.gathered) }
 {
     law_of_tops();
     let cut = cut_rows(count, sizes.piece_rows);
@@ -135,7 +136,7 @@ fn tops_of<R: Threads + Sync, G: Gate + Sync>(
 }
 
 /// `top n by`, piece by piece, by so many workers: copies of the first n rows of those sorted, or of all where there are fewer.
-#[tactic(auto, using(crate::proofs::TopSteps::top_steps))]
+#[tactic(auto, using(crate::proofs::TopSteps::top_steps, phase_pieces::proofs::CutLaws::told_steps))]
 pub fn run_top<R: Threads + Sync, G: Gate + Sync>(
     rt: &R,
     gate: &G,
@@ -152,6 +153,7 @@ pub fn run_top<R: Threads + Sync, G: Gate + Sync>(
     requires fits { IsTrue (sort_fits keys.now table.now.columns) }
     ensures table { IfOk result (λ r. r.table ≡ top_table n keys.now table.now) }
     ensures whole { IfOk result (λ r. IsWholeFor workers r.gathered) }
+    ensures pieces { IfOk result (λ r. IsCutFor (length table.now.lines) sizes.piece_rows r.gathered) }
 {
     law_of_tops();
     let columns = key_columns(alloc, table, keys)?;

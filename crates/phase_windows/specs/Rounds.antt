@@ -23,3 +23,11 @@ pub record AreRounds (n : ℕ) (items : List BItem) (gs : List WholeClaims) : Ty
 pub record AreRoundsBefore (n : ℕ) (items : List BItem) (gs : List WholeClaims) : Type 0 where
   pub count : length gs + 1 ≡ rounds_of items
   pub whole : All (IsWholeFor n) gs
+
+-- Each round had so many pieces.
+
+abbrev pub HasPieces : ℕ → WholeClaims → Type 0
+HasPieces n g = g.size.pieces ≡ n
+
+abbrev pub HavePieces : ℕ → List WholeClaims → Type 0
+HavePieces n gs = All (HasPieces n) gs

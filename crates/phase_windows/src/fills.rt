@@ -128,6 +128,7 @@ pub(crate) fn run_fills<R: Threads + Sync, G: Gate + Sync>(
     requires rows { cut.rows < 2 ^ 63 }
     ensures table { IfOk result (λ r. r.table ≡ project_table items.now table.now) }
     ensures whole { IfOk result (λ r. IsWholeFor workers r.gathered) }
+    ensures pieces { IfOk result (λ r. r.gathered.size.pieces ≡ cut.pieces) }
 {
     let columns = items_columns(alloc, items, table.schema().columns())?;
     let first = Table::empty(alloc, Schema::from_items(columns))?;

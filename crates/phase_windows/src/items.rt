@@ -1,11 +1,12 @@
 //! `extend` and `project`.
-ghost use Rattle.std.specs.Prelude.{◌≡◌, ◌<◌, ◌≤◌, [], IfOk, IsTrue, length, take};
+ghost use Rattle.std.specs.Prelude.{◌≡◌, ◌<◌, ◌≤◌, [], All, IfOk, IsTrue, length, take};
 ghost use Rattle.kql_cells.specs.Named.{HasDistinctNames, column_name};
 ghost use Rattle.kql_meaning.specs.declared.position.Position.TheVariants as position;
 ghost use Rattle.kql_meaning.specs.Extend.{extend_columns, extend_table};
 ghost use Rattle.kql_meaning.specs.FittingOperators.{items_fit};
 ghost use Rattle.kql_meaning.specs.Items.{items_columns};
 ghost use Rattle.kql_meaning.specs.Project.{project_table};
+ghost use Rattle.phase_pieces.specs.Reports.{IsCutFor};
 ghost use Rattle.phase_windows.specs.Rounds.{AreRounds};
 ghost use Rattle.window_ops.specs.Calls.{calls_of, calls_of_items};
 
@@ -40,6 +41,7 @@ pub fn run_extend<R: Threads + Sync, G: Gate + Sync>(
     requires names { HasDistinctNames column_name (extend_columns items.now table.columns) }
     ensures table { IfOk result (λ r. r.table ≡ extend_table items.now table) }
     ensures rounds { IfOk result (λ r. AreRounds workers items.now r.gathered) }
+    ensures pieces { IfOk result (λ r. All (IsCutFor (length table.lines) sizes.piece_rows) r.gathered) }
 {
     let Rounds {
         table: added,
@@ -74,6 +76,7 @@ pub fn run_project<R: Threads + Sync, G: Gate + Sync>(
     requires names { HasDistinctNames column_name (items_columns items.now table.columns) }
     ensures table { IfOk result (λ r. r.table ≡ project_table items.now table) }
     ensures rounds { IfOk result (λ r. AreRounds workers items.now r.gathered) }
+    ensures pieces { IfOk result (λ r. All (IsCutFor (length table.lines) sizes.piece_rows) r.gathered) }
 {
     let (front, others) = items.split_at(columns_in_front(items));
     let Rounds {
@@ -134,6 +137,7 @@ pub fn run_items<R: Threads + Sync, G: Gate + Sync>(
     requires names { HasDistinctNames column_name (items_columns items.now table.now.columns) }
     ensures table { IfOk result (λ r. r.table ≡ project_table items.now table.now) }
     ensures rounds { IfOk result (λ r. AreRounds workers items.now r.gathered) }
+    ensures pieces { IfOk result (λ r. All (IsCutFor (length table.now.lines) sizes.piece_rows) r.gathered) }
 {
     let cut = cut_rows(table.len(), sizes.piece_rows);
     let Summed {

@@ -2,7 +2,7 @@
 ghost use Rattle.std.specs.Prelude.{◌≡◌, ◌<◌, ◌≤◌, ◌*◌, ◌+◌, ◌^◌, IfOk, IsTrue, length};
 ghost use Rattle.kql_meaning.specs.declared.position.Position.TheVariants as position;
 ghost use Rattle.kql_meaning.specs.FittingOperators.{items_fit};
-ghost use Rattle.phase_windows.specs.Rounds.{AreRoundsBefore};
+ghost use Rattle.phase_windows.specs.Rounds.{AreRoundsBefore, HavePieces};
 ghost use Rattle.phase_windows.specs.Works.{AreBeforePieces, carries_before, carries_of_piece, end_of, sums_before_pieces, sums_of_pieces};
 ghost use Rattle.window_ops.specs.Calls.{calls_of_items, carries_of};
 
@@ -102,6 +102,7 @@ pub(crate) fn run_sums<R: Threads + Sync, G: Gate + Sync>(
     requires rows { cut.rows < 2 ^ 63 }
     ensures before { IfOk result (λ s. AreBeforePieces items.now table.now cut.rows cut.pieces s.before) }
     ensures rounds { IfOk result (λ s. AreRoundsBefore workers items.now s.gathered) }
+    ensures pieces { IfOk result (λ s. HavePieces cut.pieces s.gathered) }
 {
     let first = sum_pieces(alloc, table, 0, 0, items)?;
     let mut gathered = Items::new(alloc);

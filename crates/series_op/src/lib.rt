@@ -13,4 +13,4 @@ mod plan;
 mod series;
 mod slots;
 
-pub use series::series_rows;
+pub use series::{SeriesParts, series_of_summary, series_parts, series_rows};

@@ -1,8 +1,8 @@
 //! `make-series`.
 ghost use Rattle.std.specs.Prelude.{◌≡◌, ◌<◌, ◌^◌, ◌∷◌, ◌++◌, [], IfOk, IsTrue, is_some};
-ghost use Rattle.kql_meaning.specs.FittingOperators.{answer_if, series_fits};
-ghost use Rattle.kql_meaning.specs.MakeSeries.{series_columns, series_table};
-ghost use Rattle.kql_meaning.specs.Summarize.{summarize_table};
+ghost use Rattle.kql_meaning.specs.FittingOperators.{answer_if, series_fits, summarize_fits};
+ghost use Rattle.kql_meaning.specs.MakeSeries.{rows_inside, series_columns, series_table};
+ghost use Rattle.kql_meaning.specs.Summarize.{group_columns, summarize_table};
 ghost use Rattle.series_op.specs.Filled.{IsFilled};
 ghost use Rattle.series_op.specs.Summary.{summary_plan};
 
@@ -11,7 +11,7 @@ use crate::bins::{axis_column, bin_places, count_of_bins};
 use crate::groups::{Grouped, group_rows};
 use crate::inside::rows_inside;
 use crate::plan::summary_plan;
-use kql_bound::SeriesPlan;
+use kql_bound::{GroupPlan, SeriesPlan};
 use kql_cells::Schema;
 use kql_columns::series_columns;
 use kql_values::{Rows, Table, Vector};
@@ -25,10 +25,51 @@ pub fn series_rows(alloc: Global, t: &Table, series: &SeriesPlan) -> Result<Tabl
     requires fits { IsTrue (is_some (answer_if (series_fits series.now t.now.columns) (series_columns series.now t.now.columns))) }
     ensures rows { IfOk result (λ r. r ≡ series_table series.now t.now) }
 {
+    let SeriesParts { inside, plan } = series_parts(alloc, t, series)?;
+    let summary = summarize_rows(alloc, &inside, &plan)?;
+    let made = series_of_summary(alloc, t, series, &inside, &summary)?;
+    Ok(made)
+}
+
+/// What a series is made of: the rows inside, and the `summarize` of them by bin and keys.
+#[derive(Drop)]
+pub struct SeriesParts {
+    pub inside: Table,
+    pub plan: GroupPlan,
+}
+
+/// The rows inside and their `summarize`, of whose table `series_of_summary` makes the series.
+#[tactic(auto, using(crate::proofs::SeriesSteps::series_steps))]
+pub fn series_parts(
+    alloc: Global,
+    t: &Table,
+    series: &SeriesPlan,
+) -> Result<SeriesParts, AllocError>
+    requires fits { IsTrue (is_some (answer_if (series_fits series.now t.now.columns) (series_columns series.now t.now.columns))) }
+    ensures inside { IfOk result (λ p. p.inside ≡ rows_inside series.now t.now) }
+    ensures plan { IfOk result (λ p. p.plan ≡ summary_plan series.now) }
+    ensures fits { IfOk result (λ p. IsTrue (is_some (answer_if (summarize_fits p.plan p.inside.columns) (group_columns p.plan p.inside.columns)))) }
+{
     let inside = rows_inside(alloc, t, series)?;
     let plan = summary_plan(alloc, series)?;
-    let summary = summarize_rows(alloc, &inside, &plan)?;
-    let Filled { columns, count } = filled_columns(alloc, series, &inside, &summary)?;
+    Ok(SeriesParts { inside, plan })
+}
+
+/// The series of a table from the rows inside, and the table of their `summarize` by bin and keys.
+#[tactic(auto, using(crate::proofs::SeriesSteps::series_steps))]
+pub fn series_of_summary(
+    alloc: Global,
+    t: &Table,
+    series: &SeriesPlan,
+    inside: &Table,
+    summary: &Table,
+) -> Result<Table, AllocError>
+    requires fits { IsTrue (is_some (answer_if (series_fits series.now t.now.columns) (series_columns series.now t.now.columns))) }
+    requires inside { inside.now ≡ rows_inside series.now t.now }
+    requires summary { summary.now ≡ summarize_table (summary_plan series.now) inside.now }
+    ensures rows { IfOk result (λ r. r ≡ series_table series.now t.now) }
+{
+    let Filled { columns, count } = filled_columns(alloc, series, inside, summary)?;
     let named = series_columns(alloc, series, t.schema().columns())?;
     let rows = Rows::from_columns(alloc, count, columns);
     let made = Table::new(alloc, Schema::from_items(named), rows)?;

@@ -1,6 +1,7 @@
-use Rattle.std.proofs.Common.{◌∙◌, ap, ap₂, map}
+use Rattle.std.proofs.Common.{◌∙◌, List, ℕ, ap, ap₂, length, map, subst}
 use Rattle.join_op.specs.Led.{led_table}
 use Rattle.join_op.specs.Sides.{key_cells, lead_of, lead_side, opposite}
+use Rattle.phase_pieces.specs.Reports.{IsCutFor}
 use Rattle.phase_joins.proofs.LedSteps.{keys-there, leads-all, within-moved}
 use Rattle.phase_joins.proofs.led.run_led.Goals as goal
 
@@ -54,3 +55,12 @@ returns-clause-table g c =
     c.in_ok-ran.ensures.table
     ∙ ap (led_table c.args.both c.args.kind c.args.j.now a b)
     (c.as_slice.ensures.items ∙ leads-all c.args.kind c.args.j.now c.as_slice-on.result.now a b c.side_table-lead.result.now c.in_ok-leads.leads c.in_ok-leads.ensures.rows c.as_slice-on.ensures.items el)
+
+pub returns-clause-pieces : goal.returns-clause-pieces
+returns-clause-pieces g c =
+    let a = c.args.left.now in
+    let b = c.args.right.now in
+    let el = c.side_table-lead.ensures.table ∙ ap (λ x. lead_of x a b) c.lead_side-side.ensures.side in
+    subst (λ (ls : List ℕ). IsCutFor (length ls) c.args.sizes.piece_rows c.in_ok-ran.ran.gathered)
+    (c.as_slice.ensures.items ∙ leads-all c.args.kind c.args.j.now c.as_slice-on.result.now a b c.side_table-lead.result.now c.in_ok-leads.leads c.in_ok-leads.ensures.rows c.as_slice-on.ensures.items el)
+    c.in_ok-ran.ensures.pieces

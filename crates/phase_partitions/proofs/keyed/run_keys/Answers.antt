@@ -6,7 +6,7 @@ use Rattle.crossing_laws.proofs.PlanLaws.{op_sync}
 use Rattle.crossing_laws.proofs.TableLaws.{catalogue_sync, table_send, table_sync}
 use Rattle.kql_plain.specs.AtHand.{world_of}
 use Rattle.phase_partitions.proofs.OpSteps.{keys-alike, keys-columns, keys-lines}
-use Rattle.phase_scans.proofs.KeySteps.{cut-all}
+use Rattle.phase_scans.proofs.KeySteps.{cut-all, keys-told}
 use Rattle.phase_partitions.proofs.keyed.run_keys.Goals as goal
 
 pub run_pieces-requires-send-T : goal.run_pieces-requires-send-T
@@ -30,3 +30,6 @@ returns-clause-lines g c =
     let all = cut-all c.len.result (length c.args.lists.now) c.cut_keys-cut.result.pieces c.cut_keys-cut.result.rows c.len.ensures.count c.cut_keys-cut.ensures.all in
     keys-lines c.args.ops.now (world_of c.args.catalogue.now c.args.lets.now) c.args.table.now c.args.none.now c.in_ok-first.first c.in_ok-made.made c.args.lists.now c.cut_keys-cut.result.rows c.cut_keys-cut.result.pieces c.in_ok-results.field-0.results
     c.in_ok-first.ensures.rows c.in_ok-results.ensures.results all c.in_ok-made.ensures.table
+
+pub returns-clause-pieces : goal.returns-clause-pieces
+returns-clause-pieces g c = keys-told _ _ _ _ _ _ _ c.cut_keys-cut.ensures.pieces c.len.ensures.count c.len-2.ensures.count c.in_ok-results.ensures.size.0

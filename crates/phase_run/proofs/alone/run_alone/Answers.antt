@@ -1,8 +1,8 @@
 use Rattle.kql_plain.specs.AtHand.{world_of}
 use Rattle.kql_plain.specs.Inputs.{input_table}
-use Rattle.phase_run.proofs.AloneSteps.{extend-fits, extend-names, groups-fit, project-fits, project-names, top-fits}
+use Rattle.phase_run.proofs.AloneSteps.{extend-fits, extend-names, groups-fit, project-fits, project-names, series-fit, top-fits}
 use Rattle.phase_run.proofs.PartSteps.{key-at-hand, known, ops-at-hand, partition-made}
-use Rattle.phase_run.proofs.ToldSteps.{along, extend-told, groups-told, partition-told, project-told, top-told}
+use Rattle.phase_run.proofs.ToldSteps.{along, extend-told, groups-told, partition-told, project-told, series-told, top-told}
 use Rattle.phase_run.proofs.alone.run_alone.Goals as goal
 
 -- What each asks.
@@ -31,6 +31,10 @@ pub run_told_groups-requires-clause-fits : goal.run_told_groups-requires-clause-
 run_told_groups-requires-clause-fits g c κs within =
     groups-fit c.args.op.now c.in-Summarize.plan (world_of c.args.catalogue.now c.args.lets.now) (input_table c.args.from) c.as_table-in-Summarize.result.now c.in-Summarize.is c.as_table-in-Summarize.ensures.table c.requires.fits
 
+pub run_told_series-requires-clause-fits : goal.run_told_series-requires-clause-fits
+run_told_series-requires-clause-fits g c κs within =
+    series-fit c.args.op.now c.in-MakeSeries.series (world_of c.args.catalogue.now c.args.lets.now) (input_table c.args.from) c.as_table-in-MakeSeries.result.now c.in-MakeSeries.is c.as_table-in-MakeSeries.ensures.table c.requires.fits
+
 -- What each tells.
 
 pub returns-in_ok-table-in-Extend-clause-told : goal.returns-in_ok-table-in-Extend-clause-told
@@ -47,6 +51,10 @@ returns-in-Top-clause-told g c = along c.run_told_top.result _ _ (top-told c.arg
 pub returns-in-Summarize-clause-told : goal.returns-in-Summarize-clause-told
 returns-in-Summarize-clause-told g c =
     along c.run_told_groups.result _ _ (groups-told c.args.phases.now c.run_told_groups.new.phases c.args.op.now c.in-Summarize.plan c.in-Summarize.is) c.run_told_groups.ensures.told
+
+pub returns-in-MakeSeries-clause-told : goal.returns-in-MakeSeries-clause-told
+returns-in-MakeSeries-clause-told g c =
+    along c.run_told_series.result _ _ (series-told c.args.phases.now c.run_told_series.new.phases c.args.op.now c.in-MakeSeries.series c.in-MakeSeries.is) c.run_told_series.ensures.told
 
 -- A partition.
 

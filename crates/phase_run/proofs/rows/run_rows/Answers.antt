@@ -4,6 +4,7 @@ use Rattle.std.proofs.Common.{◌≤◌, ◌*◌, ◌∙◌, ap, arith, length}
 use Rattle.crossing_laws.proofs.PlanLaws.{op_sync}
 use Rattle.crossing_laws.proofs.TableLaws.{catalogue_sync, table_send, table_sync}
 use Rattle.phase_laws.specs.Runs.{made_of}
+use Rattle.phase_pieces.proofs.CutLaws.{pieces-told}
 use Rattle.kql_plain.specs.AtHand.{world_of}
 use Rattle.phase_run.proofs.RowSteps.{all-alike, whole-run}
 use Rattle.phase_run.proofs.rows.run_rows.Goals as goal
@@ -28,3 +29,6 @@ returns-clause-table g c =
     let none = ap (made_of c.args.ops.now w) c.in_ok-none.ensures.rows in
     let all : length t.lines ≤ c.cut_rows-cut.result.pieces * c.cut_rows-cut.result.rows = omega (arith, c.cut_rows-cut.ensures.all, c.len.ensures.count) in
     whole-run c.law_of_row_runs.ensures.pieces c.args.ops.now w t c.in_ok-first.first c.in_ok-made.made c.cut_rows-cut.result.rows c.cut_rows-cut.result.pieces c.in_ok-results.field-0.results c.requires.by_row all (c.in_ok-first.ensures.table ∙ none) c.in_ok-results.ensures.results c.in_ok-made.ensures.table
+
+pub returns-clause-pieces : goal.returns-clause-pieces
+returns-clause-pieces g c = pieces-told _ _ _ _ _ c.cut_rows-cut.ensures.pieces c.len.ensures.count c.in_ok-results.ensures.size.0

@@ -4,7 +4,7 @@ use Rattle.std.proofs.Common.{length}
 use Rattle.kql_keys.proofs.places.PlaceLists.TheSendSync as lists
 use Rattle.crossing_laws.proofs.PlanLaws.{scan_sync}
 use Rattle.crossing_laws.proofs.TableLaws.{table_send, table_sync}
-use Rattle.phase_scans.proofs.KeySteps.{cut-all}
+use Rattle.phase_scans.proofs.KeySteps.{cut-all, keys-told}
 use Rattle.phase_scans.proofs.ScanSteps.{scans-alike, whole-scans}
 use Rattle.phase_scans.proofs.scans.run_lists.Goals as goal
 
@@ -23,3 +23,6 @@ pub returns-clause-table : goal.returns-clause-table
 returns-clause-table g c =
     let all = cut-all c.len.result (length c.args.lists.now) c.cut_keys-cut.result.pieces c.cut_keys-cut.result.rows c.len.ensures.count c.cut_keys-cut.ensures.all in
     whole-scans c.args.scan.now c.args.table.now c.args.extended.now c.in_ok-first.first c.in_ok-made.made c.args.lists.now c.cut_keys-cut.result.rows c.cut_keys-cut.result.pieces c.in_ok-results.field-0.results c.in_ok-first.ensures.table c.in_ok-results.ensures.results all c.in_ok-made.ensures.table
+
+pub returns-clause-pieces : goal.returns-clause-pieces
+returns-clause-pieces g c = keys-told _ _ _ _ _ _ _ c.cut_keys-cut.ensures.pieces c.len.ensures.count c.len-2.ensures.count c.in_ok-results.ensures.size.0

@@ -6,6 +6,7 @@ use Rattle.window_ops.proofs.carries.Carry.TheSendSync as carry
 use Rattle.crossing_laws.proofs.PlanLaws.{item_sync}
 use Rattle.crossing_laws.proofs.TableLaws.{table_sync}
 use Rattle.phase_windows.specs.Rounds.{AreRoundsBefore}
+use Rattle.phase_windows.proofs.ItemSteps.{no-pieces, one-has}
 use Rattle.phase_windows.proofs.SumSteps.{no-rounds, one-round, sums-are}
 use Rattle.worker_board.specs.Views.{WholeClaims}
 use Rattle.phase_windows.proofs.sums.run_sums.Goals as goal
@@ -31,3 +32,9 @@ returns-clause-rounds g c =
     one-round c.args.workers c.args.items.now c.args.table.now c.in_ok-first.first c.in_ok-results.field-0.gathered c.push.new.self c.in_ok-first.ensures.carries some
     (c.in_ok-push.ensures.added ∙ ap (λ (gs : List WholeClaims). gs ++ c.in_ok-results.field-0.gathered ∷ []) c.new-gathered.ensures.empty)
     (record { workers = c.in_ok-results.ensures.size.1; claims = c.in_ok-results.ensures.claims })
+
+pub returns-then-is_empty-clause-pieces : goal.returns-then-is_empty-clause-pieces
+returns-then-is_empty-clause-pieces g c = no-pieces _ _ c.new-gathered.ensures.empty
+
+pub returns-clause-pieces : goal.returns-clause-pieces
+returns-clause-pieces g c = one-has _ _ _ _ (no-pieces _ _ c.new-gathered.ensures.empty) c.in_ok-push.ensures.added c.in_ok-results.ensures.size.0
