@@ -1,31 +1,80 @@
 -- What the steps of a run keep.
-use Rattle.std.proofs.Common.{◌≡◌, ℕ, ◌+◌, ◌≤◌, List, [], ◌∷◌, ◌++◌, All, fold, length, take, replicate, max, Option, Some, None, IfSome, true, false, refl, sym, ap, ◌∙◌, subst, append_assoc, length-append, arith}
-use Rattle.std.specs.Prelude.{IsSomeAnd}
-use Rattle.std.proofs.lemmas.List.{length-replicate}
-use Rattle.std.proofs.lemmas.List.Elements.{All-nil, All-push, All-replicate, All-weaker, All-tail}
+use Rattle.std.proofs.Common.{◌≡◌, ℕ, ◌+◌, ◌≤◌, List, [], ◌∷◌, ◌++◌, All, fold, length, take, max, Option, Some, None, IfSome, true, false, refl, sym, ap, ◌∙◌, subst, append_assoc, length-append, arith}
+use Rattle.std.specs.Prelude.{IfOk, IsSomeAnd, Result, Ok, Err, ◌↔◌}
+use Rattle.std.proofs.lemmas.List.Elements.{All-head, All-nil, All-push, All-weaker, All-tail}
 use Rattle.kql_cells.specs.Table.{Grid}
 use Rattle.kql_cells.specs.declared.schema.Column.{Column}
 use Rattle.live_catalogue.specs.Rule.{StartsWith}
-use Rattle.live_catalogue.specs.Views.{AppenderView, NoteView, ReaderView, all_published, beginner, begun, knowing, learnt, note_of, with_least}
-use Rattle.live_tables.specs.Growing.{has_columns_of, with_rows}
+use Rattle.live_catalogue.specs.Views.{AppenderView, NoteView, ReaderView, knowing, learnt, note_of, with_least}
+use Rattle.live_tables.specs.Growing.{with_rows}
 use Rattle.live_run.specs.Scripts.{is_scripted}
 use Rattle.live_run.specs.Sights.{HasSeen, IsSeenList, IsSight, Rises}
-use Rattle.live_run.specs.Runs.{HasWatched, IsFresh, IsOpen, IsReading, IsWaiting}
+use Rattle.live_run.specs.Runs.{HasWatched, IsFresh, IsOfFresh, IsReading, IsWaiting}
+use Rattle.live_run.specs.declared.query.LiveAnswer.{LiveAnswer}
 use Rattle.live_run.specs.declared.watch.Seen.{Seen}
 use Rattle.live_run.specs.declared.watch.Watcher.{Watcher}
+
+-- what holds of each value that may be published holds of a snapshot's
+pub value_so : {V : Type 0} (grown : V → Grid → V) (promised : V → List Grid → Type 0) (P : V → Type 0) (opening opening' : Option V) (known : List Grid) (value : V)
+    → IsSomeAnd opening (λ o. (batches : List Grid) → promised o batches → P (fold grown o batches)) → opening' ≡ opening → IfSome opening' (λ o. promised o known) → IfSome opening' (λ o. value ≡ fold grown o known) → P value
+value_so grown promised P None opening' known value h same kept is = absurd h
+value_so grown promised P (Some o) opening' known value h same kept is =
+    let there : promised o known = subst (λ (z : Option _). IfSome z (λ o. promised o known)) same kept in
+    let here : value ≡ fold grown o known = subst (λ (z : Option _). IfSome z (λ o. value ≡ fold grown o known)) same is in
+    subst P (sym here) (h known there)
+
+-- What has grown by batches stands for the table with their rows.
+module _ {V : Type 0} (grown : V → Grid → V) (stands : Grid → V → Type 0) (follows : Grid → Grid → Type 0)
+    (grows : (table batch : Grid) (v : V) → stands table v → follows table batch → stands (with_rows table batch) (grown v batch))
+    (follows_on : (table batch next : Grid) → follows table next → follows (with_rows table batch) next) where
+  stands_after : (table : Grid) (v : V) (first rest : List Grid) → stands table v → All (follows table) (first ++ rest) → stands (fold with_rows table first) (fold grown v first)
+  stands_after table v [] rest h f = h
+  stands_after table v (b ∷ bs) rest h f =
+      let more = All-weaker (follows table) (follows (with_rows table b)) (λ c g. follows_on table b c g) (bs ++ rest) (All-tail (follows table) b (bs ++ rest) f) in
+      stands_after (with_rows table b) (grown v b) bs rest (grows table b v h (All-head (follows table) b (bs ++ rest) f)) more
+
+  -- so the question may be put to it, as long as the batches are those of the script
+  pub may_ask : (table : Grid) (opening : Option V) (script : List Grid) → IsSomeAnd opening (stands table) → All (follows table) script
+      → IsSomeAnd opening (λ o. (batches : List Grid) → is_scripted script o batches → (t : Grid) × stands t (fold grown o batches))
+  may_ask table None script h f = absurd h
+  may_ask table (Some o) script h f = λ batches starts. (fold with_rows table batches, stands_after table o batches starts.0 h (subst (All (follows table)) starts.1 f))
+
+  -- and the answer is that over the table that grew
+  pub answered : (answer : Grid → Grid) (table : Grid) (opening opening' : Option V) (script known : List Grid) (r : Grid) → IsSomeAnd opening (stands table) → opening' ≡ opening → All (follows table) script
+      → IfSome opening' (λ o. is_scripted script o known) → IfSome opening' (λ o. (t : Grid) → stands t (fold grown o known) → r ≡ answer t) → r ≡ answer (fold with_rows table known)
+  answered answer table None opening' script known r h same f starts is = absurd h
+  answered answer table (Some o) opening' script known r h same f starts is =
+      let first : StartsWith script known = subst (λ (z : Option V). IfSome z (λ o. is_scripted script o known)) same starts in
+      let each = subst (λ (z : Option V). IfSome z (λ o. (t : Grid) → stands t (fold grown o known) → r ≡ answer t)) same is in
+      each (fold with_rows table known) (stands_after table o known first.0 h (subst (All (follows table)) first.1 f))
+
+-- the list that a snapshot has is a beginning of the script's
+pub starts_so : {V : Type 0} (stands : V → Type 0) (opening opening' : Option V) (script known : List Grid) → IsSomeAnd opening stands → opening' ≡ opening → IfSome opening' (λ o. is_scripted script o known) → StartsWith script known
+starts_so stands None opening' script known h same starts = absurd h
+starts_so stands (Some o) opening' script known h same starts = subst (λ (z : Option _). IfSome z (λ o. is_scripted script o known)) same starts
 
 -- a table that grows keeps its columns
 pub columns_stay : (table : Grid) (batches : List Grid) → (fold with_rows table batches).columns ≡ table.columns
 columns_stay table [] = refl
 columns_stay table (b ∷ bs) = columns_stay (with_rows table b) bs
 
--- so the query may be asked of it
-pub may_ask : (takes : List Column → Type 0) (opening opening' : Option Grid) (batches : List Grid) (t : Grid)
-    → IsSomeAnd opening (λ o. takes o.columns) → opening' ≡ opening → IfSome opening' (λ o. t ≡ fold with_rows o batches) → takes t.columns
-may_ask takes None opening' batches t h same value = absurd h
-may_ask takes (Some o) opening' batches t h same value =
-    let is : t ≡ fold with_rows o batches = subst (λ (z : Option Grid). IfSome z (λ o. t ≡ fold with_rows o batches)) same value in
-    subst takes (sym (ap (λ (g : Grid). g.columns) is ∙ columns_stay o batches)) h
+-- so a query may be asked of it, whatever its batches are
+pub table_asked : (takes : List Column → Type 0) (promised : Grid → List Grid → Type 0) (opening : Option Grid) → IsSomeAnd opening (λ o. takes o.columns)
+    → IsSomeAnd opening (λ o. (batches : List Grid) → promised o batches → (t : Grid) × ((fold with_rows o batches ≡ t) × takes t.columns))
+table_asked takes promised None h = absurd h
+table_asked takes promised (Some o) h = λ batches _. (fold with_rows o batches, (refl, subst takes (sym (columns_stay o batches)) h))
+
+pub table_answered : (takes : List Column → Type 0) (answer : Grid → Grid) (opening opening' : Option Grid) (known : List Grid) (r : Grid) → IsSomeAnd opening (λ o. takes o.columns) → opening' ≡ opening
+    → IfSome opening' (λ o. (t : Grid) → (fold with_rows o known ≡ t) × takes t.columns → r ≡ answer t) → IfSome opening' (λ o. r ≡ answer (fold with_rows o known))
+table_answered takes answer None opening' known r h same is = absurd h
+table_answered takes answer (Some o) opening' known r h same is =
+    let each = subst (λ (z : Option Grid). IfSome z (λ o. (t : Grid) → (fold with_rows o known ≡ t) × takes t.columns → r ≡ answer t)) same is in
+    subst (λ (z : Option Grid). IfSome z (λ o. r ≡ answer (fold with_rows o known))) (sym same) (each (fold with_rows o known) (refl, subst takes (sym (columns_stay o known)) h))
+
+pub each_answered : {E : Type 0} (takes : List Column → Type 0) (answer : Grid → Grid) (opening opening' : Option Grid) (known : List Grid) (r : Result LiveAnswer E) → IsSomeAnd opening (λ o. takes o.columns) → opening' ≡ opening
+    → IfOk r (λ a. IfSome opening' (λ o. (t : Grid) → (fold with_rows o known ≡ t) × takes t.columns → a.table ≡ answer t)) → IfOk r (λ a. IfSome opening' (λ o. a.table ≡ answer (fold with_rows o known)))
+each_answered takes answer opening opening' known (Ok a) h same is = table_answered takes answer opening opening' known a.table h same is
+each_answered takes answer opening opening' known (Err e) h same is = tt
 
 pub some_and : {X : Type 0} (P : X → Type 0) (o : Option X) (x : X) → o ≡ Some x → P x → IsSomeAnd o P
 some_and P o x e p = subst (λ z. IsSomeAnd z P) (sym e) p
@@ -74,36 +123,13 @@ seen_whole answer opening batches seen more least times s h count times_are item
   all = whole;
 }
 
--- the appender
-pub may_publish : (a b : AppenderView Grid) (opening batch : Grid) (batches : List Grid) → IsOpen opening a → b ≡ record a { pending = a.pending ++ batch ∷ [] }
-    → StartsWith batches (a.published ++ batch ∷ []) → IfSome b.opening (λ o. is_scripted opening batches o (b.published ++ b.pending))
-may_publish a b opening batch batches h staged starts =
-    subst (λ (z : AppenderView Grid). IfSome z.opening (λ o. is_scripted opening batches o (z.published ++ z.pending))) (sym staged)
-    (subst (λ (p : List Grid). IfSome a.opening (λ o. is_scripted opening batches o (a.published ++ (p ++ batch ∷ [])))) (sym h.none)
-    (subst (λ (z : Option Grid). IfSome z (λ o. is_scripted opening batches o (a.published ++ batch ∷ []))) (sym h.opened) (refl, starts)))
-
-module _ (a b c : AppenderView Grid) (opening batch : Grid) (h : IsOpen opening a) (staged : b ≡ record a { pending = a.pending ++ batch ∷ [] })
-    (published : c ≡ all_published with_rows b) where
-  pub still_open : IsOpen opening c
-  still_open = record {
-    opened = ap (λ (z : AppenderView Grid). z.opening) published ∙ (ap (λ (z : AppenderView Grid). z.opening) staged ∙ h.opened);
-    open_yet = ap (λ (z : AppenderView Grid). z.closed) published ∙ (ap (λ (z : AppenderView Grid). z.closed) staged ∙ h.open_yet);
-    none = ap (λ (z : AppenderView Grid). z.pending) published;
-  }
-
-  pub one_published : c.published ≡ a.published ++ batch ∷ []
-  one_published =
-      ap (λ (z : AppenderView Grid). z.published) published ∙ (ap (λ (z : AppenderView Grid). z.published ++ z.pending) staged ∙ ap (λ (p : List Grid). a.published ++ (p ++ batch ∷ [])) h.none)
-
-  pub same_columns : c.value.columns ≡ a.value.columns
-  same_columns =
-      ap (λ (z : AppenderView Grid). z.value.columns) published
-      ∙ (ap (λ (z : AppenderView Grid). (fold with_rows z.value z.pending).columns) staged ∙ columns_stay a.value (a.pending ++ batch ∷ []))
-
-pub takes_rest : (value value' batch : Grid) (left more : List Grid) → left ≡ batch ∷ more → value'.columns ≡ value.columns → All (has_columns_of value) left
-    → All (has_columns_of value') more
-takes_rest value value' batch left more is same h =
-    All-weaker (has_columns_of value) (has_columns_of value') (λ b e. same ∙ e) more (All-tail (has_columns_of value) batch more (subst (All (has_columns_of value)) is h))
+-- the batches that are left
+pub takes_rest : {V : Type 0} (can_take : V → Grid → Type 0) (grown : V → Grid → V) (alike : (v : V) (b c : Grid) → can_take v b → can_take (grown v b) c ↔ can_take v c)
+    (value value' : V) (batch : Grid) (left more : List Grid) → left ≡ batch ∷ more → value' ≡ grown value batch → All (can_take value) left → All (can_take value') more
+takes_rest can_take grown alike value value' batch left more is same h =
+    let all = subst (All (can_take value)) is h in
+    let rest = All-weaker (can_take value) (can_take (grown value batch)) (λ c t. (alike value batch c (All-head (can_take value) batch more all)).1 t) more (All-tail (can_take value) batch more all) in
+    subst (λ (v : _). All (can_take v) more) (sym same) rest
 
 pub script_rest : (published published' left more batches : List Grid) (batch : Grid) → published ++ left ≡ batches → left ≡ batch ∷ more → published' ≡ published ++ batch ∷ []
     → published' ++ more ≡ batches
@@ -114,50 +140,58 @@ pub starts_next : (published left more batches : List Grid) (batch : Grid) → p
 starts_next published left more batches batch whole is =
     (more, sym (append_assoc published (batch ∷ []) more ∙ (ap (λ l. published ++ l) (sym is) ∙ whole)))
 
--- as a run begins
-pub open_begun : (a : AppenderView Grid) (first opening : Grid) → a ≡ begun first → first ≡ opening → IsOpen opening a
-open_begun a first opening is same = record {
-  opened = ap (λ (z : AppenderView Grid). z.opening) is ∙ ap Some same;
-  open_yet = ap (λ (z : AppenderView Grid). z.closed) is;
-  none = ap (λ (z : AppenderView Grid). z.pending) is;
-}
-
-pub all_fresh : (readers : List (ReaderView Grid)) (n : ℕ) (first opening : Grid) → readers ≡ replicate n (beginner (begun first)) → first ≡ opening → All (IsFresh opening) readers
-all_fresh readers n first opening are same =
-    subst (All (IsFresh opening)) (sym are)
-    (All-replicate (IsFresh opening) n (beginner (begun first)) (record { reading = record { opened = ap Some same; open_yet = refl }; least = refl }))
-
-pub counted : {X : Type 0} (xs : List X) (n : ℕ) (x : X) → xs ≡ replicate n x → length xs ≡ n
-counted xs n x are = ap length are ∙ length-replicate n x
-
 -- one watcher more
-pub one_waiting : (opening : Grid) (ws more : List (Watcher (ReaderView Grid))) (w : Watcher (ReaderView Grid)) → more ≡ ws ++ w ∷ [] → All (IsWaiting opening) ws → IsWaiting opening w → All (IsWaiting opening) more
-one_waiting opening ws more w is each one = subst (All (IsWaiting opening)) (sym is) (All-push (IsWaiting opening) ws w each one)
+pub one_waiting : {V : Type 0} (first : V) (ws more : List (Watcher (ReaderView V))) (w : Watcher (ReaderView V)) → more ≡ ws ++ w ∷ [] → All (IsOfFresh first) ws → IsOfFresh first w → All (IsOfFresh first) more
+one_waiting first ws more w is each one = subst (All (IsOfFresh first)) (sym is) (All-push (IsOfFresh first) ws w each one)
+
+pub all_waiting : {V : Type 0} (stands : V → Type 0) (opening : Option V) (readers : List (ReaderView V)) (ws : List (Watcher (ReaderView V))) → IsSomeAnd opening stands → IfSome opening (λ o. All (IsFresh o) readers)
+    → ((o : V) → All (IsFresh o) readers → All (IsOfFresh o) ws) → All (IsWaiting stands) ws
+all_waiting stands None readers ws h fresh each = absurd h
+all_waiting stands (Some o) readers ws h fresh each =
+    All-weaker (IsOfFresh o) (IsWaiting stands) (λ w f. record { reading = record { opened = some_and stands w.reader.opening o f.opened h; open_yet = f.open_yet }; least = f.least }) ws (each o fresh)
 
 -- the last note makes the reader know what is published
-pub learns_last : (r : ReaderView Grid) (n : NoteView Grid) → r.closed ≡ false → n.closed ≡ true → learnt r n ≡ with_least (knowing n) (max r.least (length n.batches))
+pub learns_last : {V : Type 0} (r : ReaderView V) (n : NoteView V) → r.closed ≡ false → n.closed ≡ true → learnt r n ≡ with_least (knowing n) (max r.least (length n.batches))
 learns_last r n open_yet closed = rw (open_yet, closed) refl
 
 -- what the whole run showed a reader, where it learnt the last note and then asked once more
-pub last_list : (answer : Grid → Grid) (opening : Grid) (batches : List Grid) (times : ℕ) (w : Watcher (ReaderView Grid)) (seen more : List Seen) (s : Seen) (n : NoteView Grid)
-    (a a' : AppenderView Grid) (r r' : ReaderView Grid)
-    → HasWatched answer opening batches times w → w.seen ≡ Some seen → times ≡ length batches + 1 → a.published ≡ batches → a' ≡ record a { closed = true }
+pub last_list : {V : Type 0} (stands : V → Type 0) (answer : Grid → Grid) (opening : Grid) (batches : List Grid) (times : ℕ) (w : Watcher (ReaderView V)) (seen more : List Seen) (s : Seen) (n : NoteView V)
+    (a a' : AppenderView V) (r r' : ReaderView V)
+    → HasWatched stands answer opening batches times w → w.seen ≡ Some seen → times ≡ length batches + 1 → a.published ≡ batches → a' ≡ record a { closed = true }
     → n ≡ note_of a' → r ≡ learnt w.reader n → (r.closed ≡ true → r'.batches ≡ r.batches) → s.batches ≡ length r'.batches → r.least ≤ s.batches
     → IsSight answer opening batches s → more ≡ seen ++ s ∷ [] → IsSeenList answer opening batches more
-last_list answer opening batches times w seen more s n a a' r r' watched is times_are published closed told knows last counted later sight items =
-    let h = if_some (λ ss. IsReading opening w.reader × HasSeen answer opening batches 0 ss w.reader.least × (length ss ≡ times)) w.seen seen is watched in
-    let mark : n.closed ≡ true = ap (λ (z : NoteView Grid). z.closed) told ∙ ap (λ (z : AppenderView Grid). z.closed) closed in
-    let list : n.batches ≡ batches = ap (λ (z : NoteView Grid). z.batches) told ∙ (ap (λ (z : AppenderView Grid). z.published) closed ∙ published) in
+last_list stands answer opening batches times w seen more s n a a' r r' watched is times_are published closed told knows last counted later sight items =
+    let h = if_some (λ ss. IsReading stands w.reader × HasSeen answer opening batches 0 ss w.reader.least × (length ss ≡ times)) w.seen seen is watched in
+    let mark : n.closed ≡ true = ap (λ (z : NoteView _). z.closed) told ∙ ap (λ (z : AppenderView _). z.closed) closed in
+    let list : n.batches ≡ batches = ap (λ (z : NoteView _). z.batches) told ∙ (ap (λ (z : AppenderView _). z.published) closed ∙ published) in
     let known : r ≡ with_least (knowing n) (max w.reader.least (length n.batches)) = knows ∙ learns_last w.reader n h.0.open_yet mark in
-    let r_closed : r.closed ≡ true = ap (λ (z : ReaderView Grid). z.closed) known ∙ mark in
-    let r_batches : r'.batches ≡ batches = last r_closed ∙ (ap (λ (z : ReaderView Grid). z.batches) known ∙ list) in
-    let r_least : r.least ≡ max w.reader.least (length n.batches) = ap (λ (z : ReaderView Grid). z.least) known in
+    let r_closed : r.closed ≡ true = ap (λ (z : ReaderView _). z.closed) known ∙ mark in
+    let r_batches : r'.batches ≡ batches = last r_closed ∙ (ap (λ (z : ReaderView _). z.batches) known ∙ list) in
+    let r_least : r.least ≡ max w.reader.least (length n.batches) = ap (λ (z : ReaderView _). z.least) known in
     let up : w.reader.least ≤ s.batches = omega (arith, r_least, later) in
     seen_whole answer opening batches seen more w.reader.least times s h.1 h.2 times_are items sight up (counted ∙ ap length r_batches)
 
+-- a reader that learnt it has the appender's opening
+pub knows_opening : {V : Type 0} (stands : V → Type 0) (r r' : ReaderView V) (n : NoteView V) (a a' : AppenderView V) → r.closed ≡ false → a' ≡ record a { closed = true } → n ≡ note_of a' → r' ≡ learnt r n
+    → IsSomeAnd a.opening stands → IsSomeAnd r'.opening stands
+knows_opening stands r r' n a a' open_yet closed told knows h =
+    let mark : n.closed ≡ true = ap (λ (z : NoteView _). z.closed) told ∙ ap (λ (z : AppenderView _). z.closed) closed in
+    let known : r' ≡ with_least (knowing n) (max r.least (length n.batches)) = knows ∙ learns_last r n open_yet mark in
+    let is : r'.opening ≡ a.opening = ap (λ (z : ReaderView _). z.opening) known ∙ (ap (λ (z : NoteView _). z.opening) told ∙ ap (λ (z : AppenderView _). z.opening) closed) in
+    subst (λ (z : Option _). IsSomeAnd z stands) (sym is) h
+
+-- what is known of the opening stays, where that does
+pub opened_still : {V : Type 0} (stands : V → Type 0) (o o' : Option V) → o' ≡ o → IsSomeAnd o stands → IsSomeAnd o' stands
+opened_still stands o o' same h = subst (λ (z : Option _). IsSomeAnd z stands) (sym same) h
+
+pub reads_on : {V : Type 0} (stands : V → Type 0) (answer : Grid → Grid) (opening : Grid) (batches : List Grid) (times : ℕ) (w : Watcher (ReaderView V)) (seen : List Seen) → HasWatched stands answer opening batches times w → w.seen ≡ Some seen
+    → IsReading stands w.reader
+reads_on stands answer opening batches times w seen watched is =
+    (if_some (λ ss. IsReading stands w.reader × HasSeen answer opening batches 0 ss w.reader.least × (length ss ≡ times)) w.seen seen is watched).0
+
 -- a look leaves the reader's opening and its mark
-pub still_reading : (opening : Grid) (r r' : ReaderView Grid) → IsReading opening r → (r'.opening ≡ r.opening) × (r'.closed ≡ r.closed) → IsReading opening r'
-still_reading opening r r' h same = record { opened = same.0 ∙ h.opened; open_yet = same.1 ∙ h.open_yet }
+pub still_reading : {V : Type 0} (stands : V → Type 0) (r r' : ReaderView V) → IsReading stands r → (r'.opening ≡ r.opening) × (r'.closed ≡ r.closed) → IsReading stands r'
+still_reading stands r r' h same = record { opened = subst (λ (z : Option _). IsSomeAnd z stands) (sym same.0) h.opened; open_yet = same.1 ∙ h.open_yet }
 
 -- one list more
 pub one_list : (answer : Grid → Grid) (opening : Grid) (batches : List Grid) (lists more : List (List Seen)) (list : List Seen) → more ≡ lists ++ list ∷ []

@@ -1,11 +1,12 @@
-ghost use Rattle.std.specs.Prelude.{◌≡◌, ◌≤◌, ℕ, List, length, fold, IfOk, IfSome, IsSomeAnd, true};
+ghost use Rattle.std.specs.Prelude.{◌≡◌, ◌≤◌, ℕ, List, length, fold, IfOk, IfSome, IsSomeAnd, true, OnErr};
 ghost use Rattle.kql_cells.specs.Table.{Grid};
 ghost use Rattle.kql_cells.specs.declared.schema.Column.{Column};
 ghost use Rattle.live_catalogue.specs.Rule.{StartsWith};
 ghost use Rattle.live_tables.specs.Growing.{with_rows};
 
+use crate::question::query_value;
 use kql_values::Table;
-use live_catalogue::{LiveReader, Promise, Snapshot};
+use live_catalogue::{LiveReader, Promise};
 use live_tables::LiveTable;
 use std::alloc::{AllocError, Global};
 
@@ -44,8 +45,7 @@ pub fn query_live<K: Promise<LiveTable>, Q: Query>(
     ensures answer { IfOk result (λ a. IfSome reader.new.opening (λ o. a.table ≡ Q.answer query.now (fold with_rows o reader.new.batches))) }
     ensures promise { IfOk result (λ a. IfSome reader.new.opening (λ o. K.promised o reader.new.batches)) }
     ensures least { IfOk result (λ a. (reader.old.least ≤ a.batches) × (reader.new.least ≡ a.batches)) }
+    ensures err { OnErr result (reader.old.least ≤ reader.new.least) }
 {
-    let Snapshot { batches, value } = reader.snapshot()?;
-    let table = query.ask(alloc, value.into_table())?;
-    Ok(LiveAnswer { batches, table })
+    query_value(alloc, reader, query)
 }

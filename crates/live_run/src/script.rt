@@ -1,10 +1,9 @@
 ghost use Rattle.live_run.specs.Scripts.{is_scripted};
 
 use live_catalogue::Promise;
-use live_tables::LiveTable;
 use std::marker::{Brand, PhantomData};
 
-/// The opening table of a run and all its batches, which clauses alone read.
+/// The table that a run opens with, or that its opening value stands for, and all its batches. Clauses alone read them.
 pub trait Script {
     ghost use Rattle.std.specs.Prelude.{List};
     ghost use Rattle.kql_cells.specs.Table.{Grid};
@@ -22,11 +21,11 @@ impl Script for Brand {
     ghost batches = { [] };
 }
 
-/// The promise to open with the table of a script, and to publish its batches in their order.
+/// The promise to publish the batches of a script in their order.
 pub struct Scripted<B> {
     script: PhantomData<B>,
 }
 
-impl<B: Script> Promise<LiveTable> for Scripted<B> {
-    ghost promised = { is_scripted B.opening B.batches };
+impl<V, B: Script> Promise<V> for Scripted<B> {
+    ghost promised = { is_scripted B.batches };
 }

@@ -1,16 +1,16 @@
-ghost use Rattle.std.specs.Prelude.{◌≡◌, ◌≤◌, ◌+◌, IfOk, OnOk, Some, fold, length, true};
+ghost use Rattle.std.specs.Prelude.{◌≡◌, ◌≤◌, ◌+◌, All, IfOk, IsSomeAnd, OnOk, fold, length, true};
 ghost use Rattle.live_tables.specs.Growing.{with_rows};
-ghost use Rattle.live_run.specs.Runs.{HasWatched, IsOpen, IsReading, IsWaiting};
+ghost use Rattle.live_run.specs.Runs.{HasWatched, IsReading, IsWaiting};
 ghost use Rattle.live_run.specs.Sights.{HasSeen, IsSeenList, IsSight};
 
 use crate::append::ScriptAppender;
-use crate::query::{LiveAnswer, Query, query_live};
+use crate::query::LiveAnswer;
+use crate::question::{Question, query_value};
 use crate::script::{Script, Scripted};
 use kql_items::Items;
 use kql_outside::Gate;
 use kql_values::Table;
-use live_catalogue::LiveReader;
-use live_tables::LiveTable;
+use live_catalogue::{Grows, LiveReader};
 use std::alloc::{AllocError, Global};
 
 /// What a reader saw once: after how many batches, and how many rows the answer had then.
@@ -26,7 +26,7 @@ pub type SeenList = Items<Seen>;
 /// What each reader saw, in their order.
 pub type SeenLists = Items<SeenList>;
 
-pub(crate) type ScriptReader<B> = LiveReader<LiveTable, Scripted<B>>;
+pub(crate) type ScriptReader<V, B> = LiveReader<V, Scripted<B>>;
 
 /// A reader, its number, and what it has seen: nothing where it wanted memory.
 #[derive(Drop)]
@@ -36,16 +36,16 @@ pub(crate) struct Watcher<T> {
     pub(crate) seen: Option<SeenList>,
 }
 
-pub(crate) type ScriptWatcher<B> = Watcher<ScriptReader<B>>;
+pub(crate) type ScriptWatcher<V, B> = Watcher<ScriptReader<V, B>>;
 
 // Asks the query once.
-fn look<B: Script, Q: Query>(
+fn look<V: Grows, B: Script, Q: Question<V>>(
     alloc: Global,
-    reader: &mut ScriptReader<B>,
+    reader: &mut ScriptReader<V, B>,
     query: &Q,
 ) -> Result<(Seen, Table), AllocError>
-    requires opened { reader.old.opening ≡ Some B.opening }
-    requires takes { Q.takes query.now B.opening.columns }
+    requires opened { IsSomeAnd reader.old.opening (Q.stands query.now B.opening) }
+    requires follows { All (Q.follows query.now B.opening) B.batches }
     ensures same { (reader.new.opening ≡ reader.old.opening) × (reader.new.closed ≡ reader.old.closed) }
     ensures last { reader.old.closed ≡ true → reader.new.batches ≡ reader.old.batches }
     ensures sight { IfOk result (λ r. IsSight (Q.answer query.now) B.opening B.batches r.0) }
@@ -53,21 +53,21 @@ fn look<B: Script, Q: Query>(
     ensures batches { IfOk result (λ r. r.0.batches ≡ length reader.new.batches) }
     ensures table { IfOk result (λ r. r.1 ≡ Q.answer query.now (fold with_rows B.opening reader.new.batches)) }
 {
-    let LiveAnswer { batches, table } = query_live(alloc, reader, query)?;
+    let LiveAnswer { batches, table } = query_value(alloc, reader, query)?;
     let rows = table.len() as u64;
     Ok((Seen { batches, rows }, table))
 }
 
 // Asks the query so many times.
-fn look_often<B: Script, Q: Query>(
+fn look_often<V: Grows, B: Script, Q: Question<V>>(
     alloc: Global,
-    reader: &mut ScriptReader<B>,
+    reader: &mut ScriptReader<V, B>,
     query: &Q,
     times: usize,
 ) -> Result<SeenList, AllocError>
-    requires reading { IsReading B.opening reader.old }
-    requires takes { Q.takes query.now B.opening.columns }
-    ensures reading { OnOk result (IsReading B.opening reader.new) }
+    requires reading { IsReading (Q.stands query.now B.opening) reader.old }
+    requires follows { All (Q.follows query.now B.opening) B.batches }
+    ensures reading { OnOk result (IsReading (Q.stands query.now B.opening) reader.new) }
     ensures seen { IfOk result (λ seen. HasSeen (Q.answer query.now) B.opening B.batches reader.old.least seen reader.new.least) }
     ensures count { IfOk result (λ seen. length seen ≡ times) }
 {
@@ -80,16 +80,16 @@ fn look_often<B: Script, Q: Query>(
 }
 
 /// Enters the gate, and asks the query so many times.
-pub(crate) fn watch<B: Script, Q: Query, G: Gate>(
+pub(crate) fn watch<V: Grows, B: Script, Q: Question<V>, G: Gate>(
     alloc: Global,
-    watcher: &mut ScriptWatcher<B>,
+    watcher: &mut ScriptWatcher<V, B>,
     query: &Q,
     times: usize,
     gate: &G,
 )
-    requires waiting { IsWaiting B.opening watcher.old }
-    requires takes { Q.takes query.now B.opening.columns }
-    ensures watched { HasWatched (Q.answer query.now) B.opening B.batches times watcher.new }
+    requires waiting { IsWaiting (Q.stands query.now B.opening) watcher.old }
+    requires follows { All (Q.follows query.now B.opening) B.batches }
+    ensures watched { HasWatched (Q.stands query.now B.opening) (Q.answer query.now) B.opening B.batches times watcher.new }
 {
     gate.enter(0, watcher.number);
     watcher.seen = match look_often(alloc, &mut watcher.reader, query, times) {
@@ -99,17 +99,17 @@ pub(crate) fn watch<B: Script, Q: Query, G: Gate>(
 }
 
 /// Tells the reader that all batches are published, and asks the query once more.
-pub(crate) fn look_last<B: Script, Q: Query>(
+pub(crate) fn look_last<V: Grows, B: Script, Q: Question<V>>(
     alloc: Global,
-    appender: &mut ScriptAppender<B>,
-    watcher: ScriptWatcher<B>,
+    appender: &mut ScriptAppender<V, B>,
+    watcher: ScriptWatcher<V, B>,
     query: &Q,
     times: usize,
 ) -> Result<(SeenList, Table), AllocError>
-    requires watched { HasWatched (Q.answer query.now) B.opening B.batches times watcher }
+    requires watched { HasWatched (Q.stands query.now B.opening) (Q.answer query.now) B.opening B.batches times watcher }
     requires times { times ≡ length B.batches + 1 }
-    requires takes { Q.takes query.now B.opening.columns }
-    requires opened { appender.old.opening ≡ Some B.opening }
+    requires follows { All (Q.follows query.now B.opening) B.batches }
+    requires opened { IsSomeAnd appender.old.opening (Q.stands query.now B.opening) }
     requires published { appender.old.published ≡ B.batches }
     ensures opened { appender.new.opening ≡ appender.old.opening }
     ensures published { appender.new.published ≡ appender.old.published }

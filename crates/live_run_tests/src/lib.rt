@@ -3,11 +3,14 @@
 
 #[cfg(test)]
 mod alone;
+mod asks;
 #[cfg(test)]
 mod many;
 #[cfg(test)]
 mod runs;
 #[cfg(test)]
-mod table;
+mod single;
 #[cfg(test)]
+mod table;
+mod tally;
 mod whole;

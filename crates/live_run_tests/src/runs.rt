@@ -1,4 +1,5 @@
 //! Runs of a table that opens with some rows and grows by others, beside readers that ask for the whole of it.
+use crate::asks::run_tally;
 use crate::table::{Made, batch, shows};
 use crate::whole::Whole;
 use kql_items::Items;
@@ -37,6 +38,24 @@ fn run<R: Threads + Wait + Sync, G: Gate + Sync>(
         return Ok(None);
     }
     let outcome = run_live(rt, alloc, first, rest.as_slice(), readers, &Whole, gate)?;
+    Ok(Some(outcome))
+}
+
+// The same of a run in which the rows alone are counted.
+fn run_bare<R: Threads + Wait + Sync, G: Gate + Sync>(
+    rt: &R,
+    alloc: Global,
+    opening: &[i64],
+    batches: &[&[i64]],
+    readers: u32,
+    gate: &G,
+) -> Made<Option<Outcome>> {
+    let first = batch(alloc, opening)?;
+    let rest = tables(alloc, batches)?;
+    if readers < 1 || 8 < readers {
+        return Ok(None);
+    }
+    let outcome = run_tally(rt, alloc, &first, rest.as_slice(), readers, gate)?;
     Ok(Some(outcome))
 }
 
@@ -101,5 +120,18 @@ fn sixty_three_batches(rt: HostRuntime) -> Result<(), Fail> {
     let outcome = outcome.expect(&rt, "the run may begin");
     assert!(rt; are_lists(&outcome, 3, 0, 2, 63));
     assert_eq!(rt; outcome.table.len(), 126);
+    Ok(())
+}
+
+#[test]
+fn rows_alone_are_counted(rt: HostRuntime) -> Result<(), Fail> {
+    let gate = HoldGate::new(TURNS);
+    let batches: [&[i64]; 3] = [&[3, 4], &[5, 6], &[7, 8]];
+    let outcome = run_bare(&rt, rt.alloc(), &[1], &batches, 2, &gate)?;
+    let outcome = outcome.expect(&rt, "the run may begin");
+    assert!(rt; are_lists(&outcome, 2, 1, 2, 3));
+    assert_eq!(rt; outcome.table.len(), 7);
+    assert_eq!(rt; outcome.table.schema().len(), 0);
+    assert!(rt; gate.met());
     Ok(())
 }

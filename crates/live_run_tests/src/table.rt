@@ -4,7 +4,7 @@ ghost use Rattle.live_tables.specs.Growing.{row_count};
 
 use kql_cells::{CellRef, Column, KText, Kind, Schema};
 use kql_values::{Table, TableBuilder};
-use live_catalogue::{Appender, LiveReader};
+use live_catalogue::{Appender, Grows, LiveReader};
 use live_tables::LiveTable;
 use std::alloc::{AllocError, Global};
 
@@ -78,7 +78,7 @@ pub(crate) fn shows(t: &Table, want: &[i64]) -> bool {
 }
 
 /// Stages a batch, where the appender takes it and all is small enough.
-pub(crate) fn stage(appender: &mut Appender<LiveTable>, batch: Table) -> bool
+pub(crate) fn stage<V: Grows>(appender: &mut Appender<V>, batch: Table) -> bool
     ensures open { appender.new.closed ≡ appender.old.closed }
 {
     let fits = appender.rows() < MANY && appender.staged() < MANY && (batch.len() as u64) < MANY;

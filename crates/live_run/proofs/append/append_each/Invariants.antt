@@ -1,13 +1,13 @@
 use Rattle.std.proofs.Common.{◌≡◌, ◌++◌, All, length}
-use Rattle.live_tables.specs.Growing.{has_columns_of}
 use Rattle.live_run.specs.Runs.{IsOpen}
 use Rattle.live_run.proofs.append.append_each.Given as goal
 
 abbrev pub invariant-batches : goal.invariant-batches
 invariant-batches g l = record {
-  open_yet : IsOpen g.B.Script.opening l.appender;
+  open_yet : IsOpen l.appender;
+  opening : l.appender.opening ≡ l.fn.appender.opening;
   script : l.appender.published ++ l.left ≡ g.B.Script.batches;
-  takes : All (has_columns_of l.appender.value) l.left;
+  takes : All (g.V.Grows.can_take l.appender.value) l.left;
 }
 
 abbrev pub decreases-batches : goal.decreases-batches

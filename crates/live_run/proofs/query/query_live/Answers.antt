@@ -1,11 +1,10 @@
-use Rattle.std.proofs.Common.{◌≡◌, subst, sym, rules}
-use Rattle.kql_cells.specs.Table.{Grid}
-use Rattle.live_run.proofs.RunLaws.{may_ask}
+use Rattle.live_run.proofs.RunLaws.{each_answered, table_asked}
 use Rattle.live_run.proofs.query.query_live.Goals as goal
 
-pub ask-requires : goal.ask-requires
-ask-requires g c =
-    let takes = g.Q.Query.takes c.args.query.now in
-    let value = may_ask takes c.args.reader.now.opening c.snapshot.new.self.opening c.snapshot.new.self.batches c.in_ok-batches.field-0.value c.requires.takes c.in_ok-batches.ensures.same.0 c.in_ok-batches.ensures.value in
-    let same : c.into_table.result ≡ c.in_ok-batches.field-0.value = search rules in
-    record { takes = subst (λ (t : Grid). takes t.columns) (sym same) value }
+pub query_value-requires : goal.query_value-requires
+query_value-requires g c = record { asked = table_asked (g.Q.Query.takes c.args.query.now) g.K.Promise.promised c.args.reader.now.opening c.requires.takes }
+
+pub returns-clause-answer : goal.returns-clause-answer
+returns-clause-answer g c =
+    each_answered (g.Q.Query.takes c.args.query.now) (g.Q.Query.answer c.args.query.now) c.args.reader.now.opening c.query_value.new.reader.opening c.query_value.new.reader.batches c.query_value.result
+    c.requires.takes c.query_value.ensures.same.0 c.query_value.ensures.answer

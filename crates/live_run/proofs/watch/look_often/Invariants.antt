@@ -5,7 +5,7 @@ use Rattle.live_run.proofs.watch.look_often.Given as goal
 
 abbrev pub invariant-loop : goal.invariant-loop
 invariant-loop g l = record {
-  reading : IsReading g.B.Script.opening l.reader;
-  seen : HasSeen (g.Q.Query.answer l.query) g.B.Script.opening g.B.Script.batches l.fn.reader.least l.seen l.reader.least;
+  reading : IsReading (g.Q.Question.stands l.query g.B.Script.opening) l.reader;
+  seen : HasSeen (g.Q.Question.answer l.query) g.B.Script.opening g.B.Script.batches l.fn.reader.least l.seen l.reader.least;
   count : length l.seen ≡ l.counter;
 }
