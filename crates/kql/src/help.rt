@@ -26,7 +26,7 @@ kql: answers a query of the Kusto Query Language over tables in CSV files.
     kql plain [OPTION ..] QUERY NAME=PATH ..
     kql explain [OPTION ..] QUERY NAME=PATH ..
     kql trial ROWS SEED [--workers N]
-    kql live [--readers R] [--now T] [--watch] QUERY NAME=PATH PATH ..
+    kql live [--readers R] [--now T] [--watch] [--view] QUERY NAME=PATH PATH ..
 
 Behind -e stands a query, and behind -q its file; FILE is NAME=PATH or a path, whose
 table has the file's name, and - is the standard input. FORM is csv, table, json or
@@ -40,7 +40,7 @@ operator after another on one thread. explain prints the plan by which run
 answers. trial answers five stored queries over a log of ROWS lines that SEED
 makes up, with a line for each. live answers over a table that grows by the further
 files while R readers ask, 2 where R is not given; --watch shows each answer that
-differs from the one before.
+differs from the one before; --view keeps the groups of one summarize for readers.
 
     --now T           the datetime that now() is, as 2024-03-01 or 2024-03-01T10:00
     --limit SIZE      how many bytes the files may have together, as 1GiB; else 64 MiB

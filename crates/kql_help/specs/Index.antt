@@ -157,6 +157,7 @@ of_name_codes =
     (codes "417" ∷ [], name_codes.NAME_TWICE.now) ∷
     (codes "418" ∷ [], name_codes.BAD_LITERAL.now) ∷
     (codes "419" ∷ [], name_codes.NO_COLUMNS.now) ∷
+    (codes "421" ∷ [], name_codes.NOT_A_VIEW.now) ∷
     []
 
 -- the codes of files

@@ -1,6 +1,6 @@
 -- The steps of a live command's answer.
 use Rattle.std.proofs.Common.{◌≡◌, ◌<◌, ◌∙◌, ◌+◌, ◌-◌, ℕ, get_or, true, List, [], ◌∷◌, ◌++◌, length, drop, take, refl, ap, arith, subst, sym}
-use Rattle.std.specs.Prelude.{ℤ, Option, Some, None, IfSome, IsErrAnd, Result, Ok, Err, String, string_bytes}
+use Rattle.std.specs.Prelude.{Bool, false, if◌then◌else◌, ℤ, Option, Some, None, IfSome, IsErrAnd, Result, Ok, Err, String, string_bytes}
 use Rattle.std.specs.Global.{Global}
 use Rattle.std.proofs.lemmas.List.{get_or-map}
 use Rattle.bind_expr.specs.Outcome.{Outcome}
@@ -16,20 +16,23 @@ use Rattle.kql_syntax.specs.declared.parse.SyntaxFault.TheVariants as syntax
 use Rattle.kql_syntax.specs.declared.query.Query.{Query}
 use Rattle.kql_program.specs.Files.{file_tokens, named_as}
 use Rattle.kql_program.specs.Outcomes.{RefusesNoWord}
-use Rattle.kql_program.specs.Queries.{bound_as, program_of}
+use Rattle.kql_program.specs.Queries.{bound_as, program_of, start_place}
 use Rattle.kql_program.specs.Refusals.{Computes, Gives, Reaches}
 use Rattle.kql_program.specs.Stops.{syntax_stop}
 use Rattle.kql_program.specs.declared.refusal.Stop.{Stop}
 use Rattle.kql_program.specs.declared.refusal.Stop.TheVariants as stop
+use Rattle.kql_program.proofs.WordFacts.{KeepsWords}
 use Rattle.kql_program.proofs.AnswerFacts.{computes, goes_on, raised, raised-gives, raised-reaches, stops}
 use Rattle.kql_words.proofs.AskedLaws.{rest-of, texts-rest}
 use Rattle.kql_words.specs.Command.{name_in, names_table, path_in, texts}
 use Rattle.kql_words.specs.Options.{limit_ungiven}
 use Rattle.kql_words.specs.Refusals.{Answer, ◌>>=◌}
+use Rattle.kql_words.specs.declared.refusal.Refusal.{Refusal}
 use Rattle.kql_words.specs.declared.refusal.Refusal.TheVariants as refusal
+use Rattle.live_query.specs.ViewForm.{is_view}
 use Rattle.live_words.specs.LiveWords.{AreLivePaths, live_query_path, table_fault}
 use Rattle.live_words.specs.declared.command.LiveAsked.{LiveAsked}
-use Rattle.kql_live.specs.LiveAnswer.{IsLiveBound, IsLiveBoundAsked, first_name, live_bound_over, live_bound_with, live_query_bound, live_rest, over}
+use Rattle.kql_live.specs.LiveAnswer.{IsLiveBound, IsLiveBoundAsked, IsLiveQueryBound, first_name, live_bound_over, live_bound_with, live_query_bound, live_rest, over, viewed}
 use Rattle.kql_live.specs.LiveFiles.{live_tables, tables_of}
 use Rattle.kql_live.specs.declared.bound.LiveBound.{LiveBound}
 use Rattle.kql_live.specs.declared.bound.LiveTables.{LiveTables}
@@ -168,18 +171,18 @@ path-asked words asked d path lt p = get_or-map string_bytes words asked.query d
 
 pub asked-tokens : (told : Option Files) (words : List (String Global)) (asked : LiveAsked) (d : String Global) (path : List ℕ) (r : Result LiveBound Stop) (s : Stop) → asked.query < length words
     → path ≡ string_bytes (get_or words asked.query d) → IfSome told (λ files. Computes (file_tokens files path) (Err s)) → IsErrAnd r (λ e. e ≡ s)
-    → IfSome told (λ files. Reaches (IsLiveBoundAsked (texts words) files asked) r)
+    → IfSome told (λ files. Reaches (IsLiveQueryBound (texts words) files asked) r)
 asked-tokens None words asked d path r s lt p h i = tt
 asked-tokens (Some files) words asked d path r s lt p h i =
     let there : Computes (file_tokens files (live_query_path (texts words) asked)) (Err s) = subst (λ (at : List ℕ). Computes (file_tokens files at) (Err s)) (sym (path-asked words asked d path lt p)) h in
-    raised-reaches (IsLiveBoundAsked (texts words) files asked) r s i
+    raised-reaches (IsLiveQueryBound (texts words) files asked) r s i
     (tokens-reach (file_tokens files (live_query_path (texts words) asked)) (tables_of files (live_rest (texts words) asked)) asked.options.moment (first_name (live_rest (texts words) asked)) s there)
 
 pub asked-parsed : (told now-told : Option Files) (words rest : List (String Global)) (asked : LiveAsked) (d : String Global) (path : List ℕ) (tokens : List Token) (r : Result LiveBound Stop)
     → asked.query < length words → path ≡ string_bytes (get_or words asked.query d) → rest ≡ take (length words - (asked.query + 1)) (drop (asked.query + 1) words)
     → IfSome told (λ files. file_tokens files path ≡ Ok tokens) → now-told ≡ told
     → IfSome now-told (λ files. Reaches (IsLiveBound (Ok tokens) (tables_of files (texts rest)) asked.options.moment (first_name (texts rest))) r)
-    → IfSome told (λ files. Reaches (IsLiveBoundAsked (texts words) files asked) r)
+    → IfSome told (λ files. Reaches (IsLiveQueryBound (texts words) files asked) r)
 asked-parsed None now-told words rest asked d path tokens r lt p w t n h = tt
 asked-parsed (Some files) now-told words rest asked d path tokens r lt p w t n h =
     let behind : texts rest ≡ live_rest (texts words) asked = texts-rest words rest (asked.query + 1) w in
@@ -192,3 +195,38 @@ asked-parsed (Some files) now-told words rest asked d path tokens r lt p w t n h
 -- the words behind QUERY, where they are those of a command
 pub rest-paths : (words rest : List (String Global)) (n : ℕ) → rest ≡ take (length words - n) (drop n words) → AreLivePaths (texts (drop n words)) → AreLivePaths (texts rest)
 rest-paths words rest n e h = subst (λ (ws : List (String Global)). AreLivePaths (texts ws)) (sym (e ∙ rest-of words n)) h
+
+-- What a view can keep.
+
+-- a query that could not be bound
+unbound-reaches : (words : List (List ℕ)) (files : Files) (asked : LiveAsked) (s : Stop) → Reaches (IsLiveQueryBound words files asked) (Err s) → Reaches (IsLiveBoundAsked words files asked) (Err s)
+unbound-reaches words files asked (stop.Refused q) h = record { bound = Err q; is_bound = h; is = refl }
+unbound-reaches words files asked stop.ReadFault h = tt
+unbound-reaches words files asked stop.OutOfMemory h = tt
+
+pub viewed-stop : (told : Option Files) (words : List (List ℕ)) (asked : LiveAsked) (r : Result LiveBound Stop) (s : Stop) → IfSome told (λ files. Reaches (IsLiveQueryBound words files asked) (Err s)) → IsErrAnd r (λ e. e ≡ s)
+    → IfSome told (λ files. Reaches (IsLiveBoundAsked words files asked) r)
+viewed-stop None words asked r s h i = tt
+viewed-stop (Some files) words asked r s h i = raised-reaches (IsLiveBoundAsked words files asked) r s i (unbound-reaches words files asked s h)
+
+-- one that a view cannot keep
+pub viewed-refused : (told : Option Files) (words : List (List ℕ)) (asked : LiveAsked) (b : LiveBound) (r : Result LiveBound Stop) (q : Refusal) → IfSome told (λ files. IsLiveQueryBound words files asked (Ok b))
+    → Err q ≡ viewed asked.options.view b → IsErrAnd r (λ e. e ≡ stop.Refused q) → IfSome told (λ files. Reaches (IsLiveBoundAsked words files asked) r)
+viewed-refused None words asked b r q h e i = tt
+viewed-refused (Some files) words asked b r q h e i =
+    raised-reaches (IsLiveBoundAsked words files asked) r (stop.Refused q) i (record { bound = Ok b; is_bound = h; is = e })
+
+-- and one that it can keep, or that needs no view
+pub viewed-ok : (told : Option Files) (words : List (List ℕ)) (asked : LiveAsked) (b k : LiveBound) → IfSome told (λ files. IsLiveQueryBound words files asked (Ok b)) → Ok k ≡ viewed asked.options.view b
+    → IfSome told (λ files. IsLiveBoundAsked words files asked (Ok k))
+viewed-ok None words asked b k h e = tt
+viewed-ok (Some files) words asked b k h e = record { bound = Ok b; is_bound = h; is = e }
+
+-- no word is refused by it
+refused-words : (can : Bool) (b : LiveBound) (q : Refusal) → Err q ≡ (if can then Ok b else Err (refusal.Query 421 start_place)) → KeepsWords (stop.Refused q)
+refused-words true b q e word code k = cc e
+refused-words false b q e word code k = cc (e, k)
+
+pub viewed-words : (view : Bool) (b : LiveBound) (q : Refusal) → Err q ≡ viewed view b → KeepsWords (stop.Refused q)
+viewed-words false b q e word code k = cc e
+viewed-words true b q e word code k = refused-words (is_view b.query.program) b q e word code k

@@ -1,19 +1,21 @@
 -- What a live command is answered: the text over all batches, or what is shown as the table grows, or the first refusal. In this order: the words'
--- fault, the query file's, its tokens', its syntax's, those of the files of the paths one after another, binding's.
-use Rattle.std.specs.Prelude.{◌≡◌, ℕ, ◌+◌, ℤ, Bool, true, false, List, [], ◌∷◌, All, drop, fold, length, Option, Some, None, IfOk, IfSome, Result, Ok, Err}
+-- fault, the query file's, its tokens', its syntax's, those of the files of the paths one after another, binding's, and then 421 where a view is asked for.
+use Rattle.std.specs.Prelude.{◌≡◌, ℕ, ◌+◌, ℤ, Bool, true, false, List, [], ◌∷◌, All, drop, fold, length, Option, Some, None, IfOk, IfSome, Result, Ok, Err, if◌then◌else◌}
 use Rattle.catalogue_tables.specs.Files.{Files}
 use Rattle.csv_io.specs.Text.{table_text}
 use Rattle.kql_bound.specs.declared.plan.Program.{Program}
 use Rattle.kql_cells.specs.Table.{Grid}
 use Rattle.kql_lexer.specs.declared.token.Token.{Token}
 use Rattle.kql_program.specs.Files.{file_tokens, named_as}
-use Rattle.kql_program.specs.Queries.{program_of}
+use Rattle.kql_program.specs.Queries.{program_of, start_place}
 use Rattle.kql_program.specs.Syntax.{IsVerdict, Verdict}
 use Rattle.kql_program.specs.declared.refusal.Stop.{Stop}
 use Rattle.kql_syntax.specs.declared.query.Query.{Query}
 use Rattle.kql_words.specs.Command.{name_in}
 use Rattle.kql_words.specs.Refusals.{Answer, ◌>>=◌}
+use Rattle.kql_words.specs.declared.refusal.Refusal.TheVariants.{Query as Refused}
 use Rattle.live_query.specs.LiveMeaning.{live_means}
+use Rattle.live_query.specs.ViewForm.{is_view}
 use Rattle.live_query.specs.Watching.{watch_text}
 use Rattle.live_run.specs.Sights.{IsSeenList}
 use Rattle.live_run.specs.declared.watch.Seen.{Seen}
@@ -57,10 +59,21 @@ pub record IsLiveBound (tokens : Answer (List Token)) (tables : Answer LiveTable
   pub judged : IfOk tokens (λ read. IsVerdict read verdict)
   pub is : a ≡ live_query_bound tokens tables moment name verdict
 
--- this is the query of a command, bound, or the first refusal
-abbrev pub IsLiveBoundAsked : List (List ℕ) → Files → LiveAsked → Answer LiveBound → Type 0
-IsLiveBoundAsked words files asked a =
+-- this is the query of a command, bound, or the first refusal up to binding's
+abbrev pub IsLiveQueryBound : List (List ℕ) → Files → LiveAsked → Answer LiveBound → Type 0
+IsLiveQueryBound words files asked a =
     IsLiveBound (file_tokens files (live_query_path words asked)) (tables_of files (live_rest words asked)) asked.options.moment (first_name (live_rest words asked)) a
+
+-- where a view is asked for, a query that a view can keep; else 421 where the query's text starts
+abbrev pub viewed : Bool → LiveBound → Answer LiveBound
+viewed false b = Ok b
+viewed true b = if is_view b.query.program then Ok b else Err (Refused 421 start_place)
+
+-- this is the query of a command, bound, or the first refusal
+pub record IsLiveBoundAsked (words : List (List ℕ)) (files : Files) (asked : LiveAsked) (a : Answer LiveBound) : Type 0 where
+  pub bound : Answer LiveBound
+  pub is_bound : IsLiveQueryBound words files asked bound
+  pub is : a ≡ bound >>= viewed asked.options.view
 
 -- the opening table with the rows of all batches at its end, in their order
 abbrev pub whole : LiveBound → Grid

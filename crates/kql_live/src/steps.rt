@@ -10,28 +10,29 @@ ghost use Rattle.kql_program.specs.declared.refusal.Stop.TheVariants as stop;
 ghost use Rattle.kql_words.specs.Command.{name_in, names_table, path_in, texts};
 ghost use Rattle.kql_words.specs.Options.{limit_ungiven};
 ghost use Rattle.live_query.specs.LiveMeaning.{FitsColumns};
+ghost use Rattle.live_query.specs.ViewForm.{is_view};
 ghost use Rattle.live_tables.specs.Growing.{has_columns_of};
 ghost use Rattle.live_words.specs.LiveWords.{AreLivePaths};
-ghost use Rattle.kql_live.specs.LiveAnswer.{IsLiveBound, IsLiveBoundAsked, first_name, live_bound_over, live_bound_with};
+ghost use Rattle.kql_live.specs.LiveAnswer.{IsLiveBound, IsLiveBoundAsked, IsLiveQueryBound, first_name, live_bound_over, live_bound_with, viewed};
 ghost use Rattle.kql_live.specs.LiveFiles.{live_tables, tables_of};
 
 use crate::bound::{LiveBound, LiveTables};
 use crate::files::read_live_tables;
 use kql_cells::KText;
-use kql_lexer::Tokens;
+use kql_lexer::{Place, Tokens};
 use kql_outside::Shelf;
 use kql_parser::parse;
 use kql_parser_laws::law_of_patterns;
 use kql_program::{Stop, program_of, read_query};
 use kql_syntax::Query;
 use kql_values::{Catalogue, Named};
-use kql_words::table_parts;
-use live_query::LiveQuery;
+use kql_words::{Refusal, table_parts};
+use live_query::{LiveQuery, is_view};
 use live_words::LiveAsked;
 use std::alloc::Global;
 use std::thread::Threads;
 
-/// The query of a command, bound to its opening table.
+/// The query of a command, bound to its opening table: one that a view can keep, where a view is asked for.
 pub(crate) fn live_bound<R: Threads + Sync, F: Shelf>(
     rt: &R,
     alloc: Global,
@@ -48,6 +49,53 @@ pub(crate) fn live_bound<R: Threads + Sync, F: Shelf>(
     ensures failed { result ≡ Err stop.ReadFault → Rose (F.faults shelf.old) (F.faults shelf.new) }
     ensures stops { StopsAtRead (F.calls shelf.old) (F.calls shelf.new) result }
     ensures bound { IfSome (F.files shelf.old) (λ files. Reaches (IsLiveBoundAsked (texts words.now) files asked) result) }
+    ensures fits { IfOk result (λ b. FitsColumns b.query b.opening.columns) }
+    ensures columns { IfOk result (λ b. All (has_columns_of b.opening) b.batches) }
+    ensures count { IfOk result (λ b. length b.batches + 1 + (asked.query + 1) ≡ length words.now) }
+    ensures view { IfOk result (λ b. asked.options.view ≡ true → is_view b.query.program ≡ true) }
+    ensures words { RefusesNoWord result }
+{
+    let bound = query_bound(rt, alloc, words, asked, shelf)?;
+    let kept = viewed(bound, asked.options.view)?;
+    Ok(kept)
+}
+
+// A query that a view can keep, where a view is asked for; else 421 where the query's text starts.
+fn viewed(bound: LiveBound, view: bool) -> Result<LiveBound, Refusal>
+    ensures viewed { result ≡ viewed view bound }
+    ensures same { IfOk result (λ b. b ≡ bound) }
+    ensures view { IfOk result (λ b. view ≡ true → is_view b.query.program ≡ true) }
+{
+    if view && !is_view(bound.query.program.get()) {
+        return Err(Refusal::Query {
+            code: 421,
+            place: Place {
+                line: 1,
+                column: 1,
+                byte: 0,
+            },
+        });
+    }
+    Ok(bound)
+}
+
+// The query of a command, bound to its opening table.
+fn query_bound<R: Threads + Sync, F: Shelf>(
+    rt: &R,
+    alloc: Global,
+    words: &[String],
+    asked: LiveAsked,
+    shelf: &mut F,
+) -> Result<LiveBound, Stop>
+    requires within { asked.query < length words.now }
+    requires paths { AreLivePaths (texts (drop (asked.query + 1) words.now)) }
+    requires few { length words.now ≤ asked.query + 65 }
+    requires moment { IfSome asked.options.moment IsMoment }
+    ensures files { F.files shelf.new ≡ F.files shelf.old }
+    ensures later { F.faults shelf.old ≤ F.faults shelf.new }
+    ensures failed { result ≡ Err stop.ReadFault → Rose (F.faults shelf.old) (F.faults shelf.new) }
+    ensures stops { StopsAtRead (F.calls shelf.old) (F.calls shelf.new) result }
+    ensures bound { IfSome (F.files shelf.old) (λ files. Reaches (IsLiveQueryBound (texts words.now) files asked) result) }
     ensures fits { IfOk result (λ b. FitsColumns b.query b.opening.columns) }
     ensures columns { IfOk result (λ b. All (has_columns_of b.opening) b.batches) }
     ensures count { IfOk result (λ b. length b.batches + 1 + (asked.query + 1) ≡ length words.now) }

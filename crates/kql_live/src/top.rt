@@ -33,9 +33,11 @@ const MEMORY_LINE: &str = "kql: out of memory\n";
 ///
 /// The words, without the program's name, are `live`, then options in any order, each at most once, then QUERY, the path of the query file, then
 /// NAME=PATH, the opening table, and up to 63 further paths, each a batch: a file of the same columns. The options are `--readers R`, 1 to 8 in
-/// digits, 2 where it is not given; `--now T`, the datetime that `now()` stands for; and `--watch`, by which the answer over the opening table is
+/// digits, 2 where it is not given; `--now T`, the datetime that `now()` stands for; `--watch`, by which the answer over the opening table is
 /// written, and after each batch the answer until then where it differs from the one before, each under a line that tells after how many batches
-/// it holds. The files of the paths may have 64 MiB together.
+/// it holds; and `--view`, by which readers take snapshots of a view, which keeps the groups of the query's one `summarize`: no table depends on it,
+/// and a query that no view keeps is refused with 421.
+/// The files of the paths may have 64 MiB together.
 ///
 /// The batches are published one after another. Beside that each reader, from 0, enters the gate in phase 0 and asks the query once more than there are
 /// batches. At last each learns that all are published, and asks once more.

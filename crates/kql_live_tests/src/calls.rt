@@ -1,7 +1,7 @@
 //! Calls of the command over files in memory, and what they leave.
 use kql_live::{LiveEnded, kql_live, live_status};
 use kql_outside::{Gate, MemShelf, MemSink};
-use live_run::{SeenList, SeenLists};
+use live_run::{Seen, SeenList, SeenLists};
 use std::alloc::{AllocError, Global};
 use std::sync::Wait;
 use std::thread::Threads;
@@ -16,6 +16,32 @@ const FILES: &[(&str, &str)] = &[
     ("now", "T | count | extend t=now()"),
     ("unbound", "T | where z > 1"),
     ("cut", "T |"),
+    (
+        "groups",
+        "T | summarize c=count(), s=sum(x), l=make_list(x) by g",
+    ),
+    (
+        "calls",
+        "T | summarize n=sum(x) + count(), l=make_list(x, 2) by g",
+    ),
+    ("each", "T | distinct x"),
+    ("all", "T | distinct *"),
+    ("limit", "let n = 1; T | summarize c=countif(x > n)"),
+    ("joined", "T | join (T) on x"),
+    ("let", "let a = T; T | summarize count()"),
+    ("over_let", "let a = T; a | summarize count()"),
+    ("twice", "T | summarize c=count() by x | summarize sum(c)"),
+    ("behind", "T | where x > 1 | summarize count()"),
+    ("sorted", "T | summarize c=count() by x | sort by x"),
+    ("both", "union T, T | summarize count()"),
+    ("alone", "union T | summarize count()"),
+    ("below", "// how many\n\n  T | count"),
+    ("whole", "T"),
+    ("range", "range x from 1 to 3 step 1 | summarize count()"),
+    ("printed", "print x=1 | summarize count()"),
+    ("unbound_sum", "T | summarize sum(z)"),
+    ("g1", "g,x:long\na,1\nb,2\n"),
+    ("g2", "g,x:long\nb,3\na,4\n"),
     ("two", "x:long\n1\n2\n"),
     ("one", "x:long\n3\n"),
     ("none", "x:long\n"),
@@ -26,15 +52,14 @@ const FILES: &[(&str, &str)] = &[
     ("empty", ""),
 ];
 
-/// What a call left: its status, what was written, how many readers saw what they may see, none where one did not, and how many rows all
-/// sights have, none where they differ.
+/// What a call left: its status, what was written, how many readers saw what they may see, none where one did not, and all that they saw.
 #[derive(Drop)]
 pub(crate) struct Left {
     pub status: u8,
     pub out: Vec<u8>,
     pub err: Vec<u8>,
     pub readers: Option<usize>,
-    pub rows: Option<u64>,
+    pub sights: Vec<Seen>,
 }
 
 /// The failing calls of the shelf, of the output and of the sink for errors, and how many bytes these take at once.
@@ -103,25 +128,25 @@ fn readers_of(ended: &LiveEnded, batches: u64) -> Option<usize> {
     }
 }
 
-// How many rows all sights have.
-fn rows_in(lists: &SeenLists) -> Option<u64> {
-    let mut rows = None;
-    for seen in lists.as_slice() {
-        for sight in seen.as_slice() {
-            if rows.is_some() && rows != Some(sight.rows) {
-                return None;
-            }
-            rows = Some(sight.rows);
+// What all readers saw.
+fn sights_of(alloc: Global, ended: &LiveEnded) -> Made<Vec<Seen>> {
+    let mut sights = Vec::new(alloc);
+    if let LiveEnded::Table { seen } = ended {
+        for list in seen.as_slice() {
+            sights.extend_from_slice(list.as_slice())?;
         }
     }
-    rows
+    Ok(sights)
 }
 
-fn rows_of(ended: &LiveEnded) -> Option<u64> {
-    match ended {
-        LiveEnded::Table { seen } => rows_in(seen),
-        _ => None,
+/// Whether each sight has as many rows as stand at its number of batches, and there is one.
+pub(crate) fn have_rows(sights: &[Seen], rows: &[u64]) -> bool {
+    for sight in sights {
+        if rows.get(sight.batches as usize) != Some(&sight.rows) {
+            return false;
+        }
     }
+    !sights.is_empty()
 }
 
 /// Answers a command of so many batches.
@@ -156,8 +181,9 @@ pub(crate) fn call_with<R: Threads + Wait + Sync, G: Gate + Sync>(
     let ended = kql_live(rt, alloc, words, &mut shelf, &mut out, &mut err, gate);
     let status = live_status(&ended);
     let readers = readers_of(&ended, batches);
-    let rows = rows_of(&ended);
+    let sights = sights_of(alloc, &ended);
     drop(ended);
+    let sights = sights?;
     let out = Vec::from_slice(alloc, out.bytes())?;
     let err = Vec::from_slice(alloc, err.bytes())?;
     Ok(Left {
@@ -165,6 +191,6 @@ pub(crate) fn call_with<R: Threads + Wait + Sync, G: Gate + Sync>(
         out,
         err,
         readers,
-        rows,
+        sights,
     })
 }

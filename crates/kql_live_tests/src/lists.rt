@@ -1,5 +1,5 @@
 //! Commands of many paths, of an empty one, and readers that run beside each other.
-use crate::calls::{Made, call, words_of};
+use crate::calls::{Made, call, have_rows, words_of};
 use kql_outside::{HoldGate, OpenGate};
 use std::alloc::Global;
 use std::sync::Wait;
@@ -68,23 +68,59 @@ fn an_empty_path_is_refused(rt: HostRuntime) -> Result<(), Fail> {
     Ok(())
 }
 
-// How many readers saw what they may see, and how many rows each sight has.
+// How many readers saw what they may see, where each sight of a command of one batch has one row.
 fn beside<R: Threads + Wait + Sync>(
     rt: &R,
     alloc: Global,
+    command: &str,
     gate: &HoldGate,
-) -> Made<(Option<usize>, Option<u64>)> {
-    let words = many_words(alloc, 1)?;
+) -> Made<Option<usize>> {
+    let words = words_of(alloc, command)?;
     let left = call(rt, alloc, words.as_slice(), 1, gate)?;
-    Ok((left.readers, left.rows))
+    if !have_rows(left.sights.as_slice(), &[1, 1]) {
+        return Ok(None);
+    }
+    Ok(left.readers)
 }
 
 #[test]
 fn readers_run_beside_each_other(rt: HostRuntime) -> Result<(), Fail> {
     let gate = HoldGate::new(TURNS);
-    let (readers, rows) = beside(&rt, rt.alloc(), &gate)?;
+    let readers = beside(&rt, rt.alloc(), "live q T=two one", &gate)?;
     assert_eq!(rt; readers, Some(2));
-    assert_eq!(rt; rows, Some(1));
     assert!(rt; gate.met());
+    Ok(())
+}
+
+#[test]
+fn readers_of_a_view_run_beside_each_other(rt: HostRuntime) -> Result<(), Fail> {
+    let gate = HoldGate::new(TURNS);
+    let readers = beside(&rt, rt.alloc(), "live --view sum T=two one", &gate)?;
+    assert_eq!(rt; readers, Some(2));
+    assert!(rt; gate.met());
+    Ok(())
+}
+
+// A command, its number of batches, and how many rows the answer has after each number of batches.
+type Watched = (&'static str, u64, &'static [u64]);
+
+const WATCHED: &[Watched] = &[
+    ("live each T=none two one two", 3, &[0, 2, 3, 3]),
+    ("live --view each T=none two one two", 3, &[0, 2, 3, 3]),
+];
+
+// Whether each sight of each reader has the rows of the answer after its number of batches.
+fn is_watched<R: Threads + Wait + Sync>(rt: &R, alloc: Global, row: &Watched) -> Made<bool> {
+    let words = words_of(alloc, row.0)?;
+    let left = call(rt, alloc, words.as_slice(), row.1, &OpenGate)?;
+    Ok(left.readers == Some(2) && have_rows(left.sights.as_slice(), row.2))
+}
+
+#[test]
+fn readers_of_a_view_see_the_same(rt: HostRuntime) -> Result<(), Fail> {
+    let table = is_watched(&rt, rt.alloc(), &WATCHED[0])?;
+    let view = is_watched(&rt, rt.alloc(), &WATCHED[1])?;
+    assert!(rt; table);
+    assert!(rt; view);
     Ok(())
 }

@@ -36,15 +36,82 @@ const ANSWERED: &[Answered] = &[
     ("live --readers 008 q T=two", 0, 8, "Count\n2\n"),
 ];
 
+// With a view, and without one: the same.
+const VIEWED: &[Answered] = &[
+    (
+        "live groups T=g1 g2",
+        1,
+        2,
+        "g,c,s,l\na,2,5,\"[1,4]\"\nb,2,5,\"[2,3]\"\n",
+    ),
+    (
+        "live --view groups T=g1 g2",
+        1,
+        2,
+        "g,c,s,l\na,2,5,\"[1,4]\"\nb,2,5,\"[2,3]\"\n",
+    ),
+    (
+        "live calls T=g1 g2 g1",
+        2,
+        2,
+        "g,n,l\na,9,\"[1,4]\"\nb,10,\"[2,3]\"\n",
+    ),
+    (
+        "live --view calls T=g1 g2 g1",
+        2,
+        2,
+        "g,n,l\na,9,\"[1,4]\"\nb,10,\"[2,3]\"\n",
+    ),
+    ("live each T=two one two", 2, 2, "x\n1\n2\n3\n"),
+    ("live --view each T=two one two", 2, 2, "x\n1\n2\n3\n"),
+    ("live --view all T=wide wide", 1, 2, "x,y\n3,4\n"),
+    ("live --view each T=none", 0, 2, "x\n"),
+    ("live --view each T=none none one", 2, 2, "x\n3\n"),
+    ("live --view limit T=two one", 1, 2, "c\n2\n"),
+    (
+        "live --view --readers 8 sum T=none two none one",
+        3,
+        8,
+        "s\n6\n",
+    ),
+    (
+        "live --watch sum T=two one none one",
+        3,
+        2,
+        "# batches: 0\ns\n3\n# batches: 1\ns\n6\n# batches: 3\ns\n9\n",
+    ),
+    (
+        "live --watch --view sum T=two one none one",
+        3,
+        2,
+        "# batches: 0\ns\n3\n# batches: 1\ns\n6\n# batches: 3\ns\n9\n",
+    ),
+    (
+        "live --readers 1 --now 2024-05-01 --view --watch sum T=two",
+        0,
+        1,
+        "# batches: 0\ns\n3\n",
+    ),
+];
+
 // Words, the status, and the line of the refusal.
 type Refused = (&'static str, u8, &'static str);
 
 const REFUSED: &[Refused] = &[
     ("", 2, "kql: word 0: 601 NoCommand\n"),
     ("run q T=two", 2, "kql: word 0: 602 UnknownCommand\n"),
-    ("live --view q T=two", 2, "kql: word 1: 603 UnknownOption\n"),
+    (
+        "live --views q T=two",
+        2,
+        "kql: word 1: 603 UnknownOption\n",
+    ),
     (
         "live --watch --watch q T=two",
+        2,
+        "kql: word 2: 604 OptionTwice\n",
+    ),
+    (
+        "live --view --view q T=two",
         2,
         "kql: word 2: 604 OptionTwice\n",
     ),
@@ -122,6 +189,46 @@ const REFUSED: &[Refused] = &[
     ),
 ];
 
+// Queries that a view cannot keep, and what is told before that.
+const UNVIEWED: &[Refused] = &[
+    ("live --view q T=two", 1, "kql: 1:1: 421 NotAView\n"),
+    ("live --view joined T=two", 1, "kql: 1:1: 421 NotAView\n"),
+    ("live --view let T=two", 1, "kql: 1:1: 421 NotAView\n"),
+    ("live --view over_let T=two", 1, "kql: 1:1: 421 NotAView\n"),
+    ("live --view twice T=two one", 1, "kql: 1:1: 421 NotAView\n"),
+    (
+        "live --view --watch behind T=two",
+        1,
+        "kql: 1:1: 421 NotAView\n",
+    ),
+    ("live --view sorted T=two", 1, "kql: 1:1: 421 NotAView\n"),
+    ("live --view both T=two", 1, "kql: 1:1: 421 NotAView\n"),
+    ("live --view alone T=two", 1, "kql: 1:1: 421 NotAView\n"),
+    ("live --view below T=two", 1, "kql: 1:1: 421 NotAView\n"),
+    ("live --view whole T=two", 1, "kql: 1:1: 421 NotAView\n"),
+    ("live --view range T=two", 1, "kql: 1:1: 421 NotAView\n"),
+    ("live --view printed T=two", 1, "kql: 1:1: 421 NotAView\n"),
+    (
+        "live --view unbound T=two",
+        1,
+        "kql: 1:11: 401 UnknownColumn\n",
+    ),
+    (
+        "live --view unbound_sum T=two",
+        1,
+        "kql: 1:19: 401 UnknownColumn\n",
+    ),
+    ("live --view now T=two", 1, "kql: 1:22: 409 NoMoment\n"),
+    (
+        "live --view q T=two other",
+        3,
+        "kql: file 2: 315 SchemaDiffers at 0:1\n",
+    ),
+    ("live --view cut T=two", 1, "kql: 1:4: 201 Unexpected\n"),
+    ("live --view q", 2, "kql: word 3: 612 NoTable\n"),
+    ("live --view", 2, "kql: word 2: 606 NoQuery\n"),
+];
+
 // Whether a command is answered so.
 fn is_answered<R: Threads + Wait + Sync>(rt: &R, alloc: Global, row: &Answered) -> Made<bool> {
     let words = words_of(alloc, row.0)?;
@@ -141,18 +248,26 @@ fn is_refused<R: Threads + Wait + Sync>(rt: &R, alloc: Global, row: &Refused) ->
 }
 
 // The number of the first row that is wrong.
-fn first_wrong<R: Threads + Wait + Sync>(rt: &R, alloc: Global) -> Made<Option<usize>> {
-    for i in 0..ANSWERED.len() {
-        if !is_answered(rt, alloc, &ANSWERED[i])? {
+fn first_wrong<R: Threads + Wait + Sync>(
+    rt: &R,
+    alloc: Global,
+    rows: &[Answered],
+) -> Made<Option<usize>> {
+    for i in 0..rows.len() {
+        if !is_answered(rt, alloc, &rows[i])? {
             return Ok(Some(i));
         }
     }
     Ok(None)
 }
 
-fn first_unrefused<R: Threads + Wait + Sync>(rt: &R, alloc: Global) -> Made<Option<usize>> {
-    for i in 0..REFUSED.len() {
-        if !is_refused(rt, alloc, &REFUSED[i])? {
+fn first_unrefused<R: Threads + Wait + Sync>(
+    rt: &R,
+    alloc: Global,
+    rows: &[Refused],
+) -> Made<Option<usize>> {
+    for i in 0..rows.len() {
+        if !is_refused(rt, alloc, &rows[i])? {
             return Ok(Some(i));
         }
     }
@@ -161,14 +276,28 @@ fn first_unrefused<R: Threads + Wait + Sync>(rt: &R, alloc: Global) -> Made<Opti
 
 #[test]
 fn commands_are_answered(rt: HostRuntime) -> Result<(), Fail> {
-    let wrong = first_wrong(&rt, rt.alloc())?;
+    let wrong = first_wrong(&rt, rt.alloc(), ANSWERED)?;
+    assert_eq!(rt; wrong, None);
+    Ok(())
+}
+
+#[test]
+fn a_view_answers_the_same(rt: HostRuntime) -> Result<(), Fail> {
+    let wrong = first_wrong(&rt, rt.alloc(), VIEWED)?;
     assert_eq!(rt; wrong, None);
     Ok(())
 }
 
 #[test]
 fn commands_are_refused(rt: HostRuntime) -> Result<(), Fail> {
-    let wrong = first_unrefused(&rt, rt.alloc())?;
+    let wrong = first_unrefused(&rt, rt.alloc(), REFUSED)?;
+    assert_eq!(rt; wrong, None);
+    Ok(())
+}
+
+#[test]
+fn what_no_view_keeps_is_refused(rt: HostRuntime) -> Result<(), Fail> {
+    let wrong = first_unrefused(&rt, rt.alloc(), UNVIEWED)?;
     assert_eq!(rt; wrong, None);
     Ok(())
 }

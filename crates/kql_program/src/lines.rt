@@ -107,6 +107,7 @@ fn operator_name(code: u32) -> &'static str
         417 => "NameTwice",
         418 => "BadLiteral",
         419 => "NoColumns",
+        421 => "NotAView",
         _ => "",
     }
 }

@@ -1,2 +1,5 @@
 mod CrossingLaws
+mod KeptFacts
+mod ViewCrossing
+mod ViewLaws
 mod WatchFacts

@@ -14,10 +14,11 @@ few-flag : (b : Bool) → (if b then 1 else 0) ≤ 1
 few-flag true = omega arith
 few-flag false = omega arith
 
--- five at most
-pub words-in-few : (o : SoFar) → words_in o ≤ 5
+-- six at most
+pub words-in-few : (o : SoFar) → words_in o ≤ 6
 words-in-few o =
     let a = few-words o.readers in
     let b = few-words o.moment in
     let d = few-flag o.watch in
+    let e = few-flag o.view in
     omega arith

@@ -1,4 +1,4 @@
--- The options of `live`, which stand in front of QUERY: `--readers R`, `--now T` and `--watch`, in any order, each at most once.
+-- The options of `live`, which stand in front of QUERY: `--readers R`, `--now T`, `--watch` and `--view`, in any order, each at most once.
 use Rattle.std.specs.Prelude.{ℕ, ℤ, pos, negsuc, ◌+◌, ◌&&◌, nat_le, Bool, true, false, List, [], ◌∷◌, Option, Some, None, Ok, Err, codes, if◌then◌else◌}
 use Rattle.std.specs.Option.{option_and_then, option_map_or}
 use Rattle.std.specs.Str.{bytes_eq}
@@ -22,7 +22,7 @@ readers_in word = option_and_then readers_at (long_written word)
 
 -- no option so far
 abbrev pub no_live_options : SoFar
-no_live_options = record { readers = given.Missing; moment = given.Missing; watch = false }
+no_live_options = record { readers = given.Missing; moment = given.Missing; watch = false; view = false }
 
 abbrev pub is_due : {T : Type 0} → Given T → Bool
 is_due given.Due = true
@@ -51,6 +51,9 @@ with_moment o moment = moment >>= λ m. Ok (Some (record o { moment = m }))
 abbrev pub with_watch : SoFar → Answer Bool → Answer (Option SoFar)
 with_watch o watch = watch >>= λ w. Ok (Some (record o { watch = w }))
 
+abbrev pub with_view : SoFar → Answer Bool → Answer (Option SoFar)
+with_view o view = view >>= λ v. Ok (Some (record o { view = v }))
+
 -- what the word of this number makes of the options before it: it is a value that is due, or the name of an option; none where it is neither
 unfoldable pub live_options_after : ℕ → SoFar → List ℕ → Answer (Option SoFar)
 live_options_after number o word =
@@ -59,6 +62,7 @@ live_options_after number o word =
     else if bytes_eq word (codes "--readers") then with_readers o (due number o.readers)
     else if bytes_eq word (codes "--now") then with_moment o (due number o.moment)
     else if bytes_eq word (codes "--watch") then with_watch o (flagged number o.watch)
+    else if bytes_eq word (codes "--view") then with_view o (flagged number o.view)
     else if is_option word then Err (Usage number 603)
     else Ok None
 
@@ -74,7 +78,7 @@ value_of _ = None
 abbrev pub live_at : ℕ → SoFar → LiveAsked
 live_at number o = record {
   query = number;
-  options = record { readers = value_or readers_ungiven o.readers; moment = value_of o.moment; watch = o.watch };
+  options = record { readers = value_or readers_ungiven o.readers; moment = value_of o.moment; watch = o.watch; view = o.view };
 }
 
 -- what is missing behind the last word: a value that is due, or QUERY
@@ -95,7 +99,7 @@ words_of (given.Is x) = 2
 
 -- and all options
 abbrev pub words_in : SoFar → ℕ
-words_in o = words_of o.readers + words_of o.moment + (if o.watch then 1 else 0)
+words_in o = words_of o.readers + words_of o.moment + (if o.watch then 1 else 0) + (if o.view then 1 else 0)
 
 -- of an option that was given, this holds of its value
 abbrev pub IfGiven : {T : Type 0} → (T → Type 0) → Given T → Type 0

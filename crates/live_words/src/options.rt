@@ -3,7 +3,7 @@ ghost use Rattle.std.specs.Prelude.{◌≡◌, ◌≤◌, ◌<◌, ◌+◌, leng
 ghost use Rattle.kql_cells.specs.Values.{IsMoment};
 ghost use Rattle.kql_words.specs.Command.{texts};
 ghost use Rattle.kql_words.specs.Options.{is_option};
-ghost use Rattle.live_words.specs.LiveOptionWords.{IfGiven, due, flagged, is_due, live_at, live_from, live_options_after, missing_code, no_live_options, readers_in, valued, with_moment, with_readers, with_watch, words_in};
+ghost use Rattle.live_words.specs.LiveOptionWords.{IfGiven, due, flagged, is_due, live_at, live_from, live_options_after, missing_code, no_live_options, readers_in, valued, with_moment, with_readers, with_view, with_watch, words_in};
 ghost use Rattle.live_words.specs.LiveReaders.{AreReaders};
 
 use crate::command::LiveAsked;
@@ -25,6 +25,8 @@ pub struct LiveOptions {
     pub moment: Option<i64>,
     /// Whether each answer that differs from the one before is shown.
     pub watch: bool,
+    /// Whether readers take snapshots of a view, which keeps groups in the place of rows.
+    pub view: bool,
 }
 
 /// What is known of an option with a value.
@@ -44,13 +46,14 @@ pub(crate) struct SoFar {
     pub readers: Given<u32>,
     pub moment: Given<i64>,
     pub watch: bool,
+    pub view: bool,
 }
 
 /// What the words behind `live` ask for, up to QUERY: the words in front of it are options.
 #[tactic(auto, unfolding(crate::specs::LiveOptionWords::live_from))]
 pub(crate) fn read_options(words: &[String]) -> Result<LiveAsked, Refusal>
     ensures read { result ≡ live_from 1 no_live_options (texts words.now) }
-    ensures first { IfOk result (λ c. (1 ≤ c.query) × (c.query ≤ 6)) }
+    ensures first { IfOk result (λ c. (1 ≤ c.query) × (c.query ≤ 7)) }
     ensures within { IfOk result (λ c. c.query ≤ length words.now) }
     ensures moment { IfOk result (λ c. IfSome c.options.moment IsMoment) }
     ensures readers { IfOk result (λ c. AreReaders c.options.readers) }
@@ -59,6 +62,7 @@ pub(crate) fn read_options(words: &[String]) -> Result<LiveAsked, Refusal>
         readers: Given::Missing,
         moment: Given::Missing,
         watch: false,
+        view: false,
     };
     let mut number = 1u32;
     let mut left = words;
@@ -94,6 +98,7 @@ fn asked_at(options: SoFar, number: u32) -> LiveAsked
             readers,
             moment,
             watch: options.watch,
+            view: options.view,
         },
     }
 }
@@ -127,6 +132,8 @@ fn options_after(options: SoFar, word: &str, number: u32) -> Result<Option<SoFar
         with_moment(options, due(&options.moment, number))
     } else if word == "--watch" {
         with_watch(options, flagged(options.watch, number))
+    } else if word == "--view" {
+        with_view(options, flagged(options.view, number))
     } else if is_option(word) {
         Err(Refusal::Usage {
             word: number,
@@ -162,6 +169,13 @@ fn with_watch(options: SoFar, watch: Result<bool, Refusal>) -> Result<Option<SoF
 {
     let watch = watch?;
     Ok(Some(SoFar { watch, ..options }))
+}
+
+fn with_view(options: SoFar, view: Result<bool, Refusal>) -> Result<Option<SoFar>, Refusal>
+    ensures { result ≡ with_view options view }
+{
+    let view = view?;
+    Ok(Some(SoFar { view, ..options }))
 }
 
 fn is_due<T>(given: &Given<T>) -> bool

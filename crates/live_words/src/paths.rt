@@ -11,7 +11,7 @@ const PATHS_TOP: u32 = 64;
 
 /// The words behind QUERY, of which the first has this number.
 pub(crate) fn check_paths(words: &[String], first: u32) -> Result<(), Refusal>
-    requires { first ≤ 7 }
+    requires { first ≤ 8 }
     ensures checked { result ≡ unless (live_faults first (texts words.now)) tt }
     ensures few { OnOk result (length words.now ≤ 64) }
 {
@@ -34,7 +34,7 @@ pub(crate) fn check_paths(words: &[String], first: u32) -> Result<(), Refusal>
 
 // The paths behind NAME=PATH, of which the first has this number.
 fn check_further(paths: &[String], first: u32) -> Result<(), Refusal>
-    requires { first ≤ 8 }
+    requires { first ≤ 9 }
     ensures checked { result ≡ unless (further_faults first 1 (texts paths.now)) tt }
     ensures few { OnOk result (length paths.now ≤ 63) }
 {

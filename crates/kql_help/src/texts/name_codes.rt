@@ -221,6 +221,18 @@ The operator gives a result without columns.
 Keep a column.
 ";
 
+pub(crate) const NOT_A_VIEW: &str = "\
+421 NotAView
+
+A view of kql live --view keeps the groups of one summarize, of which distinct is
+one: the query has to be it over the table, without a let of a table. It is told
+where the query's text starts.
+
+    T | count with kql live --view, at 1:1
+
+Leave out --view: it changes no table.
+";
+
 /// The topics of these texts.
 pub(crate) const TOPICS: &[Topic] = &[
     Topic {
@@ -298,5 +310,9 @@ pub(crate) const TOPICS: &[Topic] = &[
     Topic {
         names: &["419"],
         text: NO_COLUMNS,
+    },
+    Topic {
+        names: &["421"],
+        text: NOT_A_VIEW,
     },
 ];

@@ -44,7 +44,7 @@ Refusals, told in one line on standard error; kql help CODE has each
     410 UnknownTable         411 ColumnTwice          412 TooManyColumns
     413 BadStep              414 BadRange             415 TypeClash
     416 NotInPartition       417 NameTwice            418 BadLiteral
-    419 NoColumns
+    419 NoColumns            421 NotAView
     601 NoCommand            602 UnknownCommand       603 UnknownOption
     604 OptionTwice          605 OptionValue          606 NoQuery
     607 BadTable             608 TableTwice           609 BadCount

@@ -50,7 +50,7 @@ machine.
 ";
 
 pub(crate) const LIVE: &str = "\
-kql live [--readers R] [--now T] [--watch] QUERY NAME=PATH PATH ..
+kql live [--readers R] [--now T] [--watch] [--view] QUERY NAME=PATH PATH ..
 
 Answers the query over a table that grows while it is queried: NAME=PATH is the
 opening table, and each further PATH, up to 63, a batch, a file of the same
@@ -59,8 +59,9 @@ one after another, so many readers, 1 to 8 and else 2, ask the query again and
 again, each in a thread of its own. What is written is the answer over all rows.
 With --watch it is the answer over the opening table and, after each batch, the
 answer until then where it differs from the one before, each under a line that
-tells after how many batches it holds. The files may have 67,108,864 bytes
-together.
+tells after how many batches it holds. With --view the query has to be one
+summarize or distinct over the table (421); readers then take its groups, and no
+rows. The table is the same. The files may have 67,108,864 bytes together.
 
     kql live q.kql Visits=monday.csv tuesday.csv
 ";
