@@ -9,3 +9,5 @@ mod plans;
 mod table;
 #[cfg(test)]
 mod tests;
+#[cfg(test)]
+mod thousand;

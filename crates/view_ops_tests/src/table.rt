@@ -63,3 +63,17 @@ pub(crate) fn table_of(alloc: Global, lines: &[Line]) -> Made<Table> {
         Table::empty(alloc, Schema::new(alloc))
     }
 }
+
+/// A table of so many rows: the key of row i is the last digit of i, and its number the rest of i by 1,000.
+pub(crate) fn numbered(alloc: Global, rows: u32) -> Made<Table> {
+    let mut builder = TableBuilder::new(alloc, schema(alloc)?)?;
+    for i in 0..rows {
+        let line = ("a", Some((i % 10) as i64), Some((i % 1_000) as i64));
+        put_line(&mut builder, &line)?;
+    }
+    if builder.filled() == 0 {
+        Ok(builder.finish())
+    } else {
+        Table::empty(alloc, Schema::new(alloc))
+    }
+}

@@ -13,7 +13,7 @@ use view_ops::{View, views_stand_for_what_they_took};
 const LIMIT: u64 = 1 << 63;
 
 // A view of a plan, which took nothing, where the plan fits.
-fn opened(alloc: Global, plan: Made<GroupPlan>) -> Made<Option<View>> {
+pub(crate) fn opened(alloc: Global, plan: Made<GroupPlan>) -> Made<Option<View>> {
     let plan = plan?;
     let t = table_of(alloc, &[])?;
     if !fits_table(alloc, &plan, &t)? {
@@ -34,7 +34,7 @@ fn feed(alloc: Global, view: &mut View, lines: &[Line]) -> Made<bool> {
 }
 
 // Whether a view has this table.
-fn shows(alloc: Global, view: &View, want: &str) -> Made<bool> {
+pub(crate) fn shows(alloc: Global, view: &View, want: &str) -> Made<bool> {
     let t = view.table()?;
     let text = table_text(alloc, &t)?;
     Ok(text.as_slice() == want.as_bytes())
