@@ -1,238 +1,156 @@
-//! Each form of a phase: a plan of it, and the phases that it has by several workers and by one.
+//! Each form of a phase: a query of it, and the phases that it has by several workers and by one.
 
-use crate::plans::{
-    added, column, extended, filter, greater, joined, key, named, none, one, pair, plan, projected,
-    table, with,
-};
-use crate::reads::reading_ops;
-use crate::tables::Made;
-use kql_bound::{
-    BExpr, BItems, Decls, Exprs, GroupPlan, JoinKind, JoinPlan, Keys, Op, Ops, Output, Plan,
-    ScanPlan, ScanStep, ScanSteps,
-};
-use kql_cells::KText;
-use kql_functions::{Aggregate, Window};
-use std::alloc::Global;
+/// How a phase is cut.
+#[derive(Clone, Copy, Debug, PartialEq, Eq)]
+pub(crate) enum Cut {
+    /// Not at all.
+    Whole,
+    /// Into as many pieces as hold so many rows.
+    Rows(u32),
+    /// Into so many pieces, each a key of its own.
+    Keys(u32),
+}
 
-/// How many rows a phase cuts into pieces; none of one that ran as a whole.
-pub(crate) type Cuts = &'static [Option<u32>];
+/// The phases of a query: of a join those of its right side first, and then the rows that lead.
+pub(crate) type Cuts = &'static [Cut];
 
-const KINDS: &[JoinKind] = &[
-    JoinKind::InnerUnique,
-    JoinKind::Inner,
-    JoinKind::LeftOuter,
-    JoinKind::RightOuter,
-    JoinKind::FullOuter,
-    JoinKind::LeftSemi,
-    JoinKind::RightSemi,
-    JoinKind::LeftAnti,
-    JoinKind::RightAnti,
+/// A query over the table `T`, its phases by several workers, and by one.
+pub(crate) type Form = (&'static str, Cuts, Cuts);
+
+const WHOLE: Cuts = &[Cut::Whole];
+
+const ROWS: Cuts = &[Cut::Rows(7)];
+
+const ROWS_TWICE: Cuts = &[Cut::Rows(7), Cut::Rows(7)];
+
+const LED_BY_RIGHT: Cuts = &[Cut::Rows(7), Cut::Rows(3)];
+
+const ROWS_THEN_WHOLE: Cuts = &[Cut::Rows(7), Cut::Whole];
+
+const KEYS: Cuts = &[Cut::Keys(3)];
+
+/// Sums and counts by key.
+pub(crate) const SUMS: &str = "T | summarize s = sum(x), n = count() by k";
+
+/// A query of each form.
+pub(crate) const FORMS: &[Form] = &[
+    (SUMS, ROWS, WHOLE),
+    ("T | distinct k", ROWS, WHOLE),
+    ("T | top 3 by x asc", ROWS, WHOLE),
+    ("T | top 2 by k asc", ROWS, WHOLE),
+    (
+        "T | serialize | extend s = row_cumsum(x), n = row_number()",
+        ROWS_TWICE,
+        WHOLE,
+    ),
+    ("T | serialize | extend p = prev(x)", ROWS, WHOLE),
+    ("T | project k, y = x + 1", ROWS, WHOLE),
+    (
+        "T | where x > 1 | serialize | project s = row_cumsum(x), n = row_number()",
+        &[Cut::Rows(7), Cut::Rows(5), Cut::Rows(5)],
+        ROWS_THEN_WHOLE,
+    ),
+    ("T | where x > 3 | count", ROWS_THEN_WHOLE, ROWS_THEN_WHOLE),
+    (
+        "T | join kind=innerunique (T | where x > 3) on k",
+        LED_BY_RIGHT,
+        ROWS_THEN_WHOLE,
+    ),
+    (
+        "T | join kind=inner (T | where x > 3) on k",
+        ROWS_TWICE,
+        ROWS_THEN_WHOLE,
+    ),
+    (
+        "T | join kind=leftouter (T | where x > 3) on k",
+        ROWS_TWICE,
+        ROWS_THEN_WHOLE,
+    ),
+    (
+        "T | join kind=rightouter (T | where x > 3) on k",
+        LED_BY_RIGHT,
+        ROWS_THEN_WHOLE,
+    ),
+    (
+        "T | join kind=fullouter (T | where x > 3) on k",
+        ROWS_TWICE,
+        ROWS_THEN_WHOLE,
+    ),
+    (
+        "T | join kind=leftsemi (T | where x > 3) on k",
+        ROWS_TWICE,
+        ROWS_THEN_WHOLE,
+    ),
+    (
+        "T | join kind=rightsemi (T | where x > 3) on k",
+        LED_BY_RIGHT,
+        ROWS_THEN_WHOLE,
+    ),
+    (
+        "T | join kind=leftanti (T | where x > 3) on k",
+        ROWS_TWICE,
+        ROWS_THEN_WHOLE,
+    ),
+    (
+        "T | join kind=rightanti (T | where x > 3) on k",
+        LED_BY_RIGHT,
+        ROWS_THEN_WHOLE,
+    ),
+    (
+        "T | lookup kind=leftouter (T | where x > 3) on k",
+        ROWS_TWICE,
+        ROWS_THEN_WHOLE,
+    ),
+    (
+        "T | lookup kind=inner (T | where x > 3) on k",
+        ROWS_TWICE,
+        ROWS_THEN_WHOLE,
+    ),
+    ("T | serialize | scan with (step s: x > 1;)", WHOLE, WHOLE),
+    (
+        "T | serialize | partition by k (scan with (step s: x > 1;))",
+        KEYS,
+        WHOLE,
+    ),
+    ("T | partition by k (top 1 by x asc)", KEYS, WHOLE),
+    (
+        "T | mv-expand p = pack_array(k, x) to typeof(long)",
+        ROWS,
+        WHOLE,
+    ),
+    ("T | parse tostring(x) with y:long", ROWS, WHOLE),
+    (
+        "T | make-series s = sum(x) default = 0 on x from 0 to 5 step 2 by k",
+        &[Cut::Rows(5)],
+        WHOLE,
+    ),
+    (
+        "let A = T | where x > 1 | serialize;\n\
+        A | serialize | extend y = x + 10 | where y > 12 | join kind=inner (T | project k) on k | union (T | where x > 4)\n\
+        | sort by k asc, x asc | partition by k (take 2) | take 5",
+        &[
+            Cut::Rows(7),
+            Cut::Rows(5),
+            Cut::Rows(5),
+            Cut::Whole,
+            Cut::Rows(4),
+            Cut::Rows(7),
+            Cut::Whole,
+            Cut::Whole,
+            Cut::Keys(3),
+            Cut::Whole,
+        ],
+        &[
+            Cut::Rows(7),
+            Cut::Whole,
+            Cut::Rows(5),
+            Cut::Whole,
+            Cut::Whole,
+            Cut::Rows(7),
+            Cut::Whole,
+            Cut::Whole,
+            Cut::Whole,
+            Cut::Whole,
+        ],
+    ),
 ];
-
-/// How many forms there are.
-pub(crate) const FORMS: usize = 26;
-
-fn grouped(items: Made<BItems>, keys: Made<BItems>) -> Made<Op> {
-    let items = items?;
-    Ok(Op::Summarize(GroupPlan { items, keys: keys? }))
-}
-
-fn aggregate(f: Aggregate, args: Made<Exprs>) -> Made<BExpr> {
-    Ok(BExpr::Aggregate(f, args?))
-}
-
-fn window(f: Window, args: Made<Exprs>) -> Made<BExpr> {
-    Ok(BExpr::Window(f, args?))
-}
-
-fn top(n: u64, keys: Made<Keys>) -> Made<Op> {
-    Ok(Op::Top(n, keys?))
-}
-
-// s = sum(x), n = count()
-fn sums(alloc: Global) -> Made<BItems> {
-    let sum = aggregate(Aggregate::Sum, one(alloc, column(alloc, "x")));
-    let count = aggregate(Aggregate::Count, none(alloc));
-    with(one(alloc, named(alloc, "s", sum)), named(alloc, "n", count))
-}
-
-// k = k
-fn by_key(alloc: Global) -> Made<BItems> {
-    one(alloc, named(alloc, "k", column(alloc, "k")))
-}
-
-// s = row_cumsum(x), n = row_number()
-fn running(alloc: Global) -> Made<BItems> {
-    let sum = window(Window::RowCumsum, one(alloc, column(alloc, "x")));
-    let number = window(Window::RowNumber, none(alloc));
-    with(
-        one(alloc, named(alloc, "s", sum)),
-        named(alloc, "n", number),
-    )
-}
-
-// p = prev(x)
-fn before(alloc: Global) -> Made<BItems> {
-    let prev = window(Window::Prev, one(alloc, column(alloc, "x")));
-    one(alloc, named(alloc, "p", prev))
-}
-
-// k = k, y = x + 1
-fn computed(alloc: Global) -> Made<BItems> {
-    with(by_key(alloc), named(alloc, "y", added(alloc, "x", 1)))
-}
-
-// T | where x > 3
-fn right(alloc: Global) -> Made<Plan> {
-    plan(table(alloc), one(alloc, filter(greater(alloc, "x", 3))))
-}
-
-fn scanned(declared: Made<Decls>, steps: Made<ScanSteps>) -> Made<Op> {
-    let declared = declared?;
-    Ok(Op::Scan(ScanPlan {
-        match_id: None,
-        declared,
-        steps: steps?,
-    }))
-}
-
-fn step(name: Made<KText>, condition: Made<BExpr>, sets: Made<BItems>) -> Made<ScanStep> {
-    let name = name?;
-    let condition = condition?;
-    Ok(ScanStep {
-        name,
-        output: Output::All,
-        condition,
-        sets: sets?,
-    })
-}
-
-// step s: x > 1
-fn one_step(alloc: Global) -> Made<Op> {
-    let condition = greater(alloc, "x", 1);
-    let step = step(KText::from_str(alloc, "s"), condition, none(alloc));
-    scanned(none(alloc), one(alloc, step))
-}
-
-fn partitioned(alloc: Global, ops: Made<Ops>) -> Made<Op> {
-    let key = KText::from_str(alloc, "k")?;
-    Ok(Op::Partition(key, ops?))
-}
-
-// lookup kind=.. (T | where x > 3) on k
-fn looked_up(alloc: Global, kind: JoinKind) -> Made<Op> {
-    let right = right(alloc)?;
-    let on = one(alloc, pair(alloc, "k"))?;
-    let lookup = true;
-    Ok(Op::Join(JoinPlan { kind, lookup, on }, right))
-}
-
-// The operators of a form, over the table `T`.
-fn ops_of(alloc: Global, form: usize) -> Made<Ops> {
-    if form < 7 {
-        return early_ops(alloc, form);
-    }
-    if form > 20 {
-        return reading_ops(alloc, form);
-    }
-    if form > 15 {
-        return keyed_ops(alloc, form);
-    }
-    match KINDS.get(form - 7) {
-        Some(kind) => one(alloc, joined(alloc, *kind, right(alloc))),
-        None => none(alloc),
-    }
-}
-
-// Groups, the first rows, and items.
-fn early_ops(alloc: Global, form: usize) -> Made<Ops> {
-    match form {
-        0 => one(alloc, grouped(sums(alloc), by_key(alloc))),
-        1 => one(alloc, grouped(none(alloc), by_key(alloc))),
-        2 => one(alloc, top(3, one(alloc, key(alloc, "x")))),
-        3 => with(one(alloc, Ok(Op::Serialize)), extended(running(alloc))),
-        4 => with(one(alloc, Ok(Op::Serialize)), extended(before(alloc))),
-        5 => one(alloc, projected(computed(alloc))),
-        _ => with(
-            one(alloc, filter(greater(alloc, "x", 1))),
-            projected(running(alloc)),
-        ),
-    }
-}
-
-// Partitions, a scan, and lookups.
-fn keyed_ops(alloc: Global, form: usize) -> Made<Ops> {
-    match form {
-        16 => with(
-            one(alloc, Ok(Op::Serialize)),
-            partitioned(alloc, one(alloc, one_step(alloc))),
-        ),
-        17 => one(
-            alloc,
-            partitioned(alloc, one(alloc, top(1, one(alloc, key(alloc, "x"))))),
-        ),
-        18 => with(one(alloc, Ok(Op::Serialize)), one_step(alloc)),
-        19 => one(alloc, looked_up(alloc, JoinKind::LeftOuter)),
-        _ => one(alloc, looked_up(alloc, JoinKind::Inner)),
-    }
-}
-
-/// The plan of a form.
-pub(crate) fn form_plan(alloc: Global, form: usize) -> Made<Plan> {
-    plan(table(alloc), ops_of(alloc, form))
-}
-
-/// The phases of a form by several workers: of a join those of its right side first, and then the rows that lead.
-pub(crate) fn cuts_of(form: usize) -> Cuts {
-    match form {
-        0 => &[Some(7)],
-        1 => &[Some(7)],
-        2 => &[Some(7)],
-        3 => &[Some(7), Some(7)],
-        4 => &[Some(7)],
-        5 => &[Some(7)],
-        6 => &[Some(7), Some(5), Some(5)],
-        7 => &[Some(7), Some(3)],
-        10 => &[Some(7), Some(3)],
-        13 => &[Some(7), Some(3)],
-        15 => &[Some(7), Some(3)],
-        16 => &[Some(3)],
-        17 => &[Some(3)],
-        18 => &[None],
-        21 => &[Some(7)],
-        22 => &[Some(7)],
-        23 => &[Some(5)],
-        24 => &[Some(7), None],
-        25 => &[Some(7)],
-        _ => &[Some(7), Some(7)],
-    }
-}
-
-/// The same by one worker.
-pub(crate) fn cuts_by_one(form: usize) -> Cuts {
-    match form {
-        0 => &[None],
-        1 => &[None],
-        2 => &[None],
-        3 => &[None],
-        4 => &[None],
-        5 => &[None],
-        16 => &[None],
-        17 => &[None],
-        18 => &[None],
-        21 => &[None],
-        22 => &[None],
-        23 => &[None],
-        25 => &[None],
-        _ => &[Some(7), None],
-    }
-}
-
-/// How many rows a phase of a form counts for a piece, where these are asked for: a piece of so few has one key of a partition.
-pub(crate) fn counted(form: usize, rows: u32) -> u32 {
-    match form {
-        16 => 1,
-        17 => 1,
-        _ => rows,
-    }
-}

@@ -6,9 +6,7 @@ mod forms;
 #[cfg(test)]
 mod phases;
 #[cfg(test)]
-mod plans;
-#[cfg(test)]
-mod reads;
+mod queries;
 #[cfg(test)]
 mod sizes;
 #[cfg(test)]

@@ -1,7 +1,7 @@
 //! Groups of large tables: how many pieces they have by several workers.
 
-use crate::forms::form_plan;
-use crate::plans::{none, program_of};
+use crate::forms::SUMS;
+use crate::queries::program_of;
 use crate::tables::{Line, Made, are_same, catalogue_of};
 use kql_bound::Program;
 use kql_fits::fits;
@@ -42,30 +42,26 @@ fn is_cut(report: &[PhaseReport], pieces: u32) -> bool {
     }
 }
 
-fn sums_of(alloc: Global, catalogue: &Catalogue) -> Made<Program> {
-    program_of(catalogue.schemas(alloc), none(alloc), form_plan(alloc, 0))
-}
-
 // Whether the sums by key are those of one thread, in so many pieces.
 fn sums_in<R: Threads + Sync>(
     rt: &R,
     alloc: Global,
+    p: &Program,
     catalogue: &Catalogue,
     workers: u32,
     rows: u32,
     pieces: u32,
 ) -> Made<bool> {
-    let p = sums_of(alloc, catalogue)?;
     let schemas = catalogue.schemas(alloc)?;
-    if !fits(alloc, &p, &schemas)? {
+    if !fits(alloc, p, &schemas)? {
         return Ok(false);
     }
-    let table = plain(alloc, &p, catalogue)?;
+    let table = plain(alloc, p, catalogue)?;
     let sizes = Sizes {
         piece_rows: rows.max(1),
     };
     let workers = workers.clamp(2, 64);
-    let answer = run_plan(rt, alloc, &p, catalogue, workers, sizes, &OpenGate)?;
+    let answer = run_plan(rt, alloc, p, catalogue, workers, sizes, &OpenGate)?;
     Ok(are_same(&table, &answer.table) && is_cut(answer.report.as_slice(), pieces))
 }
 
@@ -76,8 +72,19 @@ fn first_wrong_size<R: Threads + Sync>(
     catalogue: &Catalogue,
     rows: &'static [(u32, u32, u32)],
 ) -> Made<Option<(u32, u32, u32)>> {
+    let Some(p) = program_of(alloc, SUMS, catalogue)? else {
+        return Ok(rows.first().copied());
+    };
     for (workers, piece_rows, pieces) in rows {
-        if !sums_in(rt, alloc, catalogue, *workers, *piece_rows, *pieces)? {
+        if !sums_in(
+            rt,
+            alloc,
+            p.get(),
+            catalogue,
+            *workers,
+            *piece_rows,
+            *pieces,
+        )? {
             return Ok(Some((*workers, *piece_rows, *pieces)));
         }
     }
