@@ -20,7 +20,7 @@ _kql() {
       case "$command" in
         run | plain) mapfile -t COMPREPLY < <(compgen -W "--now --limit --catalogue --types --workers --help" -- "$word") ;;
         explain) mapfile -t COMPREPLY < <(compgen -W "--now --limit --catalogue --workers --help" -- "$word") ;;
-        live) mapfile -t COMPREPLY < <(compgen -W "--readers --now --watch --help" -- "$word") ;;
+        live) mapfile -t COMPREPLY < <(compgen -W "--readers --now --watch --view --help" -- "$word") ;;
         trial) mapfile -t COMPREPLY < <(compgen -W "--workers --help" -- "$word") ;;
         schema) mapfile -t COMPREPLY < <(compgen -W "--output --all --limit --help" -- "$word") ;;
         types) mapfile -t COMPREPLY < <(compgen -W "--limit --write --help" -- "$word") ;;
