@@ -1,47 +1,49 @@
 -- The equations of the definition, one for each variant, and what each level answers.
 use Rattle.std.proofs.Common.{◌≡◌, ◌<◌, ◌≤◌, ◌+◌, ◌-◌, ◌++◌, ℕ, zero, suc, List, [], ◌∷◌, drop, take, map, get_or, length, refl, sym, ap, ◌∙◌, subst, arith}
-use Rattle.std.specs.Prelude.{Result, Ok, Err, Option, None, Some, fold}
+use Rattle.std.specs.Prelude.{Bool, true, false, Result, Ok, Err, Option, None, Some, fold}
 use Rattle.std.proofs.lemmas.List.{take_all}
 use Rattle.std.proofs.lemmas.List.Sums.{fold_more}
 use Rattle.kql_cells.specs.declared.value.Kind.TheVariants as kind
 use Rattle.kql_functions.specs.Find.{found_as}
+use Rattle.kql_functions.specs.declared.func.Func.{Func}
 use Rattle.kql_functions.specs.declared.func.LogicFunc.TheVariants as logic
 use Rattle.kql_functions.specs.declared.names.Found.{Found}
 use Rattle.kql_bound.specs.declared.expr.ChainSign.{ChainSign}
 use Rattle.kql_lexer.specs.declared.place.Place.{Place}
 use Rattle.kql_meaning.specs.declared.position.Position.{Position}
-use Rattle.kql_syntax.specs.declared.tree.Access.{Access, fold-roll-Access}
+use Rattle.kql_syntax.specs.declared.tree.Access.{Access, para-roll-Access}
 use Rattle.kql_syntax.specs.declared.tree.Access.TheOpen.{Access-F, And-F, Arg-F, Cmp-F, Expr-F, Post-F, Prod-F, Sign-F, Sum-F, Term-F}
 use Rattle.kql_syntax.specs.declared.tree.Access.TheVariants as AccessV
-use Rattle.kql_syntax.specs.declared.tree.And.{And, fold_out-And, out-And}
-use Rattle.kql_syntax.specs.declared.tree.Arg.{Arg, fold-roll-Arg}
+use Rattle.kql_syntax.specs.declared.tree.And.{And, out-And, roll-out-And}
+use Rattle.kql_syntax.specs.declared.tree.Arg.{Arg, para-roll-Arg}
 use Rattle.kql_syntax.specs.declared.tree.Arg.TheVariants as ArgV
 use Rattle.kql_syntax.specs.declared.tree.BetweenSign.{BetweenSign}
-use Rattle.kql_syntax.specs.declared.tree.Cmp.{Cmp, fold-roll-Cmp}
+use Rattle.kql_syntax.specs.declared.tree.Cmp.{Cmp, para-roll-Cmp}
 use Rattle.kql_syntax.specs.declared.tree.Cmp.TheVariants as CmpV
 use Rattle.kql_syntax.specs.declared.tree.CompareSign.{CompareSign}
-use Rattle.kql_syntax.specs.declared.tree.Expr.{Expr, fold_out-Expr, out-Expr}
+use Rattle.kql_syntax.specs.declared.tree.Expr.{Expr, out-Expr, roll-out-Expr}
 use Rattle.kql_syntax.specs.declared.tree.InSign.{InSign}
 use Rattle.kql_syntax.specs.declared.tree.Literal.{Literal}
 use Rattle.kql_syntax.specs.declared.tree.Name.{Name}
-use Rattle.kql_syntax.specs.declared.tree.Post.{Post, fold_out-Post, out-Post}
-use Rattle.kql_syntax.specs.declared.tree.Prod.{Prod, fold_out-Prod, out-Prod}
+use Rattle.kql_syntax.specs.declared.tree.Post.{Post, out-Post, roll-out-Post}
+use Rattle.kql_syntax.specs.declared.tree.Prod.{Prod, out-Prod, roll-out-Prod}
 use Rattle.kql_syntax.specs.declared.tree.ProdSign.{ProdSign}
-use Rattle.kql_syntax.specs.declared.tree.Sign.{Sign, fold-roll-Sign}
+use Rattle.kql_syntax.specs.declared.tree.Sign.{Sign, para-roll-Sign}
 use Rattle.kql_syntax.specs.declared.tree.Sign.TheVariants as SignV
-use Rattle.kql_syntax.specs.declared.tree.Sum.{Sum, fold_out-Sum, out-Sum}
+use Rattle.kql_syntax.specs.declared.tree.Sum.{Sum, out-Sum, roll-out-Sum}
 use Rattle.kql_syntax.specs.declared.tree.SumSign.{SumSign}
-use Rattle.kql_syntax.specs.declared.tree.Term.{Term, fold-roll-Term}
+use Rattle.kql_syntax.specs.declared.tree.Term.{Term, para-roll-Term}
 use Rattle.kql_syntax.specs.declared.tree.Term.TheVariants as TermV
 use Rattle.kql_syntax.specs.declared.tree.Word.{Word}
 use Rattle.bind_expr.specs.Arguments.{arg_link, first_slot, next_slot, no_args, plain_arg, taken}
-use Rattle.bind_expr.specs.Bound.{Binds, Look, Named, Takes, access_key, access_place, access_read, access_step, and_bound, and_link, and_step, ands_to, arg_bound, arg_step, args_of, args_taken, args_to, call_bound, call_node, cmp_bound, cmp_step, entry_key, expr_bound, expr_step, factors_to, first_spot, found_call, inside, links_to, looks_to, minus_node, negated, operand_link, operands_to, or_link, ors_to, path_from, path_of, path_to, post_bound, post_of, post_step, prod_bound, prod_link, prod_sign, prod_step, sign_bound, sign_step, sum_bound, sum_link, sum_sign, sum_step, term_bound, term_name, term_read, term_step}
+use Rattle.bind_expr.specs.Bound.{Binds, Look, Named, Takes, access_key, access_place, access_read, access_step, and_bound, and_link, and_step, ands_to, arg_bound, arg_step, args_of, args_taken, args_to, call_bound, call_node, call_or_extract, compare_or_match, cmp_bound, cmp_step, entry_key, expr_bound, expr_step, factors_to, first_spot, found_call, inside, links_to, looks_to, minus_node, negated, operand_link, operands_to, or_link, ors_to, path_from, path_of, path_to, post_bound, post_of, post_step, prod_bound, prod_link, prod_sign, prod_step, sign_bound, sign_step, sum_bound, sum_link, sum_sign, sum_step, term_bound, term_name, term_read, term_step}
 use Rattle.bind_expr.specs.Chains.{closed, linked, opened}
-use Rattle.bind_expr.specs.Comparisons.{between_node, bounded, compare_node, compared, in_node, listed}
+use Rattle.bind_expr.specs.Comparisons.{between_node, bounded, compare_func, compare_node, compared, in_node, listed}
 use Rattle.bind_expr.specs.Literals.{literal_bound}
 use Rattle.bind_expr.specs.Logic.{with_term, terms_closed, terms_opened}
 use Rattle.bind_expr.specs.Names.{name_bound, text_of}
 use Rattle.bind_expr.specs.Outcome.{Answers, Outcome, ◌>>=◌}
+use Rattle.bind_expr.specs.Patterns.{extract_bound, is_extract, match_bound}
 use Rattle.bind_expr.specs.Paths.{look_link, with_look, path_closed, path_opened, step_bound, step_named}
 use Rattle.bind_expr.specs.declared.arguments.Args.{Args}
 use Rattle.bind_expr.specs.declared.arguments.Slot.{Slot}
@@ -54,6 +56,7 @@ use Rattle.bind_expr.specs.declared.scope.Scope.{Scope}
 use Rattle.bind_expr.specs.declared.scope.StepNames.{StepNames}
 use Rattle.bind_expr.specs.declared.scope.Spot.{Spot}
 use Rattle.bind_expr.specs.declared.typed.Typed.{Typed}
+use Rattle.bind_expr.proofs.RolledLaws.{and-rolled, call-rolled, expr-rolled, in-rolled, post-rolled, prod-rolled, sum-rolled}
 use Rattle.bind_expr.proofs.AnswerFacts.{answers-along, answers-ok, answers-same, goes_along, goes_on, goes_under, goes_under_two}
 
 -- Lists of parts.
@@ -105,7 +108,7 @@ expr-spot spot (l ∷ ls) = refl
 pub expr-is : (e : Expr) (scope : Scope) (spot : Spot) → expr_bound e scope spot ≡ terms_closed logic.Or (ors_to scope (inside spot.position) (terms_opened (and_bound (out-Expr e).first scope (first_spot (out-Expr e).more spot))) (out-Expr e).more)
 unfolding expr_bound and_bound cmp_bound sum_bound prod_bound sign_bound post_bound access_read term_read arg_bound ors_to
 expr-is e scope spot =
-    ap (λ (f : Binds). f scope spot) (fold_out-Expr Look Takes Binds Binds Named Binds Binds Binds Binds Binds access_step arg_step cmp_step sign_step term_step and_step expr_step post_step prod_step sum_step e)
+    ap (λ (x : Expr). expr_bound x scope spot) (sym (roll-out-Expr e)) ∙ expr-rolled (out-Expr e) scope spot
     ∙ (ap (λ (at : Spot). terms_closed logic.Or (fold (λ before (l : Place × Binds). or_link before l.0 (l.1 scope (inside spot.position))) (terms_opened (and_bound (out-Expr e).first scope at)) (map {B = Place × Binds} (λ (l : Place × And). (l.0, and_bound l.1)) (out-Expr e).more))) (expr-spot spot (out-Expr e).more)
     ∙ ap (terms_closed logic.Or) (ors-map scope (inside spot.position) (out-Expr e).more (terms_opened (and_bound (out-Expr e).first scope (first_spot (out-Expr e).more spot)))))
 
@@ -149,7 +152,7 @@ and-spot spot (l ∷ ls) = refl
 pub and-is : (e : And) (scope : Scope) (spot : Spot) → and_bound e scope spot ≡ terms_closed logic.And (ands_to scope (inside spot.position) (terms_opened (cmp_bound (out-And e).first scope (first_spot (out-And e).more spot))) (out-And e).more)
 unfolding expr_bound and_bound cmp_bound sum_bound prod_bound sign_bound post_bound access_read term_read arg_bound ands_to
 and-is e scope spot =
-    ap (λ (f : Binds). f scope spot) (fold_out-And Look Takes Binds Binds Named Binds Binds Binds Binds Binds access_step arg_step cmp_step sign_step term_step and_step expr_step post_step prod_step sum_step e)
+    ap (λ (x : And). and_bound x scope spot) (sym (roll-out-And e)) ∙ and-rolled (out-And e) scope spot
     ∙ (ap (λ (at : Spot). terms_closed logic.And (fold (λ before (l : Place × Binds). and_link before l.0 (l.1 scope (inside spot.position))) (terms_opened (cmp_bound (out-And e).first scope at)) (map {B = Place × Binds} (λ (l : Place × Cmp). (l.0, cmp_bound l.1)) (out-And e).more))) (and-spot spot (out-And e).more)
     ∙ ap (terms_closed logic.And) (ands-map scope (inside spot.position) (out-And e).more (terms_opened (cmp_bound (out-And e).first scope (first_spot (out-And e).more spot)))))
 
@@ -193,7 +196,7 @@ sum-spot spot (l ∷ ls) = refl
 pub sum-is : (e : Sum) (scope : Scope) (spot : Spot) → sum_bound e scope spot ≡ closed (links_to scope (inside spot.position) (opened (prod_bound (out-Sum e).first scope (first_spot (out-Sum e).more spot))) (out-Sum e).more)
 unfolding expr_bound and_bound cmp_bound sum_bound prod_bound sign_bound post_bound access_read term_read arg_bound links_to
 sum-is e scope spot =
-    ap (λ (f : Binds). f scope spot) (fold_out-Sum Look Takes Binds Binds Named Binds Binds Binds Binds Binds access_step arg_step cmp_step sign_step term_step and_step expr_step post_step prod_step sum_step e)
+    ap (λ (x : Sum). sum_bound x scope spot) (sym (roll-out-Sum e)) ∙ sum-rolled (out-Sum e) scope spot
     ∙ (ap (λ (at : Spot). closed (fold (λ before (l : SumSign × Binds). sum_link before l.0 (l.1 scope (inside spot.position))) (opened (prod_bound (out-Sum e).first scope at)) (map {B = SumSign × Binds} (λ (l : SumSign × Prod). (l.0, prod_bound l.1)) (out-Sum e).more))) (sum-spot spot (out-Sum e).more)
     ∙ ap (closed) (links-map scope (inside spot.position) (out-Sum e).more (opened (prod_bound (out-Sum e).first scope (first_spot (out-Sum e).more spot)))))
 
@@ -237,7 +240,7 @@ prod-spot spot (l ∷ ls) = refl
 pub prod-is : (e : Prod) (scope : Scope) (spot : Spot) → prod_bound e scope spot ≡ closed (factors_to scope (inside spot.position) (opened (sign_bound (out-Prod e).first scope (first_spot (out-Prod e).more spot))) (out-Prod e).more)
 unfolding expr_bound and_bound cmp_bound sum_bound prod_bound sign_bound post_bound access_read term_read arg_bound factors_to
 prod-is e scope spot =
-    ap (λ (f : Binds). f scope spot) (fold_out-Prod Look Takes Binds Binds Named Binds Binds Binds Binds Binds access_step arg_step cmp_step sign_step term_step and_step expr_step post_step prod_step sum_step e)
+    ap (λ (x : Prod). prod_bound x scope spot) (sym (roll-out-Prod e)) ∙ prod-rolled (out-Prod e) scope spot
     ∙ (ap (λ (at : Spot). closed (fold (λ before (l : ProdSign × Binds). prod_link before l.0 (l.1 scope (inside spot.position))) (opened (sign_bound (out-Prod e).first scope at)) (map {B = ProdSign × Binds} (λ (l : ProdSign × Sign). (l.0, sign_bound l.1)) (out-Prod e).more))) (prod-spot spot (out-Prod e).more)
     ∙ ap (closed) (factors-map scope (inside spot.position) (out-Prod e).more (opened (sign_bound (out-Prod e).first scope (first_spot (out-Prod e).more spot)))))
 
@@ -274,15 +277,15 @@ factors-turn scope spot more i link start left right result head l a b h = turne
 
 pub cmp-Plain : (s : Sum) (scope : Scope) (spot : Spot) → cmp_bound (CmpV.Plain s) scope spot ≡ sum_bound s scope spot
 unfolding expr_bound and_bound cmp_bound sum_bound prod_bound sign_bound post_bound access_read term_read arg_bound
-cmp-Plain s scope spot = ap (λ (f : Binds). f scope spot) (ap cmp_bound (sym (CmpV.rolls-Plain s)) ∙ fold-roll-Cmp Look Takes Binds Binds Named Binds Binds Binds Binds Binds access_step arg_step cmp_step sign_step term_step and_step expr_step post_step prod_step sum_step (Cmp-F.«Cmp::Plain» s))
+cmp-Plain s scope spot = ap (λ (f : Binds). f scope spot) (ap cmp_bound (sym (CmpV.rolls-Plain s)) ∙ para-roll-Cmp Look Takes Binds Binds Named Binds Binds Binds Binds Binds access_step arg_step cmp_step sign_step term_step and_step expr_step post_step prod_step sum_step (Cmp-F.«Cmp::Plain» s))
 
-pub cmp-Compared : (s : Sum) (sign : CompareSign) (b : Sum) (scope : Scope) (spot : Spot) → cmp_bound (CmpV.Compared s sign b) scope spot ≡ compare_node sign (sum_bound s scope (inside spot.position)) (sum_bound b scope (inside spot.position))
+pub cmp-Compared : (s : Sum) (sign : CompareSign) (b : Sum) (scope : Scope) (spot : Spot) → cmp_bound (CmpV.Compared s sign b) scope spot ≡ compare_or_match (s, sum_bound s) sign (b, sum_bound b) scope spot (compare_func sign.op)
 unfolding expr_bound and_bound cmp_bound sum_bound prod_bound sign_bound post_bound access_read term_read arg_bound
-cmp-Compared s sign b scope spot = ap (λ (f : Binds). f scope spot) (ap cmp_bound (sym (CmpV.rolls-Compared s sign b)) ∙ fold-roll-Cmp Look Takes Binds Binds Named Binds Binds Binds Binds Binds access_step arg_step cmp_step sign_step term_step and_step expr_step post_step prod_step sum_step (Cmp-F.Compared s sign b))
+cmp-Compared s sign b scope spot = ap (λ (f : Binds). f scope spot) (ap cmp_bound (sym (CmpV.rolls-Compared s sign b)) ∙ para-roll-Cmp Look Takes Binds Binds Named Binds Binds Binds Binds Binds access_step arg_step cmp_step sign_step term_step and_step expr_step post_step prod_step sum_step (Cmp-F.Compared s sign b))
 
 pub cmp-Between : (s : Sum) (sign : BetweenSign) (b : Sum × Sum) (scope : Scope) (spot : Spot) → cmp_bound (CmpV.Between s sign b) scope spot ≡ between_node sign (sum_bound s scope (inside spot.position)) (sum_bound b.0 scope (inside spot.position)) (sum_bound b.1 scope (inside spot.position))
 unfolding expr_bound and_bound cmp_bound sum_bound prod_bound sign_bound post_bound access_read term_read arg_bound
-cmp-Between s sign b scope spot = ap (λ (f : Binds). f scope spot) (ap cmp_bound (sym (CmpV.rolls-Between s sign b)) ∙ fold-roll-Cmp Look Takes Binds Binds Named Binds Binds Binds Binds Binds access_step arg_step cmp_step sign_step term_step and_step expr_step post_step prod_step sum_step (Cmp-F.Between s sign b))
+cmp-Between s sign b scope spot = ap (λ (f : Binds). f scope spot) (ap cmp_bound (sym (CmpV.rolls-Between s sign b)) ∙ para-roll-Cmp Look Takes Binds Binds Named Binds Binds Binds Binds Binds access_step arg_step cmp_step sign_step term_step and_step expr_step post_step prod_step sum_step (Cmp-F.Between s sign b))
 
 operands-map : (scope : Scope) (spot : Spot) (es : List Expr) (start : Outcome (List Typed)) → fold (λ before (e : Binds). operand_link before (e scope spot)) start (map expr_bound es) ≡ fold (λ before (e : Expr). operand_link before (expr_bound e scope spot)) start es
 operands-map scope spot [] start = refl
@@ -290,14 +293,21 @@ operands-map scope spot (e ∷ es) start = operands-map scope spot es (operand_l
 
 pub cmp-In : (s : Sum) (sign : InSign) (es : List Expr) (scope : Scope) (spot : Spot) → cmp_bound (CmpV.In s sign es) scope spot ≡ in_node sign (operands_to scope (inside spot.position) (operand_link (Ok []) (sum_bound s scope (inside spot.position))) es)
 unfolding expr_bound and_bound cmp_bound sum_bound prod_bound sign_bound post_bound access_read term_read arg_bound operands_to
-cmp-In s sign es scope spot = ap (λ (f : Binds). f scope spot) (ap cmp_bound (sym (CmpV.rolls-In s sign es)) ∙ fold-roll-Cmp Look Takes Binds Binds Named Binds Binds Binds Binds Binds access_step arg_step cmp_step sign_step term_step and_step expr_step post_step prod_step sum_step (Cmp-F.In s sign es)) ∙ ap (in_node sign) (operands-map scope (inside spot.position) es (operand_link (Ok []) (sum_bound s scope (inside spot.position))))
+cmp-In s sign es scope spot = ap (λ (x : Cmp). cmp_bound x scope spot) (sym (CmpV.rolls-In s sign es)) ∙ in-rolled s sign es scope spot ∙ ap (in_node sign) (operands-map scope (inside spot.position) es (operand_link (Ok []) (sum_bound s scope (inside spot.position))))
 
-pub compared-answers : (e : Cmp) (s : Sum) (sign : CompareSign) (b : Sum) (scope : Scope) (spot inner : Spot) (left right result : Outcome Typed) → e ≡ CmpV.Compared s sign b → inner ≡ inside spot.position → Answers left (sum_bound s scope inner) → Answers right (sum_bound b scope inner) → Answers result (compare_node sign left right) → Answers result (cmp_bound e scope spot)
-compared-answers e s sign b scope spot inner left right result is where_inner x y h =
-    let one = goes_on left (sum_bound s scope inner) (λ l. right >>= λ r. compared sign l r) result x h in
-    let two = goes_under (sum_bound s scope inner) right (sum_bound b scope inner) (λ l r. compared sign l r) result y one in
-    answers-along result (compare_node sign (sum_bound s scope inner) (sum_bound b scope inner)) (cmp_bound e scope spot) two
-    (ap (λ (at : Spot). compare_node sign (sum_bound s scope at) (sum_bound b scope at)) where_inner
+pub compared-answers : (e : Cmp) (s : Sum) (sign : CompareSign) (b : Sum) (o : Option Func) (f : Func) (scope : Scope) (spot inner : Spot) (left right result : Outcome Typed) → e ≡ CmpV.Compared s sign b → o ≡ compare_func sign.op → o ≡ Some f → inner ≡ inside spot.position → Answers left (sum_bound s scope inner) → Answers right (sum_bound b scope inner) → Answers result (compare_node f sign left right) → Answers result (cmp_bound e scope spot)
+compared-answers e s sign b o f scope spot inner left right result is found some where_inner x y h =
+    let one = goes_on left (sum_bound s scope inner) (λ l. right >>= λ r. compared f sign l r) result x h in
+    let two = goes_under (sum_bound s scope inner) right (sum_bound b scope inner) (λ l r. compared f sign l r) result y one in
+    answers-along result (compare_node f sign (sum_bound s scope inner) (sum_bound b scope inner)) (cmp_bound e scope spot) two
+    (ap (λ (at : Spot). compare_node f sign (sum_bound s scope at) (sum_bound b scope at)) where_inner
+    ∙ (ap (compare_or_match (s, sum_bound s) sign (b, sum_bound b) scope spot) (sym some ∙ found)
+    ∙ (sym (cmp-Compared s sign b scope spot) ∙ ap (λ (x : Cmp). cmp_bound x scope spot) (sym is))))
+
+pub match-answers : (e : Cmp) (s : Sum) (sign : CompareSign) (b : Sum) (o : Option Func) (scope : Scope) (spot : Spot) (result : Outcome Typed) → e ≡ CmpV.Compared s sign b → o ≡ compare_func sign.op → o ≡ None → Answers result (match_bound sign.place scope s b) → Answers result (cmp_bound e scope spot)
+match-answers e s sign b o scope spot result is found none h =
+    answers-along result (match_bound sign.place scope s b) (cmp_bound e scope spot) h
+    (ap (compare_or_match (s, sum_bound s) sign (b, sum_bound b) scope spot) (sym none ∙ found)
     ∙ (sym (cmp-Compared s sign b scope spot) ∙ ap (λ (x : Cmp). cmp_bound x scope spot) (sym is)))
 
 pub between-answers : (e : Cmp) (s : Sum) (sign : BetweenSign) (bounds : Sum × Sum) (scope : Scope) (spot inner : Spot) (value low high result : Outcome Typed) → e ≡ CmpV.Between s sign bounds → inner ≡ inside spot.position → Answers value (sum_bound s scope inner) → Answers low (sum_bound bounds.0 scope inner) → Answers high (sum_bound bounds.1 scope inner) → Answers result (between_node sign value low high) → Answers result (cmp_bound e scope spot)
@@ -336,11 +346,11 @@ operands-turn scope spot more i d start left next result l a b h = turn (λ (e :
 
 pub sign-Plain : (p : Post) (scope : Scope) (spot : Spot) → sign_bound (SignV.Plain p) scope spot ≡ post_bound p scope spot
 unfolding expr_bound and_bound cmp_bound sum_bound prod_bound sign_bound post_bound access_read term_read arg_bound
-sign-Plain p scope spot = ap (λ (f : Binds). f scope spot) (ap sign_bound (sym (SignV.rolls-Plain p)) ∙ fold-roll-Sign Look Takes Binds Binds Named Binds Binds Binds Binds Binds access_step arg_step cmp_step sign_step term_step and_step expr_step post_step prod_step sum_step (Sign-F.«Sign::Plain» p))
+sign-Plain p scope spot = ap (λ (f : Binds). f scope spot) (ap sign_bound (sym (SignV.rolls-Plain p)) ∙ para-roll-Sign Look Takes Binds Binds Named Binds Binds Binds Binds Binds access_step arg_step cmp_step sign_step term_step and_step expr_step post_step prod_step sum_step (Sign-F.«Sign::Plain» p))
 
 pub sign-Minus : (place : Place) (p : Post) (scope : Scope) (spot : Spot) → sign_bound (SignV.Minus place p) scope spot ≡ minus_node place (post_bound p scope (inside spot.position))
 unfolding expr_bound and_bound cmp_bound sum_bound prod_bound sign_bound post_bound access_read term_read arg_bound
-sign-Minus place p scope spot = ap (λ (f : Binds). f scope spot) (ap sign_bound (sym (SignV.rolls-Minus place p)) ∙ fold-roll-Sign Look Takes Binds Binds Named Binds Binds Binds Binds Binds access_step arg_step cmp_step sign_step term_step and_step expr_step post_step prod_step sum_step (Sign-F.Minus place p))
+sign-Minus place p scope spot = ap (λ (f : Binds). f scope spot) (ap sign_bound (sym (SignV.rolls-Minus place p)) ∙ para-roll-Sign Look Takes Binds Binds Named Binds Binds Binds Binds Binds access_step arg_step cmp_step sign_step term_step and_step expr_step post_step prod_step sum_step (Sign-F.Minus place p))
 
 pub minus-answers : (e : Sign) (place : Place) (p : Post) (scope : Scope) (spot inner : Spot) (next result : Outcome Typed) → e ≡ SignV.Minus place p → inner ≡ inside spot.position → Answers next (post_bound p scope inner) → Answers result (minus_node place next) → Answers result (sign_bound e scope spot)
 minus-answers e place p scope spot inner next result is where_inner a h =
@@ -353,11 +363,11 @@ minus-answers e place p scope spot inner next result is where_inner a h =
 
 read-Entry : (place : Place) (w : Word) → access_read (AccessV.Entry place w) ≡ record { place = place; entry = Some w; key = λ scope at. Ok (entry_key w) }
 unfolding expr_bound and_bound cmp_bound sum_bound prod_bound sign_bound post_bound access_read term_read arg_bound
-read-Entry place w = ap access_read (sym (AccessV.rolls-Entry place w)) ∙ fold-roll-Access Look Takes Binds Binds Named Binds Binds Binds Binds Binds access_step arg_step cmp_step sign_step term_step and_step expr_step post_step prod_step sum_step (Access-F.Entry place w)
+read-Entry place w = ap access_read (sym (AccessV.rolls-Entry place w)) ∙ para-roll-Access Look Takes Binds Binds Named Binds Binds Binds Binds Binds access_step arg_step cmp_step sign_step term_step and_step expr_step post_step prod_step sum_step (Access-F.Entry place w)
 
 read-Element : (place : Place) (e : Expr) → access_read (AccessV.Element place e) ≡ record { place = place; entry = None; key = λ scope at. expr_bound e scope (inside at) }
 unfolding expr_bound and_bound cmp_bound sum_bound prod_bound sign_bound post_bound access_read term_read arg_bound
-read-Element place e = ap access_read (sym (AccessV.rolls-Element place e)) ∙ fold-roll-Access Look Takes Binds Binds Named Binds Binds Binds Binds Binds access_step arg_step cmp_step sign_step term_step and_step expr_step post_step prod_step sum_step (Access-F.Element place e)
+read-Element place e = ap access_read (sym (AccessV.rolls-Element place e)) ∙ para-roll-Access Look Takes Binds Binds Named Binds Binds Binds Binds Binds access_step arg_step cmp_step sign_step term_step and_step expr_step post_step prod_step sum_step (Access-F.Element place e)
 
 pub place-Entry : (place : Place) (w : Word) → access_place (AccessV.Entry place w) ≡ place
 unfolding access_place
@@ -390,19 +400,19 @@ element-answers a place e scope at inner result is where_inner h = answers-along
 
 read-Literal : (l : Literal) → term_read (TermV.Literal l) ≡ record { name = None; bound = λ scope spot. literal_bound l }
 unfolding expr_bound and_bound cmp_bound sum_bound prod_bound sign_bound post_bound access_read term_read arg_bound
-read-Literal l = ap term_read (sym (TermV.rolls-Literal l)) ∙ fold-roll-Term Look Takes Binds Binds Named Binds Binds Binds Binds Binds access_step arg_step cmp_step sign_step term_step and_step expr_step post_step prod_step sum_step (Term-F.Literal l)
+read-Literal l = ap term_read (sym (TermV.rolls-Literal l)) ∙ para-roll-Term Look Takes Binds Binds Named Binds Binds Binds Binds Binds access_step arg_step cmp_step sign_step term_step and_step expr_step post_step prod_step sum_step (Term-F.Literal l)
 
 read-Name : (n : Name) → term_read (TermV.Name n) ≡ record { name = Some (text_of n); bound = λ scope spot. name_bound n scope }
 unfolding expr_bound and_bound cmp_bound sum_bound prod_bound sign_bound post_bound access_read term_read arg_bound
-read-Name n = ap term_read (sym (TermV.rolls-Name n)) ∙ fold-roll-Term Look Takes Binds Binds Named Binds Binds Binds Binds Binds access_step arg_step cmp_step sign_step term_step and_step expr_step post_step prod_step sum_step (Term-F.Name n)
+read-Name n = ap term_read (sym (TermV.rolls-Name n)) ∙ para-roll-Term Look Takes Binds Binds Named Binds Binds Binds Binds Binds access_step arg_step cmp_step sign_step term_step and_step expr_step post_step prod_step sum_step (Term-F.Name n)
 
 read-Group : (place : Place) (e : Expr) → term_read (TermV.Group place e) ≡ record { name = None; bound = λ scope spot. expr_bound e scope spot }
 unfolding expr_bound and_bound cmp_bound sum_bound prod_bound sign_bound post_bound access_read term_read arg_bound
-read-Group place e = ap term_read (sym (TermV.rolls-Group place e)) ∙ fold-roll-Term Look Takes Binds Binds Named Binds Binds Binds Binds Binds access_step arg_step cmp_step sign_step term_step and_step expr_step post_step prod_step sum_step (Term-F.Group place e)
+read-Group place e = ap term_read (sym (TermV.rolls-Group place e)) ∙ para-roll-Term Look Takes Binds Binds Named Binds Binds Binds Binds Binds access_step arg_step cmp_step sign_step term_step and_step expr_step post_step prod_step sum_step (Term-F.Group place e)
 
-read-Call : (w : Word) (args : List Arg) → term_read (TermV.Call w args) ≡ record { name = None; bound = call_bound w (map arg_bound args) }
+read-Call : (w : Word) (args : List Arg) → term_read (TermV.Call w args) ≡ record { name = None; bound = call_bound w args (map arg_bound args) }
 unfolding expr_bound and_bound cmp_bound sum_bound prod_bound sign_bound post_bound access_read term_read arg_bound
-read-Call w args = ap term_read (sym (TermV.rolls-Call w args)) ∙ fold-roll-Term Look Takes Binds Binds Named Binds Binds Binds Binds Binds access_step arg_step cmp_step sign_step term_step and_step expr_step post_step prod_step sum_step (Term-F.Call w args)
+read-Call w args = ap term_read (sym (TermV.rolls-Call w args)) ∙ call-rolled w args
 
 pub term-Literal : (l : Literal) (scope : Scope) (spot : Spot) → term_bound (TermV.Literal l) scope spot ≡ literal_bound l
 unfolding term_bound
@@ -428,7 +438,7 @@ pub name-Group : (place : Place) (e : Expr) → term_name (TermV.Group place e) 
 unfolding term_name
 name-Group place e = ap (λ (t : Named). t.name) (read-Group place e)
 
-pub term-Call : (w : Word) (args : List Arg) (scope : Scope) (spot : Spot) → term_bound (TermV.Call w args) scope spot ≡ call_bound w (map arg_bound args) scope spot
+pub term-Call : (w : Word) (args : List Arg) (scope : Scope) (spot : Spot) → term_bound (TermV.Call w args) scope spot ≡ call_bound w args (map arg_bound args) scope spot
 unfolding term_bound
 term-Call w args scope spot = ap (λ (t : Named). t.bound scope spot) (read-Call w args)
 
@@ -485,8 +495,7 @@ unfolding path_to
 path-lost scope at more = ap (λ (x : Outcome Looked). path_closed (looks_to scope at x more)) path-opens ∙ (ap path_closed (looks-lost scope at more) ∙ path-closes)
 
 pub post-is : (e : Post) (scope : Scope) (spot : Spot) → post_bound e scope spot ≡ post_of (term_read (out-Post e).first) (map access_read (out-Post e).more) scope spot
-unfolding expr_bound and_bound cmp_bound sum_bound prod_bound sign_bound post_bound access_read term_read arg_bound
-post-is e scope spot = ap (λ (f : Binds). f scope spot) (fold_out-Post Look Takes Binds Binds Named Binds Binds Binds Binds Binds access_step arg_step cmp_step sign_step term_step and_step expr_step post_step prod_step sum_step e)
+post-is e scope spot = ap (λ (x : Post). post_bound x scope spot) (sym (roll-out-Post e)) ∙ post-rolled (out-Post e) scope spot
 
 post-none : (first : Named) (more : List Access) (scope : Scope) (spot : Spot) → more ≡ [] → post_of first (map access_read more) scope spot ≡ first.bound scope spot
 post-none first [] scope spot e = refl
@@ -575,11 +584,11 @@ looks-turn scope at more i d start left next place result l a b same h = turn (�
 
 pub arg-Plain : (e : Expr) (scope : Scope) (at : Position) → arg_bound (ArgV.Plain e) scope at ≡ plain_arg (expr_bound e scope (inside at))
 unfolding expr_bound and_bound cmp_bound sum_bound prod_bound sign_bound post_bound access_read term_read arg_bound
-arg-Plain e scope at = ap (λ (f : Takes). f scope at) (ap arg_bound (sym (ArgV.rolls-Plain e)) ∙ fold-roll-Arg Look Takes Binds Binds Named Binds Binds Binds Binds Binds access_step arg_step cmp_step sign_step term_step and_step expr_step post_step prod_step sum_step (Arg-F.«Arg::Plain» e))
+arg-Plain e scope at = ap (λ (f : Takes). f scope at) (ap arg_bound (sym (ArgV.rolls-Plain e)) ∙ para-roll-Arg Look Takes Binds Binds Named Binds Binds Binds Binds Binds access_step arg_step cmp_step sign_step term_step and_step expr_step post_step prod_step sum_step (Arg-F.«Arg::Plain» e))
 
 pub arg-Star : (place : Place) (scope : Scope) (at : Position) → arg_bound (ArgV.Star place) scope at ≡ Ok None
 unfolding expr_bound and_bound cmp_bound sum_bound prod_bound sign_bound post_bound access_read term_read arg_bound
-arg-Star place scope at = ap (λ (f : Takes). f scope at) (ap arg_bound (sym (ArgV.rolls-Star place)) ∙ fold-roll-Arg Look Takes Binds Binds Named Binds Binds Binds Binds Binds access_step arg_step cmp_step sign_step term_step and_step expr_step post_step prod_step sum_step (Arg-F.Star place))
+arg-Star place scope at = ap (λ (f : Takes). f scope at) (ap arg_bound (sym (ArgV.rolls-Star place)) ∙ para-roll-Arg Look Takes Binds Binds Named Binds Binds Binds Binds Binds access_step arg_step cmp_step sign_step term_step and_step expr_step post_step prod_step sum_step (Arg-F.Star place))
 
 pub plain-arg-answers : (arg : Arg) (e : Expr) (scope : Scope) (at : Position) (inner : Spot) (bound : Outcome Typed) (result : Outcome (Option Typed)) → arg ≡ ArgV.Plain e → inner ≡ inside at → Answers bound (expr_bound e scope inner) → result ≡ plain_arg bound → Answers result (arg_bound arg scope at)
 unfolding plain_arg
@@ -625,8 +634,8 @@ pub args-turn : (scope : Scope) (slot : Slot) (more : List Arg) (i : ℕ) (d : A
 unfolding args_to
 args-turn scope slot more i d start left next result l a b h = turn (λ (x : Arg) b t. Ok (taken scope slot b t)) (λ (x : Arg). arg_bound x scope slot.position) start more i d left next result l a b h
 
-call-answers : (e : Term) (w : Word) (list args : List Arg) (scope : Scope) (spot : Spot) (found : Found) (first next : Slot) (bound : Outcome Args) (result : Outcome Typed) → e ≡ TermV.Call w list → args ≡ list → found ≡ found_as w.text → first ≡ first_slot found spot.position → next ≡ next_slot found spot.position → Answers bound (args_of scope first next args) → Answers result (call_node w scope spot found bound) → Answers result (term_bound e scope spot)
-call-answers e w list args scope spot found first next bound result is same where_found where_first where_next a h =
+call-answers : (e : Term) (w : Word) (list args : List Arg) (scope : Scope) (spot : Spot) (found : Found) (first next : Slot) (bound : Outcome Args) (result : Outcome Typed) → e ≡ TermV.Call w list → args ≡ list → found ≡ found_as w.text → is_extract found ≡ false → first ≡ first_slot found spot.position → next ≡ next_slot found spot.position → Answers bound (args_of scope first next args) → Answers result (call_node w scope spot found bound) → Answers result (term_bound e scope spot)
+call-answers e w list args scope spot found first next bound result is same where_found other where_first where_next a h =
     let one = goes_on bound (args_of scope first next args) (λ x. found_call w scope spot x found) result a h in
     answers-along result (call_node w scope spot found (args_of scope first next args)) (term_bound e scope spot) one
     (ap (λ (l : List Arg). call_node w scope spot found (args_of scope first next l)) same
@@ -634,18 +643,26 @@ call-answers e w list args scope spot found first next bound result is same wher
     ∙ (ap (λ (s : Slot). call_node w scope spot found (args_of scope (first_slot found spot.position) s list)) where_next
     ∙ (ap (λ (f : Found). call_node w scope spot f (args_of scope (first_slot f spot.position) (next_slot f spot.position) list)) where_found
     ∙ (ap (call_node w scope spot (found_as w.text)) (sym (args-read scope (first_slot (found_as w.text) spot.position) (next_slot (found_as w.text) spot.position) list))
-    ∙ (sym (term-Call w list scope spot) ∙ ap (λ (t : Term). term_bound t scope spot) (sym is)))))))
+    ∙ (ap (call_or_extract w list (map arg_bound list) scope spot) (sym (ap is_extract (sym where_found) ∙ other))
+    ∙ (sym (term-Call w list scope spot) ∙ ap (λ (t : Term). term_bound t scope spot) (sym is))))))))
 
-pub empty-call-answers : (e : Term) (w : Word) (list args : List Arg) (scope : Scope) (spot : Spot) (found : Found) (made : Args) (result : Outcome Typed) → e ≡ TermV.Call w list → args ≡ list → length args ≡ 0 → found ≡ found_as w.text → made ≡ no_args → Answers result (call_node w scope spot found (Ok made)) → Answers result (term_bound e scope spot)
-empty-call-answers e w list args scope spot found made result is same none where_found empty h =
+pub extract-answers : (e : Term) (w : Word) (list args : List Arg) (scope : Scope) (spot : Spot) (found : Found) (b : Bool) (result : Outcome Typed) → e ≡ TermV.Call w list → args ≡ list → found ≡ found_as w.text → b ≡ is_extract found → b ≡ true → Answers result (extract_bound w.place scope args) → Answers result (term_bound e scope spot)
+extract-answers e w list args scope spot found b result is same where_found asked yes_it_is h =
+    answers-along result (extract_bound w.place scope args) (term_bound e scope spot) h
+    (ap (extract_bound w.place scope) same
+    ∙ (ap (call_or_extract w list (map arg_bound list) scope spot) (sym (ap is_extract (sym where_found) ∙ (sym asked ∙ yes_it_is)))
+    ∙ (sym (term-Call w list scope spot) ∙ ap (λ (t : Term). term_bound t scope spot) (sym is))))
+
+pub empty-call-answers : (e : Term) (w : Word) (list args : List Arg) (scope : Scope) (spot : Spot) (found : Found) (b : Bool) (made : Args) (result : Outcome Typed) → e ≡ TermV.Call w list → args ≡ list → length args ≡ 0 → found ≡ found_as w.text → b ≡ is_extract found → b ≡ false → made ≡ no_args → Answers result (call_node w scope spot found (Ok made)) → Answers result (term_bound e scope spot)
+empty-call-answers e w list args scope spot found b made result is same none where_found asked other empty h =
     let first : Slot = first_slot found spot.position in
     let next : Slot = next_slot found spot.position in
-    call-answers e w list args scope spot found first next (Ok made) result is same where_found refl refl (none-args scope first next args made none empty) h
+    call-answers e w list args scope spot found first next (Ok made) result is same where_found (sym asked ∙ other) refl refl (none-args scope first next args made none empty) h
 
-pub some-call-answers : (e : Term) (w : Word) (list args : List Arg) (arg : Arg) (scope : Scope) (spot : Spot) (found : Found) (first next : Slot) (bound : Outcome (Option Typed)) (start links : Outcome Args) (result : Outcome Typed) → e ≡ TermV.Call w list → args ≡ list → 1 ≤ length args → arg ≡ get_or args 0 arg → found ≡ found_as w.text → first ≡ first_slot found spot.position → next ≡ next_slot found spot.position → Answers bound (arg_bound arg scope first.position) → Answers start (arg_link scope first (Ok no_args) bound) → Answers links (args_to scope next start (take (length args - 1) (drop 1 args))) → Answers result (call_node w scope spot found links) → Answers result (term_bound e scope spot)
-some-call-answers e w list args arg scope spot found first next bound start links result is same long head where_found where_first where_next a b c h =
+pub some-call-answers : (e : Term) (w : Word) (list args : List Arg) (arg : Arg) (scope : Scope) (spot : Spot) (found : Found) (b : Bool) (first next : Slot) (bound : Outcome (Option Typed)) (start links : Outcome Args) (result : Outcome Typed) → e ≡ TermV.Call w list → args ≡ list → 1 ≤ length args → arg ≡ get_or args 0 arg → found ≡ found_as w.text → b ≡ is_extract found → b ≡ false → first ≡ first_slot found spot.position → next ≡ next_slot found spot.position → Answers bound (arg_bound arg scope first.position) → Answers start (arg_link scope first (Ok no_args) bound) → Answers links (args_to scope next start (take (length args - 1) (drop 1 args))) → Answers result (call_node w scope spot found links) → Answers result (term_bound e scope spot)
+some-call-answers e w list args arg scope spot found b first next bound start links result is same long head where_found asked other where_first where_next a opens c h =
     let behind : Answers links (args_to scope next start (drop 1 args)) = subst (λ (l : List Arg). Answers links (args_to scope next start l)) (behind-first args) c in
-    call-answers e w list args scope spot found first next links result is same where_found where_first where_next (some-args scope first next args arg bound start links long head a b behind) h
+    call-answers e w list args scope spot found first next links result is same where_found (sym asked ∙ other) where_first where_next (some-args scope first next args arg bound start links long head a opens behind) h
 
 -- Rules.
 
@@ -657,7 +674,7 @@ pub ruleset and_steps = (and-answers)
 
 pub ruleset ands_steps = (ands-start, ands-turn)
 
-pub ruleset cmp_steps = (cmp-Plain, compared-answers, in-answers, between-answers)
+pub ruleset cmp_steps = (cmp-Plain, match-answers, compared-answers, in-answers, between-answers)
 
 pub ruleset operands_steps = (operands-start, operands-turn)
 
@@ -683,7 +700,7 @@ pub ruleset looks_steps = (looks-start, looks-turn)
 
 pub ruleset access_steps = (entry-answers, element-answers)
 
-pub ruleset term_steps = (term-Literal, term-Name, group-answers, empty-call-answers, some-call-answers)
+pub ruleset term_steps = (term-Literal, term-Name, group-answers, extract-answers, empty-call-answers, some-call-answers)
 
 pub ruleset more_args_steps = (args-start, args-turn)
 

@@ -24,16 +24,16 @@ use Rattle.kql_meaning.specs.Expressions.{column_kind, look}
 use Rattle.kql_meaning.specs.FittingExpressions.{takes_aggregate, takes_window}
 use Rattle.kql_meaning.specs.declared.position.Position.{Position}
 use Rattle.kql_syntax.specs.declared.tree.Access.TheOpen.{Access-F, And-F, Arg-F, Cmp-F, Expr-F, Post-F, Prod-F, Sign-F, Sum-F, Term-F}
-use Rattle.kql_syntax.specs.declared.tree.Access.{Access, fold-roll-Access, map-Access, roll-Access}
-use Rattle.kql_syntax.specs.declared.tree.And.{And, fold-roll-And, map-And, roll-And}
-use Rattle.kql_syntax.specs.declared.tree.Arg.{Arg, fold-roll-Arg, map-Arg, roll-Arg}
-use Rattle.kql_syntax.specs.declared.tree.Cmp.{Cmp, fold-roll-Cmp, map-Cmp, roll-Cmp}
-use Rattle.kql_syntax.specs.declared.tree.Expr.{Expr, fold-roll-Expr, map-Expr, roll-Expr, ind-Expr}
-use Rattle.kql_syntax.specs.declared.tree.Post.{Post, fold-roll-Post, map-Post, roll-Post}
-use Rattle.kql_syntax.specs.declared.tree.Prod.{Prod, fold-roll-Prod, map-Prod, roll-Prod}
-use Rattle.kql_syntax.specs.declared.tree.Sign.{Sign, fold-roll-Sign, map-Sign, roll-Sign}
-use Rattle.kql_syntax.specs.declared.tree.Sum.{Sum, fold-roll-Sum, map-Sum, roll-Sum}
-use Rattle.kql_syntax.specs.declared.tree.Term.{Term, fold-roll-Term, map-Term, roll-Term}
+use Rattle.kql_syntax.specs.declared.tree.Access.{Access, para-roll-Access, map-Access, roll-Access}
+use Rattle.kql_syntax.specs.declared.tree.And.{And, map-And, roll-And}
+use Rattle.kql_syntax.specs.declared.tree.Arg.{Arg, para-roll-Arg, map-Arg, roll-Arg}
+use Rattle.kql_syntax.specs.declared.tree.Cmp.{Cmp, para-roll-Cmp, map-Cmp, roll-Cmp}
+use Rattle.kql_syntax.specs.declared.tree.Expr.{Expr, map-Expr, roll-Expr, ind-Expr}
+use Rattle.kql_syntax.specs.declared.tree.Post.{Post, map-Post, roll-Post}
+use Rattle.kql_syntax.specs.declared.tree.Prod.{Prod, map-Prod, roll-Prod}
+use Rattle.kql_syntax.specs.declared.tree.Sign.{Sign, para-roll-Sign, map-Sign, roll-Sign}
+use Rattle.kql_syntax.specs.declared.tree.Sum.{Sum, map-Sum, roll-Sum}
+use Rattle.kql_syntax.specs.declared.tree.Term.{Term, para-roll-Term, map-Term, roll-Term}
 use Rattle.kql_syntax.specs.declared.tree.Access.TheVariants as AccessV
 use Rattle.kql_syntax.specs.declared.tree.BetweenSign.{BetweenSign}
 use Rattle.kql_syntax.specs.declared.tree.CompareSign.{CompareSign}
@@ -47,7 +47,7 @@ use Rattle.kql_syntax.specs.declared.tree.SumSign.{SumSign}
 use Rattle.kql_syntax.specs.declared.tree.Word.{Word}
 use Rattle.bind_expr.specs.AggregateCalls.{aggregate_call, aggregate_given, aggregate_stands, aggregate_taken, aggregate_typed}
 use Rattle.bind_expr.specs.Arguments.{arg_link, first_slot, next_slot, no_args, plain_arg, taken}
-use Rattle.bind_expr.specs.Bound.{Binds, Look, Named, Takes, access_read, access_step, and_bound, and_step, arg_bound, arg_step, args_taken, bound_expr, call_bound, cmp_bound, cmp_step, entry_key, expr_bound, expr_step, first_spot, found_call, inside, negated, operand_link, path_from, path_of, post_bound, post_of, post_step, prod_bound, prod_sign, prod_step, sign_bound, sign_step, sum_bound, sum_sign, sum_step, term_read, term_step}
+use Rattle.bind_expr.specs.Bound.{Binds, Look, Named, Takes, access_read, access_step, and_bound, and_step, arg_bound, arg_step, args_taken, bound_expr, call_bound, call_or_extract, call_taken, cmp_bound, compare_or_match, cmp_step, entry_key, expr_bound, expr_step, first_spot, found_call, inside, negated, operand_link, path_from, path_of, post_bound, post_of, post_step, prod_bound, prod_sign, prod_step, sign_bound, sign_step, sum_bound, sum_sign, sum_step, term_read, term_step}
 use Rattle.bind_expr.specs.Calls.{from_moment, moment_call, moment_call_as, moment_sign, plain_call, plain_call_as, scalar_call, scalar_call_as, takes_args}
 use Rattle.bind_expr.specs.Chains.{chain_whole, chained_from, closed, linked, linked_as, opened}
 use Rattle.bind_expr.specs.Comparisons.{among_func, among_kind, between_func, bounded, compare_func, compared, compared_as, in_node, is_of_any_type, listed}
@@ -58,6 +58,7 @@ use Rattle.bind_expr.specs.Logic.{joined_as, joined_from, terms_closed, terms_op
 use Rattle.bind_expr.specs.Names.{column_or_const, const_named, const_or_fault, name_bound, text_of, word_bound}
 use Rattle.bind_expr.specs.Operands.{all_beside, as_text, beside, common_kind, exprs_of, kinds_of, typed_as, typed_call}
 use Rattle.bind_expr.specs.Outcome.{Answers, Outcome, ◌>>=◌}
+use Rattle.bind_expr.specs.Patterns.{arg_literal, arg_name, extract_bound, extract_of, group_if, is_extract, is_searchable, match_bound, refused_here, search_of, search_or_refuse, searched, sum_literal, sum_name}
 use Rattle.bind_expr.specs.Paths.{looked_as, looked_from, looked_whole, path_closed, path_opened, step_bound, step_column, step_named, step_or_fault, with_look}
 use Rattle.bind_expr.specs.Windows.{window_call, window_forms, window_given, window_serial, window_standing, window_typed}
 use Rattle.bind_expr.specs.declared.arguments.Args.{Args}
@@ -70,6 +71,7 @@ use Rattle.bind_expr.specs.declared.scope.Scope.{Scope}
 use Rattle.bind_expr.specs.declared.scope.Spot.{Spot}
 use Rattle.bind_expr.specs.declared.scope.StepNames.{StepNames}
 use Rattle.bind_expr.specs.declared.typed.Typed.{Typed}
+use Rattle.bind_expr.proofs.RolledLaws.{and-rolled, call-rolled, expr-rolled, in-rolled, post-rolled, prod-rolled, sum-rolled}
 
 -- Values, refusals, and steps.
 
@@ -120,6 +122,10 @@ told-405 : {X : Type 0} (place : Place) → Tells {X = X} (Err (fault.Refused 40
 unfolding is_bind_code
 told-405 place = told-code 405 place refl
 
+told-420 : {X : Type 0} (place : Place) → Tells {X = X} (Err (fault.Refused 420 place))
+unfolding is_bind_code
+told-420 place = told-code 420 place refl
+
 told-418 : {X : Type 0} (place : Place) → Tells {X = X} (Err (fault.Refused 418 place))
 unfolding is_bind_code
 told-418 place = told-code 418 place refl
@@ -164,13 +170,13 @@ told-look : (place : Place) (l : Looked) (key : Typed) → Tells (with_look plac
 unfolding with_look
 told-look place l key = told-look-as place l.whole l.steps key.expr (result_kind look (l.kind ∷ key.kind ∷ []))
 
-told-compared-as : (sign : CompareSign) (l r : Typed) (b : Bool) → Tells (compared_as sign l r b)
-told-compared-as sign l r true = told-call sign.place (compare_func sign.op) (exprs_of (beside l r.kind ∷ beside r l.kind ∷ [])) (kinds_of (beside l r.kind ∷ beside r l.kind ∷ []))
-told-compared-as sign l r false = told-call sign.place (compare_func sign.op) (exprs_of (as_text l ∷ as_text r ∷ [])) (kinds_of (as_text l ∷ as_text r ∷ []))
+told-compared-as : (f : Func) (sign : CompareSign) (l r : Typed) (b : Bool) → Tells (compared_as f sign l r b)
+told-compared-as f sign l r true = told-call sign.place f (exprs_of (beside l r.kind ∷ beside r l.kind ∷ [])) (kinds_of (beside l r.kind ∷ beside r l.kind ∷ []))
+told-compared-as f sign l r false = told-call sign.place f (exprs_of (as_text l ∷ as_text r ∷ [])) (kinds_of (as_text l ∷ as_text r ∷ []))
 
-told-compared : (sign : CompareSign) (l r : Typed) → Tells (compared sign l r)
+told-compared : (f : Func) (sign : CompareSign) (l r : Typed) → Tells (compared f sign l r)
 unfolding compared
-told-compared sign l r = told-compared-as sign l r (is_of_any_type sign.op)
+told-compared f sign l r = told-compared-as f sign l r (is_of_any_type sign.op)
 
 told-listed : (sign : InSign) (ts : List Typed) → Tells (listed sign ts)
 unfolding listed
@@ -188,6 +194,46 @@ told-bounded sign x a b =
 told-negated : (place : Place) (t : Typed) → Tells (negated place t)
 unfolding negated
 told-negated place t = told-call place (func.Arithmetic arithmetic.Negate) (t.expr ∷ []) (t.kind ∷ [])
+
+-- Calls of patterns.
+
+told-here : (word : Place) → Tells (refused_here word)
+unfolding refused_here
+told-here word = told-420 word
+
+told-search-or : (word : Place) (g : Option ℕ) (c : List ℕ) (place : Place) (text : List ℕ) (b : Bool) → Tells (search_or_refuse word g c place text b)
+told-search-or word g c place text true = told-call word _ _ _
+told-search-or word g c place text false = told-here word
+
+told-searched : (word : Place) (g : Option ℕ) (scope : Scope) (c : List ℕ) (l : Literal) → Tells (searched word g scope c l)
+unfolding searched
+told-searched word g scope c (literal.Text place text) = told-search-or word g c place text (is_searchable scope c)
+told-searched word g scope c (literal.Number place n) = told-here word
+told-searched word g scope c (literal.Span place n) = told-here word
+told-searched word g scope c (literal.True place) = told-here word
+told-searched word g scope c (literal.False place) = told-here word
+told-searched word g scope c (literal.Typed place w text) = told-here word
+
+told-search : (word : Place) (g : Option ℕ) (scope : Scope) (n : Option Name) (l : Option Literal) → Tells (search_of word g scope n l)
+told-search word g scope (Some n) (Some l) = told-searched word g scope (text_of n) l
+told-search word g scope (Some n) None = told-here word
+told-search word g scope None l = told-here word
+
+told-match : (word : Place) (scope : Scope) (c p : Sum) → Tells (match_bound word scope c p)
+unfolding match_bound
+told-match word scope c p = told-search word None scope (sum_name c) (sum_literal p)
+
+told-extract-of : (word : Place) (scope : Scope) (l : Option Literal) (g : Option ℕ) (n : Option Name) → Tells (extract_of word scope l g n)
+told-extract-of word scope l None n = told-here word
+told-extract-of word scope l (Some g) n = told-search word (Some g) scope n l
+
+told-extract : (word : Place) (scope : Scope) (args : List Arg) → Tells (extract_bound word scope args)
+unfolding extract_bound
+told-extract word scope [] = told-here word
+told-extract word scope (p ∷ []) = told-here word
+told-extract word scope (p ∷ n ∷ []) = told-here word
+told-extract word scope (p ∷ n ∷ c ∷ []) = told-extract-of word scope (arg_literal p) (group_if (arg_literal n)) (arg_name c)
+told-extract word scope (p ∷ n ∷ c ∷ d ∷ more) = told-here word
 
 -- Terms.
 
@@ -286,6 +332,7 @@ told-aggregate place f a spot = told-aggregate-taken place f a spot (takes_aggre
 told-found : (w : Word) (scope : Scope) (spot : Spot) (a : Args) (f : Found) → Tells (found_call w scope spot a f)
 unfolding found_call
 told-found w scope spot a found.Unknown = told-402 w.place
+told-found w scope spot a found.Pattern = told-420 w.place
 told-found w scope spot a found.Refused = told-406 w.place
 told-found w scope spot a (found.Scalar f) = told-scalar w.place f a scope.moment
 told-found w scope spot a (found.Window f) = told-window w.place f a scope spot.position
@@ -436,7 +483,7 @@ of-expr y scope spot =
     let more : List (Place × Binds) = map {B = Place × Binds} (λ (l : Place × And). (l.0, and_bound l.1)) (map {B = Place × And} (λ (l : Place × GivenAnd). (l.0, bare_and l.1)) y.more) in
     let start : Outcome Joined = and_bound y.first.0 scope (first_spot more spot) >>= λ t. Ok (joined_from t) in
     let whole : Outcome Joined = fold (λ (before : Outcome Joined) (l : Place × Binds). before >>= λ b. l.1 scope (inside spot.position) >>= λ t. with_term logic.Or l.0 b t) start more in
-    subst (λ (r : Outcome Typed). Tells r) (sym (ap (λ (f : Binds). f scope spot) (fold-roll-Expr Look Takes Binds Binds Named Binds Binds Binds Binds Binds access_step arg_step cmp_step sign_step term_step and_step expr_step post_step prod_step sum_step (map-Expr GivenAccess GivenArg GivenCmp GivenSign GivenTerm GivenAnd GivenExpr GivenPost GivenProd GivenSum Access Arg Cmp Sign Term And Expr Post Prod Sum bare_access bare_arg bare_cmp bare_sign bare_term bare_and bare_expr bare_post bare_prod bare_sum y))))
+    subst (λ (r : Outcome Typed). Tells r) (sym (expr-rolled (map-Expr GivenAccess GivenArg GivenCmp GivenSign GivenTerm GivenAnd GivenExpr GivenPost GivenProd GivenSum Access Arg Cmp Sign Term And Expr Post Prod Sum bare_access bare_arg bare_cmp bare_sign bare_term bare_and bare_expr bare_post bare_prod bare_sum y) scope spot))
     (told-then whole (λ (c : Joined). Ok (terms_whole logic.Or c))
     (told-fold (λ (l : Place × Binds) (b : Joined) (t : Typed). with_term logic.Or l.0 b t) (λ (l : Place × Binds). l.1 scope (inside spot.position)) (λ l b t. told-term logic.Or l.0 b t) start
     (told-then (and_bound y.first.0 scope (first_spot more spot)) (λ (t : Typed). Ok (joined_from t)) (y.first.1 scope (first_spot more spot)) (λ t. told-ok (joined_from t)))
@@ -449,7 +496,7 @@ of-and y scope spot =
     let more : List (Place × Binds) = map {B = Place × Binds} (λ (l : Place × Cmp). (l.0, cmp_bound l.1)) (map {B = Place × Cmp} (λ (l : Place × GivenCmp). (l.0, bare_cmp l.1)) y.more) in
     let start : Outcome Joined = cmp_bound y.first.0 scope (first_spot more spot) >>= λ t. Ok (joined_from t) in
     let whole : Outcome Joined = fold (λ (before : Outcome Joined) (l : Place × Binds). before >>= λ b. l.1 scope (inside spot.position) >>= λ t. with_term logic.And l.0 b t) start more in
-    subst (λ (r : Outcome Typed). Tells r) (sym (ap (λ (f : Binds). f scope spot) (fold-roll-And Look Takes Binds Binds Named Binds Binds Binds Binds Binds access_step arg_step cmp_step sign_step term_step and_step expr_step post_step prod_step sum_step (map-And GivenAccess GivenArg GivenCmp GivenSign GivenTerm GivenAnd GivenExpr GivenPost GivenProd GivenSum Access Arg Cmp Sign Term And Expr Post Prod Sum bare_access bare_arg bare_cmp bare_sign bare_term bare_and bare_expr bare_post bare_prod bare_sum y))))
+    subst (λ (r : Outcome Typed). Tells r) (sym (and-rolled (map-And GivenAccess GivenArg GivenCmp GivenSign GivenTerm GivenAnd GivenExpr GivenPost GivenProd GivenSum Access Arg Cmp Sign Term And Expr Post Prod Sum bare_access bare_arg bare_cmp bare_sign bare_term bare_and bare_expr bare_post bare_prod bare_sum y) scope spot))
     (told-then whole (λ (c : Joined). Ok (terms_whole logic.And c))
     (told-fold (λ (l : Place × Binds) (b : Joined) (t : Typed). with_term logic.And l.0 b t) (λ (l : Place × Binds). l.1 scope (inside spot.position)) (λ l b t. told-term logic.And l.0 b t) start
     (told-then (cmp_bound y.first.0 scope (first_spot more spot)) (λ (t : Typed). Ok (joined_from t)) (y.first.1 scope (first_spot more spot)) (λ t. told-ok (joined_from t)))
@@ -462,7 +509,7 @@ of-sum y scope spot =
     let more : List (SumSign × Binds) = map {B = SumSign × Binds} (λ (l : SumSign × Prod). (l.0, prod_bound l.1)) (map {B = SumSign × Prod} (λ (l : SumSign × GivenProd). (l.0, bare_prod l.1)) y.more) in
     let start : Outcome Chained = prod_bound y.first.0 scope (first_spot more spot) >>= λ t. Ok (chained_from t) in
     let whole : Outcome Chained = fold (λ (before : Outcome Chained) (l : SumSign × Binds). before >>= λ b. l.1 scope (inside spot.position) >>= λ t. linked (sum_sign l.0.op) l.0.place b t) start more in
-    subst (λ (r : Outcome Typed). Tells r) (sym (ap (λ (f : Binds). f scope spot) (fold-roll-Sum Look Takes Binds Binds Named Binds Binds Binds Binds Binds access_step arg_step cmp_step sign_step term_step and_step expr_step post_step prod_step sum_step (map-Sum GivenAccess GivenArg GivenCmp GivenSign GivenTerm GivenAnd GivenExpr GivenPost GivenProd GivenSum Access Arg Cmp Sign Term And Expr Post Prod Sum bare_access bare_arg bare_cmp bare_sign bare_term bare_and bare_expr bare_post bare_prod bare_sum y))))
+    subst (λ (r : Outcome Typed). Tells r) (sym (sum-rolled (map-Sum GivenAccess GivenArg GivenCmp GivenSign GivenTerm GivenAnd GivenExpr GivenPost GivenProd GivenSum Access Arg Cmp Sign Term And Expr Post Prod Sum bare_access bare_arg bare_cmp bare_sign bare_term bare_and bare_expr bare_post bare_prod bare_sum y) scope spot))
     (told-then whole (λ (c : Chained). Ok (chain_whole c))
     (told-fold (λ (l : SumSign × Binds) (b : Chained) (t : Typed). linked (sum_sign l.0.op) l.0.place b t) (λ (l : SumSign × Binds). l.1 scope (inside spot.position)) (λ l b t. told-link (sum_sign l.0.op) l.0.place b t) start
     (told-then (prod_bound y.first.0 scope (first_spot more spot)) (λ (t : Typed). Ok (chained_from t)) (y.first.1 scope (first_spot more spot)) (λ t. told-ok (chained_from t)))
@@ -475,7 +522,7 @@ of-prod y scope spot =
     let more : List (ProdSign × Binds) = map {B = ProdSign × Binds} (λ (l : ProdSign × Sign). (l.0, sign_bound l.1)) (map {B = ProdSign × Sign} (λ (l : ProdSign × GivenSign). (l.0, bare_sign l.1)) y.more) in
     let start : Outcome Chained = sign_bound y.first.0 scope (first_spot more spot) >>= λ t. Ok (chained_from t) in
     let whole : Outcome Chained = fold (λ (before : Outcome Chained) (l : ProdSign × Binds). before >>= λ b. l.1 scope (inside spot.position) >>= λ t. linked (prod_sign l.0.op) l.0.place b t) start more in
-    subst (λ (r : Outcome Typed). Tells r) (sym (ap (λ (f : Binds). f scope spot) (fold-roll-Prod Look Takes Binds Binds Named Binds Binds Binds Binds Binds access_step arg_step cmp_step sign_step term_step and_step expr_step post_step prod_step sum_step (map-Prod GivenAccess GivenArg GivenCmp GivenSign GivenTerm GivenAnd GivenExpr GivenPost GivenProd GivenSum Access Arg Cmp Sign Term And Expr Post Prod Sum bare_access bare_arg bare_cmp bare_sign bare_term bare_and bare_expr bare_post bare_prod bare_sum y))))
+    subst (λ (r : Outcome Typed). Tells r) (sym (prod-rolled (map-Prod GivenAccess GivenArg GivenCmp GivenSign GivenTerm GivenAnd GivenExpr GivenPost GivenProd GivenSum Access Arg Cmp Sign Term And Expr Post Prod Sum bare_access bare_arg bare_cmp bare_sign bare_term bare_and bare_expr bare_post bare_prod bare_sum y) scope spot))
     (told-then whole (λ (c : Chained). Ok (chain_whole c))
     (told-fold (λ (l : ProdSign × Binds) (b : Chained) (t : Typed). linked (prod_sign l.0.op) l.0.place b t) (λ (l : ProdSign × Binds). l.1 scope (inside spot.position)) (λ l b t. told-link (prod_sign l.0.op) l.0.place b t) start
     (told-then (sign_bound y.first.0 scope (first_spot more spot)) (λ (t : Typed). Ok (chained_from t)) (y.first.1 scope (first_spot more spot)) (λ t. told-ok (chained_from t)))
@@ -491,27 +538,33 @@ told-in s sign es scope spot =
     (map expr_bound (map bare_expr es)) (each-exprs scope (inside spot.position) es))
     (λ ts. told-listed sign ts)
 
+told-compare-or-match : (s b : GivenSum) (sign : CompareSign) (scope : Scope) (spot : Spot) (o : Option Func) → Tells (compare_or_match (s.0, sum_bound s.0) sign (b.0, sum_bound b.0) scope spot o)
+told-compare-or-match s b sign scope spot None = told-match sign.place scope s.0 b.0
+told-compare-or-match s b sign scope spot (Some f) =
+    told-then (sum_bound s.0 scope (inside spot.position)) (λ (l : Typed). sum_bound b.0 scope (inside spot.position) >>= λ r. compared f sign l r) (s.1 scope (inside spot.position))
+    (λ l. told-then (sum_bound b.0 scope (inside spot.position)) (λ (r : Typed). compared f sign l r) (b.1 scope (inside spot.position)) (λ r. told-compared f sign l r))
+
 of-cmp : (y : Cmp-F GivenAccess GivenArg GivenCmp GivenSign GivenTerm GivenAnd GivenExpr GivenPost GivenProd GivenSum) → TellsCmp (roll-Cmp (map-Cmp GivenAccess GivenArg GivenCmp GivenSign GivenTerm GivenAnd GivenExpr GivenPost GivenProd GivenSum Access Arg Cmp Sign Term And Expr Post Prod Sum bare_access bare_arg bare_cmp bare_sign bare_term bare_and bare_expr bare_post bare_prod bare_sum y))
 unfolding expr_bound and_bound cmp_bound sum_bound prod_bound sign_bound post_bound access_read term_read arg_bound bare_access bare_arg bare_cmp bare_sign bare_term bare_and bare_expr bare_post bare_prod bare_sum
-of-cmp (Cmp-F.«Cmp::Plain» s) scope spot = subst (λ (r : Outcome Typed). Tells r) (sym (ap (λ (f : Binds). f scope spot) (fold-roll-Cmp Look Takes Binds Binds Named Binds Binds Binds Binds Binds access_step arg_step cmp_step sign_step term_step and_step expr_step post_step prod_step sum_step (Cmp-F.«Cmp::Plain» s.0)))) (s.1 scope spot)
-of-cmp (Cmp-F.Compared s sign b) scope spot = subst (λ (r : Outcome Typed). Tells r) (sym (ap (λ (f : Binds). f scope spot) (fold-roll-Cmp Look Takes Binds Binds Named Binds Binds Binds Binds Binds access_step arg_step cmp_step sign_step term_step and_step expr_step post_step prod_step sum_step (Cmp-F.Compared s.0 sign b.0)))) (told-then (sum_bound s.0 scope (inside spot.position)) (λ (l : Typed). sum_bound b.0 scope (inside spot.position) >>= λ r. compared sign l r) (s.1 scope (inside spot.position)) (λ l. told-then (sum_bound b.0 scope (inside spot.position)) (λ (r : Typed). compared sign l r) (b.1 scope (inside spot.position)) (λ r. told-compared sign l r)))
-of-cmp (Cmp-F.In s sign es) scope spot = subst (λ (r : Outcome Typed). Tells r) (sym (ap (λ (f : Binds). f scope spot) (fold-roll-Cmp Look Takes Binds Binds Named Binds Binds Binds Binds Binds access_step arg_step cmp_step sign_step term_step and_step expr_step post_step prod_step sum_step (Cmp-F.In s.0 sign (map bare_expr es))))) (told-in s sign es scope spot)
-of-cmp (Cmp-F.Between s sign bounds) scope spot = subst (λ (r : Outcome Typed). Tells r) (sym (ap (λ (f : Binds). f scope spot) (fold-roll-Cmp Look Takes Binds Binds Named Binds Binds Binds Binds Binds access_step arg_step cmp_step sign_step term_step and_step expr_step post_step prod_step sum_step (Cmp-F.Between s.0 sign (bounds.0.0, bounds.1.0))))) (told-then (sum_bound s.0 scope (inside spot.position)) (λ (x : Typed). sum_bound bounds.0.0 scope (inside spot.position) >>= λ a. sum_bound bounds.1.0 scope (inside spot.position) >>= λ b. bounded sign x a b) (s.1 scope (inside spot.position)) (λ x. told-then (sum_bound bounds.0.0 scope (inside spot.position)) (λ (a : Typed). sum_bound bounds.1.0 scope (inside spot.position) >>= λ b. bounded sign x a b) (bounds.0.1 scope (inside spot.position)) (λ a. told-then (sum_bound bounds.1.0 scope (inside spot.position)) (λ (b : Typed). bounded sign x a b) (bounds.1.1 scope (inside spot.position)) (λ b. told-bounded sign x a b))))
+of-cmp (Cmp-F.«Cmp::Plain» s) scope spot = subst (λ (r : Outcome Typed). Tells r) (sym (ap (λ (f : Binds). f scope spot) (para-roll-Cmp Look Takes Binds Binds Named Binds Binds Binds Binds Binds access_step arg_step cmp_step sign_step term_step and_step expr_step post_step prod_step sum_step (Cmp-F.«Cmp::Plain» s.0)))) (s.1 scope spot)
+of-cmp (Cmp-F.Compared s sign b) scope spot = subst (λ (r : Outcome Typed). Tells r) (sym (ap (λ (f : Binds). f scope spot) (para-roll-Cmp Look Takes Binds Binds Named Binds Binds Binds Binds Binds access_step arg_step cmp_step sign_step term_step and_step expr_step post_step prod_step sum_step (Cmp-F.Compared s.0 sign b.0)))) (told-compare-or-match s b sign scope spot (compare_func sign.op))
+of-cmp (Cmp-F.In s sign es) scope spot = subst (λ (r : Outcome Typed). Tells r) (sym (in-rolled s.0 sign (map bare_expr es) scope spot)) (told-in s sign es scope spot)
+of-cmp (Cmp-F.Between s sign bounds) scope spot = subst (λ (r : Outcome Typed). Tells r) (sym (ap (λ (f : Binds). f scope spot) (para-roll-Cmp Look Takes Binds Binds Named Binds Binds Binds Binds Binds access_step arg_step cmp_step sign_step term_step and_step expr_step post_step prod_step sum_step (Cmp-F.Between s.0 sign (bounds.0.0, bounds.1.0))))) (told-then (sum_bound s.0 scope (inside spot.position)) (λ (x : Typed). sum_bound bounds.0.0 scope (inside spot.position) >>= λ a. sum_bound bounds.1.0 scope (inside spot.position) >>= λ b. bounded sign x a b) (s.1 scope (inside spot.position)) (λ x. told-then (sum_bound bounds.0.0 scope (inside spot.position)) (λ (a : Typed). sum_bound bounds.1.0 scope (inside spot.position) >>= λ b. bounded sign x a b) (bounds.0.1 scope (inside spot.position)) (λ a. told-then (sum_bound bounds.1.0 scope (inside spot.position)) (λ (b : Typed). bounded sign x a b) (bounds.1.1 scope (inside spot.position)) (λ b. told-bounded sign x a b))))
 
 of-sign : (y : Sign-F GivenAccess GivenArg GivenCmp GivenSign GivenTerm GivenAnd GivenExpr GivenPost GivenProd GivenSum) → TellsSign (roll-Sign (map-Sign GivenAccess GivenArg GivenCmp GivenSign GivenTerm GivenAnd GivenExpr GivenPost GivenProd GivenSum Access Arg Cmp Sign Term And Expr Post Prod Sum bare_access bare_arg bare_cmp bare_sign bare_term bare_and bare_expr bare_post bare_prod bare_sum y))
 unfolding expr_bound and_bound cmp_bound sum_bound prod_bound sign_bound post_bound access_read term_read arg_bound bare_access bare_arg bare_cmp bare_sign bare_term bare_and bare_expr bare_post bare_prod bare_sum
-of-sign (Sign-F.«Sign::Plain» p) scope spot = subst (λ (r : Outcome Typed). Tells r) (sym (ap (λ (f : Binds). f scope spot) (fold-roll-Sign Look Takes Binds Binds Named Binds Binds Binds Binds Binds access_step arg_step cmp_step sign_step term_step and_step expr_step post_step prod_step sum_step (Sign-F.«Sign::Plain» p.0)))) (p.1 scope spot)
-of-sign (Sign-F.Minus place p) scope spot = subst (λ (r : Outcome Typed). Tells r) (sym (ap (λ (f : Binds). f scope spot) (fold-roll-Sign Look Takes Binds Binds Named Binds Binds Binds Binds Binds access_step arg_step cmp_step sign_step term_step and_step expr_step post_step prod_step sum_step (Sign-F.Minus place p.0)))) (told-then (post_bound p.0 scope (inside spot.position)) (λ (t : Typed). negated place t) (p.1 scope (inside spot.position)) (λ t. told-negated place t))
+of-sign (Sign-F.«Sign::Plain» p) scope spot = subst (λ (r : Outcome Typed). Tells r) (sym (ap (λ (f : Binds). f scope spot) (para-roll-Sign Look Takes Binds Binds Named Binds Binds Binds Binds Binds access_step arg_step cmp_step sign_step term_step and_step expr_step post_step prod_step sum_step (Sign-F.«Sign::Plain» p.0)))) (p.1 scope spot)
+of-sign (Sign-F.Minus place p) scope spot = subst (λ (r : Outcome Typed). Tells r) (sym (ap (λ (f : Binds). f scope spot) (para-roll-Sign Look Takes Binds Binds Named Binds Binds Binds Binds Binds access_step arg_step cmp_step sign_step term_step and_step expr_step post_step prod_step sum_step (Sign-F.Minus place p.0)))) (told-then (post_bound p.0 scope (inside spot.position)) (λ (t : Typed). negated place t) (p.1 scope (inside spot.position)) (λ t. told-negated place t))
 
 of-access : (y : Access-F GivenAccess GivenArg GivenCmp GivenSign GivenTerm GivenAnd GivenExpr GivenPost GivenProd GivenSum) → TellsAccess (roll-Access (map-Access GivenAccess GivenArg GivenCmp GivenSign GivenTerm GivenAnd GivenExpr GivenPost GivenProd GivenSum Access Arg Cmp Sign Term And Expr Post Prod Sum bare_access bare_arg bare_cmp bare_sign bare_term bare_and bare_expr bare_post bare_prod bare_sum y))
 unfolding expr_bound and_bound cmp_bound sum_bound prod_bound sign_bound post_bound access_read term_read arg_bound bare_access bare_arg bare_cmp bare_sign bare_term bare_and bare_expr bare_post bare_prod bare_sum
-of-access (Access-F.Entry place w) scope at = subst (λ (r : Outcome Typed). Tells r) (sym (ap (λ (l : Look). l.key scope at) (fold-roll-Access Look Takes Binds Binds Named Binds Binds Binds Binds Binds access_step arg_step cmp_step sign_step term_step and_step expr_step post_step prod_step sum_step (Access-F.Entry place w)))) (told-ok (entry_key w))
-of-access (Access-F.Element place e) scope at = subst (λ (r : Outcome Typed). Tells r) (sym (ap (λ (l : Look). l.key scope at) (fold-roll-Access Look Takes Binds Binds Named Binds Binds Binds Binds Binds access_step arg_step cmp_step sign_step term_step and_step expr_step post_step prod_step sum_step (Access-F.Element place e.0)))) (e.1 scope (inside at))
+of-access (Access-F.Entry place w) scope at = subst (λ (r : Outcome Typed). Tells r) (sym (ap (λ (l : Look). l.key scope at) (para-roll-Access Look Takes Binds Binds Named Binds Binds Binds Binds Binds access_step arg_step cmp_step sign_step term_step and_step expr_step post_step prod_step sum_step (Access-F.Entry place w)))) (told-ok (entry_key w))
+of-access (Access-F.Element place e) scope at = subst (λ (r : Outcome Typed). Tells r) (sym (ap (λ (l : Look). l.key scope at) (para-roll-Access Look Takes Binds Binds Named Binds Binds Binds Binds Binds access_step arg_step cmp_step sign_step term_step and_step expr_step post_step prod_step sum_step (Access-F.Element place e.0)))) (e.1 scope (inside at))
 
 of-arg : (y : Arg-F GivenAccess GivenArg GivenCmp GivenSign GivenTerm GivenAnd GivenExpr GivenPost GivenProd GivenSum) → TellsArg (roll-Arg (map-Arg GivenAccess GivenArg GivenCmp GivenSign GivenTerm GivenAnd GivenExpr GivenPost GivenProd GivenSum Access Arg Cmp Sign Term And Expr Post Prod Sum bare_access bare_arg bare_cmp bare_sign bare_term bare_and bare_expr bare_post bare_prod bare_sum y))
 unfolding expr_bound and_bound cmp_bound sum_bound prod_bound sign_bound post_bound access_read term_read arg_bound bare_access bare_arg bare_cmp bare_sign bare_term bare_and bare_expr bare_post bare_prod bare_sum plain_arg
-of-arg (Arg-F.«Arg::Plain» e) scope at = subst (λ (r : Outcome (Option Typed)). Tells r) (sym (ap (λ (f : Takes). f scope at) (fold-roll-Arg Look Takes Binds Binds Named Binds Binds Binds Binds Binds access_step arg_step cmp_step sign_step term_step and_step expr_step post_step prod_step sum_step (Arg-F.«Arg::Plain» e.0)))) (told-then (expr_bound e.0 scope (inside at)) (λ (x : Typed). Ok (Some x)) (e.1 scope (inside at)) (λ x. told-ok (Some x)))
-of-arg (Arg-F.Star place) scope at = subst (λ (r : Outcome (Option Typed)). Tells r) (sym (ap (λ (f : Takes). f scope at) (fold-roll-Arg Look Takes Binds Binds Named Binds Binds Binds Binds Binds access_step arg_step cmp_step sign_step term_step and_step expr_step post_step prod_step sum_step (Arg-F.Star place)))) (told-ok None)
+of-arg (Arg-F.«Arg::Plain» e) scope at = subst (λ (r : Outcome (Option Typed)). Tells r) (sym (ap (λ (f : Takes). f scope at) (para-roll-Arg Look Takes Binds Binds Named Binds Binds Binds Binds Binds access_step arg_step cmp_step sign_step term_step and_step expr_step post_step prod_step sum_step (Arg-F.«Arg::Plain» e.0)))) (told-then (expr_bound e.0 scope (inside at)) (λ (x : Typed). Ok (Some x)) (e.1 scope (inside at)) (λ x. told-ok (Some x)))
+of-arg (Arg-F.Star place) scope at = subst (λ (r : Outcome (Option Typed)). Tells r) (sym (ap (λ (f : Takes). f scope at) (para-roll-Arg Look Takes Binds Binds Named Binds Binds Binds Binds Binds access_step arg_step cmp_step sign_step term_step and_step expr_step post_step prod_step sum_step (Arg-F.Star place)))) (told-ok None)
 
 told-args : (scope : Scope) (first next : Slot) (gs : List GivenArg) → Tells (args_taken scope first next (map arg_bound (map bare_arg gs)))
 unfolding bare_arg
@@ -521,18 +574,25 @@ told-args scope first next (g ∷ gs) =
     (told-then (arg_bound g.0 scope first.position) (λ (t : Option Typed). Ok (taken scope first no_args t)) (g.1 scope first.position) (λ t. told-ok (taken scope first no_args t)))
     (map arg_bound (map bare_arg gs)) (each-args scope next.position gs)
 
-told-call-bound : (w : Word) (gs : List GivenArg) (scope : Scope) (spot : Spot) → Tells (call_bound w (map arg_bound (map bare_arg gs)) scope spot)
-told-call-bound w gs scope spot =
+told-call-taken : (w : Word) (gs : List GivenArg) (scope : Scope) (spot : Spot) → Tells (call_taken w (map arg_bound (map bare_arg gs)) scope spot)
+told-call-taken w gs scope spot =
     let first : Slot = first_slot (found_as w.text) spot.position in
     let next : Slot = next_slot (found_as w.text) spot.position in
     told-then (args_taken scope first next (map arg_bound (map bare_arg gs))) (λ (a : Args). found_call w scope spot a (found_as w.text)) (told-args scope first next gs) (λ a. told-found w scope spot a (found_as w.text))
 
+told-call-or : (w : Word) (gs : List GivenArg) (scope : Scope) (spot : Spot) (b : Bool) → Tells (call_or_extract w (map bare_arg gs) (map arg_bound (map bare_arg gs)) scope spot b)
+told-call-or w gs scope spot true = told-extract w.place scope (map bare_arg gs)
+told-call-or w gs scope spot false = told-call-taken w gs scope spot
+
+told-call-bound : (w : Word) (gs : List GivenArg) (scope : Scope) (spot : Spot) → Tells (call_bound w (map bare_arg gs) (map arg_bound (map bare_arg gs)) scope spot)
+told-call-bound w gs scope spot = told-call-or w gs scope spot (is_extract (found_as w.text))
+
 of-term : (y : Term-F GivenAccess GivenArg GivenCmp GivenSign GivenTerm GivenAnd GivenExpr GivenPost GivenProd GivenSum) → TellsTerm (roll-Term (map-Term GivenAccess GivenArg GivenCmp GivenSign GivenTerm GivenAnd GivenExpr GivenPost GivenProd GivenSum Access Arg Cmp Sign Term And Expr Post Prod Sum bare_access bare_arg bare_cmp bare_sign bare_term bare_and bare_expr bare_post bare_prod bare_sum y))
 unfolding expr_bound and_bound cmp_bound sum_bound prod_bound sign_bound post_bound access_read term_read arg_bound bare_access bare_arg bare_cmp bare_sign bare_term bare_and bare_expr bare_post bare_prod bare_sum
-of-term (Term-F.Literal l) scope spot = subst (λ (r : Outcome Typed). Tells r) (sym (ap (λ (n : Named). n.bound scope spot) (fold-roll-Term Look Takes Binds Binds Named Binds Binds Binds Binds Binds access_step arg_step cmp_step sign_step term_step and_step expr_step post_step prod_step sum_step (Term-F.Literal l)))) (told-literal l)
-of-term (Term-F.Name n) scope spot = subst (λ (r : Outcome Typed). Tells r) (sym (ap (λ (n : Named). n.bound scope spot) (fold-roll-Term Look Takes Binds Binds Named Binds Binds Binds Binds Binds access_step arg_step cmp_step sign_step term_step and_step expr_step post_step prod_step sum_step (Term-F.Name n)))) (told-name n scope)
-of-term (Term-F.Call w args) scope spot = subst (λ (r : Outcome Typed). Tells r) (sym (ap (λ (n : Named). n.bound scope spot) (fold-roll-Term Look Takes Binds Binds Named Binds Binds Binds Binds Binds access_step arg_step cmp_step sign_step term_step and_step expr_step post_step prod_step sum_step (Term-F.Call w (map bare_arg args))))) (told-call-bound w args scope spot)
-of-term (Term-F.Group place e) scope spot = subst (λ (r : Outcome Typed). Tells r) (sym (ap (λ (n : Named). n.bound scope spot) (fold-roll-Term Look Takes Binds Binds Named Binds Binds Binds Binds Binds access_step arg_step cmp_step sign_step term_step and_step expr_step post_step prod_step sum_step (Term-F.Group place e.0)))) (e.1 scope spot)
+of-term (Term-F.Literal l) scope spot = subst (λ (r : Outcome Typed). Tells r) (sym (ap (λ (n : Named). n.bound scope spot) (para-roll-Term Look Takes Binds Binds Named Binds Binds Binds Binds Binds access_step arg_step cmp_step sign_step term_step and_step expr_step post_step prod_step sum_step (Term-F.Literal l)))) (told-literal l)
+of-term (Term-F.Name n) scope spot = subst (λ (r : Outcome Typed). Tells r) (sym (ap (λ (n : Named). n.bound scope spot) (para-roll-Term Look Takes Binds Binds Named Binds Binds Binds Binds Binds access_step arg_step cmp_step sign_step term_step and_step expr_step post_step prod_step sum_step (Term-F.Name n)))) (told-name n scope)
+of-term (Term-F.Call w args) scope spot = subst (λ (r : Outcome Typed). Tells r) (sym (ap (λ (n : Named). n.bound scope spot) (call-rolled w (map bare_arg args)))) (told-call-bound w args scope spot)
+of-term (Term-F.Group place e) scope spot = subst (λ (r : Outcome Typed). Tells r) (sym (ap (λ (n : Named). n.bound scope spot) (para-roll-Term Look Takes Binds Binds Named Binds Binds Binds Binds Binds access_step arg_step cmp_step sign_step term_step and_step expr_step post_step prod_step sum_step (Term-F.Group place e.0)))) (e.1 scope spot)
 
 told-path : (scope : Scope) (at : Position) (first : Outcome Typed) → Tells first → (ls : List Look) → Each (λ (l : Look). l.key scope at) ls → Tells (path_of scope at first ls)
 unfolding path_opened path_closed
@@ -553,7 +613,7 @@ told-post first h scope spot (l ∷ looks) each = told-from first.bound h scope 
 
 of-post : (y : Post-F GivenAccess GivenArg GivenCmp GivenSign GivenTerm GivenAnd GivenExpr GivenPost GivenProd GivenSum) → TellsPost (roll-Post (map-Post GivenAccess GivenArg GivenCmp GivenSign GivenTerm GivenAnd GivenExpr GivenPost GivenProd GivenSum Access Arg Cmp Sign Term And Expr Post Prod Sum bare_access bare_arg bare_cmp bare_sign bare_term bare_and bare_expr bare_post bare_prod bare_sum y))
 unfolding expr_bound and_bound cmp_bound sum_bound prod_bound sign_bound post_bound access_read term_read arg_bound bare_access bare_arg bare_cmp bare_sign bare_term bare_and bare_expr bare_post bare_prod bare_sum
-of-post y scope spot = subst (λ (r : Outcome Typed). Tells r) (sym (ap (λ (f : Binds). f scope spot) (fold-roll-Post Look Takes Binds Binds Named Binds Binds Binds Binds Binds access_step arg_step cmp_step sign_step term_step and_step expr_step post_step prod_step sum_step (map-Post GivenAccess GivenArg GivenCmp GivenSign GivenTerm GivenAnd GivenExpr GivenPost GivenProd GivenSum Access Arg Cmp Sign Term And Expr Post Prod Sum bare_access bare_arg bare_cmp bare_sign bare_term bare_and bare_expr bare_post bare_prod bare_sum y))))
+of-post y scope spot = subst (λ (r : Outcome Typed). Tells r) (sym (post-rolled (map-Post GivenAccess GivenArg GivenCmp GivenSign GivenTerm GivenAnd GivenExpr GivenPost GivenProd GivenSum Access Arg Cmp Sign Term And Expr Post Prod Sum bare_access bare_arg bare_cmp bare_sign bare_term bare_and bare_expr bare_post bare_prod bare_sum y) scope spot))
     (told-post (term_read y.first.0) y.first.1 scope spot (map access_read (map bare_access y.more)) (each-looks scope spot.position y.more))
 
 -- The whole.

@@ -1,3 +1,4 @@
+pub mod AloneSteps
 pub mod AnswerFacts
 pub mod ArgumentSteps
 pub mod BoundSteps
@@ -6,4 +7,6 @@ pub mod CodeLaws
 pub mod ConstantSteps
 pub mod GroupForms
 pub mod OperandSteps
+pub mod PatternSteps
+pub mod RolledLaws
 pub mod StepFacts

@@ -87,6 +87,7 @@ unfoldable pub first_slot : Found → Position → Slot
 first_slot (found.Scalar f) at = scalar_first at (takes_part f)
 first_slot (found.Window f) at = window_first f
 first_slot (found.Aggregate f) at = aggregate_first f (aggregate_position f at)
+first_slot found.Pattern at = plain_slot at
 first_slot found.Refused at = plain_slot at
 first_slot found.Unknown at = plain_slot at
 
@@ -94,6 +95,7 @@ unfoldable pub next_slot : Found → Position → Slot
 next_slot (found.Scalar f) at = plain_slot at
 next_slot (found.Window f) at = window_next f
 next_slot (found.Aggregate f) at = aggregate_next f (aggregate_position f at)
+next_slot found.Pattern at = plain_slot at
 next_slot found.Refused at = plain_slot at
 next_slot found.Unknown at = plain_slot at
 

@@ -1,5 +1,5 @@
 -- Comparisons of two operands, of a value and a list, and of a value and its bounds.
-use Rattle.std.specs.Prelude.{Bool, true, false, List, [], ◌∷◌}
+use Rattle.std.specs.Prelude.{Bool, true, false, List, [], ◌∷◌, Option, None, Some}
 use Rattle.kql_cells.specs.declared.value.Kind.{Kind}
 use Rattle.kql_cells.specs.declared.value.Kind.TheVariants as kind
 use Rattle.kql_functions.specs.declared.func.ComparisonFunc.TheVariants as comparison
@@ -27,32 +27,34 @@ use Rattle.bind_expr.specs.declared.typed.Typed.{Typed}
 abbrev pub search : SearchPlace → Fold → Bool → Func
 search p c negated = func.Search (record { place = p; fold = c; negated = negated })
 
--- The function of a sign or word. The words are without regard to case, but for those with `_cs`.
-unfoldable pub compare_func : CompareOp → Func
-compare_func op.Equal = func.Comparison comparison.Equal
-compare_func op.NotEqual = func.Comparison comparison.NotEqual
-compare_func op.Alike = func.Comparison comparison.EqualText
-compare_func op.NotAlike = func.Comparison comparison.NotEqualText
-compare_func op.Less = func.Comparison comparison.Less
-compare_func op.LessEqual = func.Comparison comparison.AtMost
-compare_func op.Greater = func.Comparison comparison.Greater
-compare_func op.GreaterEqual = func.Comparison comparison.AtLeast
-compare_func op.Contains = search place.Anywhere fold.Caseless false
-compare_func op.ContainsCs = search place.Anywhere fold.Exact false
-compare_func op.Startswith = search place.Start fold.Caseless false
-compare_func op.StartswithCs = search place.Start fold.Exact false
-compare_func op.Endswith = search place.End fold.Caseless false
-compare_func op.EndswithCs = search place.End fold.Exact false
-compare_func op.Has = search place.Term fold.Caseless false
-compare_func op.HasCs = search place.Term fold.Exact false
-compare_func op.NotContains = search place.Anywhere fold.Caseless true
-compare_func op.NotContainsCs = search place.Anywhere fold.Exact true
-compare_func op.NotStartswith = search place.Start fold.Caseless true
-compare_func op.NotStartswithCs = search place.Start fold.Exact true
-compare_func op.NotEndswith = search place.End fold.Caseless true
-compare_func op.NotEndswithCs = search place.End fold.Exact true
-compare_func op.NotHas = search place.Term fold.Caseless true
-compare_func op.NotHasCs = search place.Term fold.Exact true
+-- The function of a sign or word; none of `matches regex`, which calls a pattern. The words are without regard to case, but for those with
+-- `_cs`.
+unfoldable pub compare_func : CompareOp → Option Func
+compare_func op.Equal = Some (func.Comparison comparison.Equal)
+compare_func op.NotEqual = Some (func.Comparison comparison.NotEqual)
+compare_func op.Alike = Some (func.Comparison comparison.EqualText)
+compare_func op.NotAlike = Some (func.Comparison comparison.NotEqualText)
+compare_func op.Less = Some (func.Comparison comparison.Less)
+compare_func op.LessEqual = Some (func.Comparison comparison.AtMost)
+compare_func op.Greater = Some (func.Comparison comparison.Greater)
+compare_func op.GreaterEqual = Some (func.Comparison comparison.AtLeast)
+compare_func op.Contains = Some (search place.Anywhere fold.Caseless false)
+compare_func op.ContainsCs = Some (search place.Anywhere fold.Exact false)
+compare_func op.Startswith = Some (search place.Start fold.Caseless false)
+compare_func op.StartswithCs = Some (search place.Start fold.Exact false)
+compare_func op.Endswith = Some (search place.End fold.Caseless false)
+compare_func op.EndswithCs = Some (search place.End fold.Exact false)
+compare_func op.Has = Some (search place.Term fold.Caseless false)
+compare_func op.HasCs = Some (search place.Term fold.Exact false)
+compare_func op.NotContains = Some (search place.Anywhere fold.Caseless true)
+compare_func op.NotContainsCs = Some (search place.Anywhere fold.Exact true)
+compare_func op.NotStartswith = Some (search place.Start fold.Caseless true)
+compare_func op.NotStartswithCs = Some (search place.Start fold.Exact true)
+compare_func op.NotEndswith = Some (search place.End fold.Caseless true)
+compare_func op.NotEndswithCs = Some (search place.End fold.Exact true)
+compare_func op.NotHas = Some (search place.Term fold.Caseless true)
+compare_func op.NotHasCs = Some (search place.Term fold.Exact true)
+compare_func op.MatchesRegex = None
 
 -- Whether a sign or word compares values of any one type; all others are operators on strings.
 unfoldable pub is_of_any_type : CompareOp → Bool
@@ -65,18 +67,18 @@ is_of_any_type op.GreaterEqual = true
 is_of_any_type _ = false
 
 -- The two operands, each converted where it is dynamic: to the other's type, and to a string by an operator on strings.
-abbrev pub compared_as : CompareSign → Typed → Typed → Bool → Outcome Typed
-compared_as sign l r true = operands_call sign.place (compare_func sign.op) (beside l r.kind ∷ beside r l.kind ∷ [])
-compared_as sign l r false = operands_call sign.place (compare_func sign.op) (as_text l ∷ as_text r ∷ [])
+abbrev pub compared_as : Func → CompareSign → Typed → Typed → Bool → Outcome Typed
+compared_as f sign l r true = operands_call sign.place f (beside l r.kind ∷ beside r l.kind ∷ [])
+compared_as f sign l r false = operands_call sign.place f (as_text l ∷ as_text r ∷ [])
 
-unfoldable pub compared : CompareSign → Typed → Typed → Outcome Typed
-compared sign l r = compared_as sign l r (is_of_any_type sign.op)
+unfoldable pub compared : Func → CompareSign → Typed → Typed → Outcome Typed
+compared f sign l r = compared_as f sign l r (is_of_any_type sign.op)
 
-abbrev pub compare_node : CompareSign → Outcome Typed → Outcome Typed → Outcome Typed
-compare_node sign left right = do
+abbrev pub compare_node : Func → CompareSign → Outcome Typed → Outcome Typed → Outcome Typed
+compare_node f sign left right = do
   l ← left
   r ← right
-  compared sign l r
+  compared f sign l r
 
 -- A value and a list.
 

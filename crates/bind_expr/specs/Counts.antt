@@ -120,6 +120,7 @@ count_of (func.Conversion f) = count.Exactly 1
 count_of (func.Text f) = text_count f
 count_of (func.Time f) = time_count f
 count_of (func.Dynamic f) = dynamic_count f
+count_of (func.Pattern f) = count.Exactly 2
 
 -- Whether so many arguments are as many as wanted: pairs are one or more.
 unfoldable pub is_count : Count → ℕ → Bool

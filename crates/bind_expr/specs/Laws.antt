@@ -8,7 +8,7 @@ use Rattle.bind_expr.specs.declared.scope.Scope.{Scope}
 
 -- The codes that binding an expression tells.
 unfoldable pub is_bind_code : ℕ → Bool
-is_bind_code code = nat_le 401 code && nat_le code 409 || code == 418
+is_bind_code code = nat_le 401 code && nat_le code 409 || (code == 418 || code == 420)
 
 -- A value, or a refusal with one of these codes.
 abbrev pub tells : {X : Type 0} → Outcome X → Type 0

@@ -16,4 +16,5 @@ pub mod Names
 pub mod Operands
 pub mod Outcome
 pub mod Paths
+pub mod Patterns
 pub mod Windows

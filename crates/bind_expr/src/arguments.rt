@@ -205,6 +205,7 @@ pub(crate) fn first_slot(found: Found, at: Position) -> Slot
         Found::Scalar(f) => scalar_first(f, at),
         Found::Window(f) => window_first(f),
         Found::Aggregate(f) => aggregate_first(f, aggregate_position(f, at)),
+        Found::Pattern => plain_slot(at),
         Found::Refused => plain_slot(at),
         Found::Unknown => plain_slot(at),
     }
@@ -219,6 +220,7 @@ pub(crate) fn next_slot(found: Found, at: Position) -> Slot
         Found::Scalar(_) => plain_slot(at),
         Found::Window(f) => window_next(f),
         Found::Aggregate(f) => aggregate_next(f, aggregate_position(f, at)),
+        Found::Pattern => plain_slot(at),
         Found::Refused => plain_slot(at),
         Found::Unknown => plain_slot(at),
     }
@@ -226,7 +228,7 @@ pub(crate) fn next_slot(found: Found, at: Position) -> Slot
 
 /// Whether a name is one of these.
 #[tactic(auto, unfolding(crate::specs::Arguments::is_among))]
-fn is_among(names: &[KText], name: &str) -> bool
+pub(crate) fn is_among(names: &[KText], name: &str) -> bool
     ensures { result ≡ is_among names.now name.now }
 {
     let mut left = names;

@@ -13,13 +13,14 @@ use crate::arguments::{
 use crate::calls::call_node;
 use crate::chain::{Chained, closed, linked, opened};
 use crate::compare::{
-    between_node, compare_node, first_operand, in_node, minus_node, next_operand,
+    between_node, compare_func, compare_node, first_operand, in_node, minus_node, next_operand,
 };
 use crate::fault::BindFault;
 use crate::literals::{bind_literal, entry_key};
 use crate::logic::{Joined, next_and, next_or, terms_closed, terms_opened};
 use crate::names::{bind_name, text_of};
 use crate::path::{Looked, next_look, path_closed, path_opened};
+use crate::patterns::{bind_extract, bind_match, is_extract};
 use crate::scope::{Scope, Spot, StepNames};
 use crate::steps::{bind_step, step_named};
 use crate::typed::{Operands, Typed};
@@ -148,12 +149,15 @@ fn bind_cmp(alloc: Global, e: &Cmp, scope: &Scope, spot: Spot) -> Result<Typed, 
 {
     match e {
         Cmp::Plain(s) => bind_sum(alloc, s, scope, spot),
-        Cmp::Compared(left, sign, right) => {
-            let at = inside(spot.position);
-            let left = bind_sum(alloc, left, scope, at);
-            let right = bind_sum(alloc, right.get(), scope, at);
-            compare_node(alloc, *sign, left, right)
-        }
+        Cmp::Compared(left, sign, right) => match compare_func(sign.op) {
+            None => bind_match(alloc, sign.place, scope, left, right.get()),
+            Some(f) => {
+                let at = inside(spot.position);
+                let left = bind_sum(alloc, left, scope, at);
+                let right = bind_sum(alloc, right.get(), scope, at);
+                compare_node(alloc, f, *sign, left, right)
+            }
+        },
         Cmp::In(value, sign, others) => {
             let at = inside(spot.position);
             let value = bind_sum(alloc, value, scope, at);
@@ -429,6 +433,9 @@ fn bind_term(alloc: Global, e: &Term, scope: &Scope, spot: Spot) -> Result<Typed
         Term::Name(n) => bind_name(alloc, n, scope),
         Term::Call(word, args) => {
             let found = find(word.text.as_str());
+            if is_extract(found) {
+                return bind_extract(alloc, word.place, scope, args.as_slice());
+            }
             let first = first_slot(found, spot.position);
             let next = next_slot(found, spot.position);
             match args.as_slice() {

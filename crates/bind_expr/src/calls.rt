@@ -223,6 +223,13 @@ fn found_call(
         Found::Scalar(f) => scalar_call(alloc, word.place, f, args, scope.moment),
         Found::Window(f) => window_call(alloc, word.place, f, args, scope, spot.position),
         Found::Aggregate(f) => aggregate_call(alloc, word.place, f, args, spot),
+        Found::Pattern => {
+            drop(args);
+            Err(BindFault::Refused {
+                code: 420,
+                place: word.place,
+            })
+        }
         Found::Refused => {
             drop(args);
             Err(BindFault::Refused {

@@ -29,35 +29,37 @@ fn search(place: SearchPlace, fold: Fold, negated: bool) -> Func
     })
 }
 
+/// The function of a sign or word; none where a pattern is called.
 #[tactic(auto, unfolding(crate::specs::Comparisons::compare_func))]
-fn compare_func(op: CompareOp) -> Func
+pub(crate) fn compare_func(op: CompareOp) -> Option<Func>
     ensures { result ≡ compare_func op }
 {
     match op {
-        CompareOp::Equal => Func::Comparison(ComparisonFunc::Equal),
-        CompareOp::NotEqual => Func::Comparison(ComparisonFunc::NotEqual),
-        CompareOp::Alike => Func::Comparison(ComparisonFunc::EqualText),
-        CompareOp::NotAlike => Func::Comparison(ComparisonFunc::NotEqualText),
-        CompareOp::Less => Func::Comparison(ComparisonFunc::Less),
-        CompareOp::LessEqual => Func::Comparison(ComparisonFunc::AtMost),
-        CompareOp::Greater => Func::Comparison(ComparisonFunc::Greater),
-        CompareOp::GreaterEqual => Func::Comparison(ComparisonFunc::AtLeast),
-        CompareOp::Contains => search(SearchPlace::Anywhere, Fold::Caseless, false),
-        CompareOp::ContainsCs => search(SearchPlace::Anywhere, Fold::Exact, false),
-        CompareOp::Startswith => search(SearchPlace::Start, Fold::Caseless, false),
-        CompareOp::StartswithCs => search(SearchPlace::Start, Fold::Exact, false),
-        CompareOp::Endswith => search(SearchPlace::End, Fold::Caseless, false),
-        CompareOp::EndswithCs => search(SearchPlace::End, Fold::Exact, false),
-        CompareOp::Has => search(SearchPlace::Term, Fold::Caseless, false),
-        CompareOp::HasCs => search(SearchPlace::Term, Fold::Exact, false),
-        CompareOp::NotContains => search(SearchPlace::Anywhere, Fold::Caseless, true),
-        CompareOp::NotContainsCs => search(SearchPlace::Anywhere, Fold::Exact, true),
-        CompareOp::NotStartswith => search(SearchPlace::Start, Fold::Caseless, true),
-        CompareOp::NotStartswithCs => search(SearchPlace::Start, Fold::Exact, true),
-        CompareOp::NotEndswith => search(SearchPlace::End, Fold::Caseless, true),
-        CompareOp::NotEndswithCs => search(SearchPlace::End, Fold::Exact, true),
-        CompareOp::NotHas => search(SearchPlace::Term, Fold::Caseless, true),
-        CompareOp::NotHasCs => search(SearchPlace::Term, Fold::Exact, true),
+        CompareOp::Equal => Some(Func::Comparison(ComparisonFunc::Equal)),
+        CompareOp::NotEqual => Some(Func::Comparison(ComparisonFunc::NotEqual)),
+        CompareOp::Alike => Some(Func::Comparison(ComparisonFunc::EqualText)),
+        CompareOp::NotAlike => Some(Func::Comparison(ComparisonFunc::NotEqualText)),
+        CompareOp::Less => Some(Func::Comparison(ComparisonFunc::Less)),
+        CompareOp::LessEqual => Some(Func::Comparison(ComparisonFunc::AtMost)),
+        CompareOp::Greater => Some(Func::Comparison(ComparisonFunc::Greater)),
+        CompareOp::GreaterEqual => Some(Func::Comparison(ComparisonFunc::AtLeast)),
+        CompareOp::Contains => Some(search(SearchPlace::Anywhere, Fold::Caseless, false)),
+        CompareOp::ContainsCs => Some(search(SearchPlace::Anywhere, Fold::Exact, false)),
+        CompareOp::Startswith => Some(search(SearchPlace::Start, Fold::Caseless, false)),
+        CompareOp::StartswithCs => Some(search(SearchPlace::Start, Fold::Exact, false)),
+        CompareOp::Endswith => Some(search(SearchPlace::End, Fold::Caseless, false)),
+        CompareOp::EndswithCs => Some(search(SearchPlace::End, Fold::Exact, false)),
+        CompareOp::Has => Some(search(SearchPlace::Term, Fold::Caseless, false)),
+        CompareOp::HasCs => Some(search(SearchPlace::Term, Fold::Exact, false)),
+        CompareOp::NotContains => Some(search(SearchPlace::Anywhere, Fold::Caseless, true)),
+        CompareOp::NotContainsCs => Some(search(SearchPlace::Anywhere, Fold::Exact, true)),
+        CompareOp::NotStartswith => Some(search(SearchPlace::Start, Fold::Caseless, true)),
+        CompareOp::NotStartswithCs => Some(search(SearchPlace::Start, Fold::Exact, true)),
+        CompareOp::NotEndswith => Some(search(SearchPlace::End, Fold::Caseless, true)),
+        CompareOp::NotEndswithCs => Some(search(SearchPlace::End, Fold::Exact, true)),
+        CompareOp::NotHas => Some(search(SearchPlace::Term, Fold::Caseless, true)),
+        CompareOp::NotHasCs => Some(search(SearchPlace::Term, Fold::Exact, true)),
+        CompareOp::MatchesRegex => None,
     }
 }
 
@@ -105,10 +107,15 @@ fn two_beside(
 }
 
 #[tactic(auto, using(crate::proofs::AnswerFacts::answer_steps), unfolding(crate::specs::Comparisons::compared))]
-fn compared(alloc: Global, sign: CompareSign, left: Typed, right: Typed) -> Result<Typed, BindFault>
-    ensures exact { Answers result (compared sign left right) }
+fn compared(
+    alloc: Global,
+    f: Func,
+    sign: CompareSign,
+    left: Typed,
+    right: Typed,
+) -> Result<Typed, BindFault>
+    ensures exact { Answers result (compared f sign left right) }
 {
-    let f = compare_func(sign.op);
     if is_of_any_type(sign.op) {
         let left_kind = left.kind;
         let right_kind = right.kind;
@@ -128,15 +135,16 @@ fn compared(alloc: Global, sign: CompareSign, left: Typed, right: Typed) -> Resu
 #[tactic(auto, using(crate::proofs::AnswerFacts::answer_steps))]
 pub(crate) fn compare_node(
     alloc: Global,
+    f: Func,
     sign: CompareSign,
     left: Result<Typed, BindFault>,
     right: Result<Typed, BindFault>,
 ) -> Result<Typed, BindFault>
-    ensures exact { Answers result (compare_node sign left right) }
+    ensures exact { Answers result (compare_node f sign left right) }
 {
     match left {
         Ok(left) => match right {
-            Ok(right) => compared(alloc, sign, left, right),
+            Ok(right) => compared(alloc, f, sign, left, right),
             Err(fault) => {
                 drop(left);
                 Err(fault)

@@ -45,6 +45,7 @@ pub(crate) fn count_of(f: Func) -> Count
         Func::Text(f) => text_count(f),
         Func::Time(f) => time_count(f),
         Func::Dynamic(f) => dynamic_count(f),
+        Func::Pattern(_) => Count::Exactly(2),
     }
 }
 

@@ -5,6 +5,7 @@
 #![tactic(auto)]
 
 mod aggregates;
+mod alone;
 mod arguments;
 mod bind;
 mod calls;
@@ -21,6 +22,7 @@ mod logic;
 mod names;
 mod operands;
 mod path;
+mod patterns;
 mod scope;
 mod steps;
 mod typed;

@@ -41,6 +41,9 @@ pub struct Scope {
     pub consts: Consts,
     /// In position `Group` the columns that are keys, which a `*` leaves out; elsewhere none.
     pub keys: Names,
+    /// In a pattern prefix the columns of the table itself, which no `extend` of the prefix has set so far, and in which a pattern may be
+    /// searched for; elsewhere none.
+    pub own: Names,
     /// The moment that `now` stands for, in ticks in the range of datetimes, or none.
     pub moment: Option<i64>,
 }

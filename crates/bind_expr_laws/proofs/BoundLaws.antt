@@ -7,6 +7,7 @@ use Rattle.kql_cells.specs.declared.value.Value.TheVariants as value
 use Rattle.kql_functions.specs.Find.{found_as}
 use Rattle.kql_functions.specs.declared.aggregate.Aggregate.{Aggregate}
 use Rattle.kql_functions.specs.declared.aggregate.Aggregate.TheVariants as aggregate
+use Rattle.kql_functions.specs.declared.func.Func.{Func}
 use Rattle.kql_functions.specs.declared.func.LogicFunc.TheVariants as logic
 use Rattle.kql_functions.specs.declared.names.Found.{Found}
 use Rattle.kql_functions.specs.declared.names.Found.TheVariants as found
@@ -20,27 +21,29 @@ use Rattle.kql_meaning.specs.declared.position.Position.{Position}
 use Rattle.kql_meaning.specs.declared.position.Position.TheVariants as position
 use Rattle.kql_meaning.proofs.ExpressionFitLaws.{aggregate-checked, fits-Aggregate}
 use Rattle.kql_syntax.specs.declared.tree.Access.TheOpen.{Access-F, And-F, Arg-F, Cmp-F, Expr-F, Post-F, Prod-F, Sign-F, Sum-F, Term-F}
-use Rattle.kql_syntax.specs.declared.tree.Access.{Access, fold-roll-Access, map-Access, roll-Access}
-use Rattle.kql_syntax.specs.declared.tree.Arg.{Arg, fold-roll-Arg, map-Arg, roll-Arg}
-use Rattle.kql_syntax.specs.declared.tree.Cmp.{Cmp, fold-roll-Cmp, map-Cmp, roll-Cmp}
-use Rattle.kql_syntax.specs.declared.tree.Sign.{Sign, fold-roll-Sign, map-Sign, roll-Sign}
-use Rattle.kql_syntax.specs.declared.tree.Term.{Term, fold-roll-Term, map-Term, roll-Term}
-use Rattle.kql_syntax.specs.declared.tree.And.{And, fold-roll-And, map-And, roll-And}
-use Rattle.kql_syntax.specs.declared.tree.Expr.{Expr, fold-roll-Expr, map-Expr, roll-Expr, ind-Expr}
-use Rattle.kql_syntax.specs.declared.tree.Post.{Post, fold-roll-Post, map-Post, roll-Post}
-use Rattle.kql_syntax.specs.declared.tree.Prod.{Prod, fold-roll-Prod, map-Prod, roll-Prod}
-use Rattle.kql_syntax.specs.declared.tree.Sum.{Sum, fold-roll-Sum, map-Sum, roll-Sum}
+use Rattle.kql_syntax.specs.declared.tree.Access.{Access, para-roll-Access, map-Access, roll-Access}
+use Rattle.kql_syntax.specs.declared.tree.Arg.{Arg, para-roll-Arg, map-Arg, roll-Arg}
+use Rattle.kql_syntax.specs.declared.tree.Cmp.{Cmp, para-roll-Cmp, map-Cmp, roll-Cmp}
+use Rattle.kql_syntax.specs.declared.tree.Sign.{Sign, para-roll-Sign, map-Sign, roll-Sign}
+use Rattle.kql_syntax.specs.declared.tree.Term.{Term, para-roll-Term, map-Term, roll-Term}
+use Rattle.kql_syntax.specs.declared.tree.And.{And, map-And, roll-And}
+use Rattle.kql_syntax.specs.declared.tree.Expr.{Expr, map-Expr, roll-Expr, ind-Expr}
+use Rattle.kql_syntax.specs.declared.tree.Post.{Post, map-Post, roll-Post}
+use Rattle.kql_syntax.specs.declared.tree.Prod.{Prod, map-Prod, roll-Prod}
+use Rattle.kql_syntax.specs.declared.tree.Sum.{Sum, map-Sum, roll-Sum}
+use Rattle.kql_syntax.specs.declared.tree.CompareSign.{CompareSign}
 use Rattle.kql_syntax.specs.declared.tree.InSign.{InSign}
 use Rattle.kql_syntax.specs.declared.tree.ProdSign.{ProdSign}
 use Rattle.kql_syntax.specs.declared.tree.SumSign.{SumSign}
 use Rattle.kql_syntax.specs.declared.tree.Word.{Word}
 use Rattle.bind_expr.specs.Arguments.{aggregate_position, first_slot, next_slot, plain_arg, window_first, window_next}
-use Rattle.bind_expr.specs.Bound.{Binds, Look, Named, Takes, access_read, access_step, and_bound, and_step, arg_bound, arg_step, args_taken, bound_expr, cmp_bound, cmp_step, entry_key, expr_bound, expr_step, found_call, inside, negated, operand_link, path_from, post_bound, post_of, post_step, prod_bound, prod_sign, prod_step, sign_bound, sign_step, sum_bound, sum_sign, sum_step, term_read, term_step}
-use Rattle.bind_expr.specs.Comparisons.{bounded, compared, in_node, listed}
+use Rattle.bind_expr.specs.Bound.{Binds, Look, Named, Takes, access_read, access_step, and_bound, and_step, arg_bound, arg_step, args_taken, bound_expr, call_or_extract, cmp_bound, cmp_step, compare_or_match, entry_key, expr_bound, expr_step, found_call, inside, negated, operand_link, path_from, post_bound, post_of, post_step, prod_bound, prod_sign, prod_step, sign_bound, sign_step, sum_bound, sum_sign, sum_step, term_read, term_step}
+use Rattle.bind_expr.specs.Comparisons.{bounded, compare_func, compared, in_node, listed}
 use Rattle.bind_expr.specs.Constants.{is_constant}
 use Rattle.bind_expr.specs.GroupForms.{has_several_results}
 use Rattle.bind_expr.specs.Names.{name_bound}
 use Rattle.bind_expr.specs.Outcome.{Outcome, ◌>>=◌}
+use Rattle.bind_expr.specs.Patterns.{is_extract}
 use Rattle.bind_expr.specs.Paths.{step_bound, step_named}
 use Rattle.bind_expr.specs.declared.scope.Scope.{Scope}
 use Rattle.bind_expr.specs.declared.typed.Typed.{Typed}
@@ -50,13 +53,15 @@ use Rattle.bind_expr_laws.proofs.Aggregates.{aggregate-bound}
 use Rattle.bind_expr_laws.proofs.Arguments.{HasArgs, IsArg, aggregate-slots, args-taken, scalar-slots, window-slots}
 use Rattle.bind_expr_laws.proofs.Calls.{scalar-bound}
 use Rattle.bind_expr_laws.proofs.Chains.{chain-bound}
-use Rattle.bind_expr_laws.proofs.Comparisons.{bounded-bound, compared-bound, listed-bound, negated-bound}
+use Rattle.bind_expr_laws.proofs.Comparisons.{IsPlainIf, bounded-bound, compared-bound, listed-bound, negated-bound, plain-compared}
+use Rattle.bind_expr.proofs.RolledLaws.{and-rolled, call-rolled, expr-rolled, in-rolled, post-rolled, prod-rolled, sum-rolled}
 use Rattle.bind_expr.proofs.ConstantSteps.{constant-Aggregate}
 use Rattle.bind_expr.proofs.GroupForms.{several-Aggregate}
 use Rattle.bind_expr_laws.proofs.Constants.{constant-given, constant-is, every-free, literal-part, value-literal}
 use Rattle.bind_expr_laws.proofs.Logic.{and-joins, or-joins, terms-bound}
 use Rattle.bind_expr_laws.proofs.Outcomes.{Each, Gives, gives-fold, gives-then, given}
 use Rattle.bind_expr_laws.proofs.Parts.{AreOperands, IsBound, IsPart, part-bound}
+use Rattle.bind_expr_laws.proofs.Patterns.{extract-bound, match-bound}
 use Rattle.bind_expr_laws.proofs.Paths.{path-bound}
 use Rattle.bind_expr_laws.proofs.Shapes.{Spot}
 use Rattle.bind_expr_laws.proofs.Standing.{stands}
@@ -206,28 +211,28 @@ of-expr : (y : Expr-F GivenAccess GivenArg GivenCmp GivenSign GivenTerm GivenAnd
 unfolding expr_bound and_bound cmp_bound sum_bound prod_bound sign_bound post_bound access_read term_read arg_bound bare_access bare_arg bare_cmp bare_sign bare_term bare_and bare_expr bare_post bare_prod bare_sum
 of-expr y scope sound spot =
     let more : List (Place × Binds) = map {B = Place × Binds} (λ (l : Place × And). (l.0, and_bound l.1)) (map {B = Place × And} (λ (l : Place × GivenAnd). (l.0, bare_and l.1)) y.more) in
-    subst (λ (r : Outcome Typed). IsGiven scope spot r) (sym (ap (λ (f : Binds). f scope spot) (fold-roll-Expr Look Takes Binds Binds Named Binds Binds Binds Binds Binds access_step arg_step cmp_step sign_step term_step and_step expr_step post_step prod_step sum_step (map-Expr GivenAccess GivenArg GivenCmp GivenSign GivenTerm GivenAnd GivenExpr GivenPost GivenProd GivenSum Access Arg Cmp Sign Term And Expr Post Prod Sum bare_access bare_arg bare_cmp bare_sign bare_term bare_and bare_expr bare_post bare_prod bare_sum y))))
+    subst (λ (r : Outcome Typed). IsGiven scope spot r) (sym (expr-rolled (map-Expr GivenAccess GivenArg GivenCmp GivenSign GivenTerm GivenAnd GivenExpr GivenPost GivenProd GivenSum Access Arg Cmp Sign Term And Expr Post Prod Sum bare_access bare_arg bare_cmp bare_sign bare_term bare_and bare_expr bare_post bare_prod bare_sum y) scope spot))
     (terms-bound scope spot logic.Or or-joins (λ at. and_bound y.first.0 scope at) (λ (l : Place × Binds). l.0) (λ (l : Place × Binds). l.1 scope (inside spot.position)) more (λ at. y.first.1 scope sound at) (each-ands scope sound (inside spot.position) y.more))
 
 of-and : (y : And-F GivenAccess GivenArg GivenCmp GivenSign GivenTerm GivenAnd GivenExpr GivenPost GivenProd GivenSum) → BoundAnd (roll-And (map-And GivenAccess GivenArg GivenCmp GivenSign GivenTerm GivenAnd GivenExpr GivenPost GivenProd GivenSum Access Arg Cmp Sign Term And Expr Post Prod Sum bare_access bare_arg bare_cmp bare_sign bare_term bare_and bare_expr bare_post bare_prod bare_sum y))
 unfolding expr_bound and_bound cmp_bound sum_bound prod_bound sign_bound post_bound access_read term_read arg_bound bare_access bare_arg bare_cmp bare_sign bare_term bare_and bare_expr bare_post bare_prod bare_sum
 of-and y scope sound spot =
     let more : List (Place × Binds) = map {B = Place × Binds} (λ (l : Place × Cmp). (l.0, cmp_bound l.1)) (map {B = Place × Cmp} (λ (l : Place × GivenCmp). (l.0, bare_cmp l.1)) y.more) in
-    subst (λ (r : Outcome Typed). IsGiven scope spot r) (sym (ap (λ (f : Binds). f scope spot) (fold-roll-And Look Takes Binds Binds Named Binds Binds Binds Binds Binds access_step arg_step cmp_step sign_step term_step and_step expr_step post_step prod_step sum_step (map-And GivenAccess GivenArg GivenCmp GivenSign GivenTerm GivenAnd GivenExpr GivenPost GivenProd GivenSum Access Arg Cmp Sign Term And Expr Post Prod Sum bare_access bare_arg bare_cmp bare_sign bare_term bare_and bare_expr bare_post bare_prod bare_sum y))))
+    subst (λ (r : Outcome Typed). IsGiven scope spot r) (sym (and-rolled (map-And GivenAccess GivenArg GivenCmp GivenSign GivenTerm GivenAnd GivenExpr GivenPost GivenProd GivenSum Access Arg Cmp Sign Term And Expr Post Prod Sum bare_access bare_arg bare_cmp bare_sign bare_term bare_and bare_expr bare_post bare_prod bare_sum y) scope spot))
     (terms-bound scope spot logic.And and-joins (λ at. cmp_bound y.first.0 scope at) (λ (l : Place × Binds). l.0) (λ (l : Place × Binds). l.1 scope (inside spot.position)) more (λ at. y.first.1 scope sound at) (each-cmps scope sound (inside spot.position) y.more))
 
 of-sum : (y : Sum-F GivenAccess GivenArg GivenCmp GivenSign GivenTerm GivenAnd GivenExpr GivenPost GivenProd GivenSum) → BoundSum (roll-Sum (map-Sum GivenAccess GivenArg GivenCmp GivenSign GivenTerm GivenAnd GivenExpr GivenPost GivenProd GivenSum Access Arg Cmp Sign Term And Expr Post Prod Sum bare_access bare_arg bare_cmp bare_sign bare_term bare_and bare_expr bare_post bare_prod bare_sum y))
 unfolding expr_bound and_bound cmp_bound sum_bound prod_bound sign_bound post_bound access_read term_read arg_bound bare_access bare_arg bare_cmp bare_sign bare_term bare_and bare_expr bare_post bare_prod bare_sum
 of-sum y scope sound spot =
     let more : List (SumSign × Binds) = map {B = SumSign × Binds} (λ (l : SumSign × Prod). (l.0, prod_bound l.1)) (map {B = SumSign × Prod} (λ (l : SumSign × GivenProd). (l.0, bare_prod l.1)) y.more) in
-    subst (λ (r : Outcome Typed). IsGiven scope spot r) (sym (ap (λ (f : Binds). f scope spot) (fold-roll-Sum Look Takes Binds Binds Named Binds Binds Binds Binds Binds access_step arg_step cmp_step sign_step term_step and_step expr_step post_step prod_step sum_step (map-Sum GivenAccess GivenArg GivenCmp GivenSign GivenTerm GivenAnd GivenExpr GivenPost GivenProd GivenSum Access Arg Cmp Sign Term And Expr Post Prod Sum bare_access bare_arg bare_cmp bare_sign bare_term bare_and bare_expr bare_post bare_prod bare_sum y))))
+    subst (λ (r : Outcome Typed). IsGiven scope spot r) (sym (sum-rolled (map-Sum GivenAccess GivenArg GivenCmp GivenSign GivenTerm GivenAnd GivenExpr GivenPost GivenProd GivenSum Access Arg Cmp Sign Term And Expr Post Prod Sum bare_access bare_arg bare_cmp bare_sign bare_term bare_and bare_expr bare_post bare_prod bare_sum y) scope spot))
     (chain-bound scope spot (λ at. prod_bound y.first.0 scope at) (λ (l : SumSign × Binds). sum_sign l.0.op) (λ (l : SumSign × Binds). l.0.place) (λ (l : SumSign × Binds). l.1 scope (inside spot.position)) more (λ at. y.first.1 scope sound at) (each-prods scope sound (inside spot.position) y.more))
 
 of-prod : (y : Prod-F GivenAccess GivenArg GivenCmp GivenSign GivenTerm GivenAnd GivenExpr GivenPost GivenProd GivenSum) → BoundProd (roll-Prod (map-Prod GivenAccess GivenArg GivenCmp GivenSign GivenTerm GivenAnd GivenExpr GivenPost GivenProd GivenSum Access Arg Cmp Sign Term And Expr Post Prod Sum bare_access bare_arg bare_cmp bare_sign bare_term bare_and bare_expr bare_post bare_prod bare_sum y))
 unfolding expr_bound and_bound cmp_bound sum_bound prod_bound sign_bound post_bound access_read term_read arg_bound bare_access bare_arg bare_cmp bare_sign bare_term bare_and bare_expr bare_post bare_prod bare_sum
 of-prod y scope sound spot =
     let more : List (ProdSign × Binds) = map {B = ProdSign × Binds} (λ (l : ProdSign × Sign). (l.0, sign_bound l.1)) (map {B = ProdSign × Sign} (λ (l : ProdSign × GivenSign). (l.0, bare_sign l.1)) y.more) in
-    subst (λ (r : Outcome Typed). IsGiven scope spot r) (sym (ap (λ (f : Binds). f scope spot) (fold-roll-Prod Look Takes Binds Binds Named Binds Binds Binds Binds Binds access_step arg_step cmp_step sign_step term_step and_step expr_step post_step prod_step sum_step (map-Prod GivenAccess GivenArg GivenCmp GivenSign GivenTerm GivenAnd GivenExpr GivenPost GivenProd GivenSum Access Arg Cmp Sign Term And Expr Post Prod Sum bare_access bare_arg bare_cmp bare_sign bare_term bare_and bare_expr bare_post bare_prod bare_sum y))))
+    subst (λ (r : Outcome Typed). IsGiven scope spot r) (sym (prod-rolled (map-Prod GivenAccess GivenArg GivenCmp GivenSign GivenTerm GivenAnd GivenExpr GivenPost GivenProd GivenSum Access Arg Cmp Sign Term And Expr Post Prod Sum bare_access bare_arg bare_cmp bare_sign bare_term bare_and bare_expr bare_post bare_prod bare_sum y) scope spot))
     (chain-bound scope spot (λ at. sign_bound y.first.0 scope at) (λ (l : ProdSign × Binds). prod_sign l.0.op) (λ (l : ProdSign × Binds). l.0.place) (λ (l : ProdSign × Binds). l.1 scope (inside spot.position)) more (λ at. y.first.1 scope sound at) (each-signs scope sound (inside spot.position) y.more))
 
 -- Operands of `in`.
@@ -248,27 +253,32 @@ in-bound scope spot s sign es h each =
     es each)
     (λ ts q. listed-bound scope spot sign ts q)
 
+compare-or-match : (s b : GivenSum) (sign : CompareSign) (scope : Scope) → IsSoundScope scope → (spot : Spot) (o : Option Func) → IsPlainIf o → IsGiven scope spot (compare_or_match (s.0, sum_bound s.0) sign (b.0, sum_bound b.0) scope spot o)
+compare-or-match s b sign scope sound spot None plain = match-bound scope spot sign.place s.0 b.0
+compare-or-match s b sign scope sound spot (Some f) plain =
+    then-part scope spot (sum_bound s.0 scope (inside spot.position)) (λ (l : Typed). sum_bound b.0 scope (inside spot.position) >>= λ r. compared f sign l r) (s.1 scope sound (inside spot.position))
+    (λ l one. then-part scope spot (sum_bound b.0 scope (inside spot.position)) (λ (r : Typed). compared f sign l r) (b.1 scope sound (inside spot.position)) (λ r two. compared-bound scope spot f sign l r plain one two))
+
 of-cmp : (y : Cmp-F GivenAccess GivenArg GivenCmp GivenSign GivenTerm GivenAnd GivenExpr GivenPost GivenProd GivenSum) → BoundCmp (roll-Cmp (map-Cmp GivenAccess GivenArg GivenCmp GivenSign GivenTerm GivenAnd GivenExpr GivenPost GivenProd GivenSum Access Arg Cmp Sign Term And Expr Post Prod Sum bare_access bare_arg bare_cmp bare_sign bare_term bare_and bare_expr bare_post bare_prod bare_sum y))
 unfolding expr_bound and_bound cmp_bound sum_bound prod_bound sign_bound post_bound access_read term_read arg_bound bare_access bare_arg bare_cmp bare_sign bare_term bare_and bare_expr bare_post bare_prod bare_sum
-of-cmp (Cmp-F.«Cmp::Plain» s) scope sound spot = subst (λ (r : Outcome Typed). IsGiven scope spot r) (sym (ap (λ (f : Binds). f scope spot) (fold-roll-Cmp Look Takes Binds Binds Named Binds Binds Binds Binds Binds access_step arg_step cmp_step sign_step term_step and_step expr_step post_step prod_step sum_step (Cmp-F.«Cmp::Plain» s.0)))) (s.1 scope sound spot)
+of-cmp (Cmp-F.«Cmp::Plain» s) scope sound spot = subst (λ (r : Outcome Typed). IsGiven scope spot r) (sym (ap (λ (f : Binds). f scope spot) (para-roll-Cmp Look Takes Binds Binds Named Binds Binds Binds Binds Binds access_step arg_step cmp_step sign_step term_step and_step expr_step post_step prod_step sum_step (Cmp-F.«Cmp::Plain» s.0)))) (s.1 scope sound spot)
 of-cmp (Cmp-F.Compared s sign b) scope sound spot =
-    subst (λ (r : Outcome Typed). IsGiven scope spot r) (sym (ap (λ (f : Binds). f scope spot) (fold-roll-Cmp Look Takes Binds Binds Named Binds Binds Binds Binds Binds access_step arg_step cmp_step sign_step term_step and_step expr_step post_step prod_step sum_step (Cmp-F.Compared s.0 sign b.0))))
-    (then-part scope spot (sum_bound s.0 scope (inside spot.position)) (λ (l : Typed). sum_bound b.0 scope (inside spot.position) >>= λ r. compared sign l r) (s.1 scope sound (inside spot.position))
-    (λ l one. then-part scope spot (sum_bound b.0 scope (inside spot.position)) (λ (r : Typed). compared sign l r) (b.1 scope sound (inside spot.position)) (λ r two. compared-bound scope spot sign l r one two)))
+    subst (λ (r : Outcome Typed). IsGiven scope spot r) (sym (ap (λ (f : Binds). f scope spot) (para-roll-Cmp Look Takes Binds Binds Named Binds Binds Binds Binds Binds access_step arg_step cmp_step sign_step term_step and_step expr_step post_step prod_step sum_step (Cmp-F.Compared s.0 sign b.0))))
+    (compare-or-match s b sign scope sound spot (compare_func sign.op) (plain-compared sign.op))
 of-cmp (Cmp-F.In s sign es) scope sound spot =
-    subst (λ (r : Outcome Typed). IsGiven scope spot r) (sym (ap (λ (f : Binds). f scope spot) (fold-roll-Cmp Look Takes Binds Binds Named Binds Binds Binds Binds Binds access_step arg_step cmp_step sign_step term_step and_step expr_step post_step prod_step sum_step (Cmp-F.In s.0 sign (map bare_expr es)))))
+    subst (λ (r : Outcome Typed). IsGiven scope spot r) (sym (in-rolled s.0 sign (map bare_expr es) scope spot))
     (in-bound scope spot (sum_bound s.0 scope (inside spot.position)) sign (map expr_bound (map bare_expr es)) (s.1 scope sound (inside spot.position)) (each-exprs scope sound (inside spot.position) es))
 of-cmp (Cmp-F.Between s sign bounds) scope sound spot =
-    subst (λ (r : Outcome Typed). IsGiven scope spot r) (sym (ap (λ (f : Binds). f scope spot) (fold-roll-Cmp Look Takes Binds Binds Named Binds Binds Binds Binds Binds access_step arg_step cmp_step sign_step term_step and_step expr_step post_step prod_step sum_step (Cmp-F.Between s.0 sign (bounds.0.0, bounds.1.0)))))
+    subst (λ (r : Outcome Typed). IsGiven scope spot r) (sym (ap (λ (f : Binds). f scope spot) (para-roll-Cmp Look Takes Binds Binds Named Binds Binds Binds Binds Binds access_step arg_step cmp_step sign_step term_step and_step expr_step post_step prod_step sum_step (Cmp-F.Between s.0 sign (bounds.0.0, bounds.1.0)))))
     (then-part scope spot (sum_bound s.0 scope (inside spot.position)) (λ (x : Typed). sum_bound bounds.0.0 scope (inside spot.position) >>= λ a. sum_bound bounds.1.0 scope (inside spot.position) >>= λ b. bounded sign x a b) (s.1 scope sound (inside spot.position))
     (λ x one. then-part scope spot (sum_bound bounds.0.0 scope (inside spot.position)) (λ (a : Typed). sum_bound bounds.1.0 scope (inside spot.position) >>= λ b. bounded sign x a b) (bounds.0.1 scope sound (inside spot.position))
     (λ a two. then-part scope spot (sum_bound bounds.1.0 scope (inside spot.position)) (λ (b : Typed). bounded sign x a b) (bounds.1.1 scope sound (inside spot.position)) (λ b three. bounded-bound scope spot sign x a b one two three))))
 
 of-sign : (y : Sign-F GivenAccess GivenArg GivenCmp GivenSign GivenTerm GivenAnd GivenExpr GivenPost GivenProd GivenSum) → BoundSign (roll-Sign (map-Sign GivenAccess GivenArg GivenCmp GivenSign GivenTerm GivenAnd GivenExpr GivenPost GivenProd GivenSum Access Arg Cmp Sign Term And Expr Post Prod Sum bare_access bare_arg bare_cmp bare_sign bare_term bare_and bare_expr bare_post bare_prod bare_sum y))
 unfolding expr_bound and_bound cmp_bound sum_bound prod_bound sign_bound post_bound access_read term_read arg_bound bare_access bare_arg bare_cmp bare_sign bare_term bare_and bare_expr bare_post bare_prod bare_sum
-of-sign (Sign-F.«Sign::Plain» p) scope sound spot = subst (λ (r : Outcome Typed). IsGiven scope spot r) (sym (ap (λ (f : Binds). f scope spot) (fold-roll-Sign Look Takes Binds Binds Named Binds Binds Binds Binds Binds access_step arg_step cmp_step sign_step term_step and_step expr_step post_step prod_step sum_step (Sign-F.«Sign::Plain» p.0)))) (p.1 scope sound spot)
+of-sign (Sign-F.«Sign::Plain» p) scope sound spot = subst (λ (r : Outcome Typed). IsGiven scope spot r) (sym (ap (λ (f : Binds). f scope spot) (para-roll-Sign Look Takes Binds Binds Named Binds Binds Binds Binds Binds access_step arg_step cmp_step sign_step term_step and_step expr_step post_step prod_step sum_step (Sign-F.«Sign::Plain» p.0)))) (p.1 scope sound spot)
 of-sign (Sign-F.Minus place p) scope sound spot =
-    subst (λ (r : Outcome Typed). IsGiven scope spot r) (sym (ap (λ (f : Binds). f scope spot) (fold-roll-Sign Look Takes Binds Binds Named Binds Binds Binds Binds Binds access_step arg_step cmp_step sign_step term_step and_step expr_step post_step prod_step sum_step (Sign-F.Minus place p.0))))
+    subst (λ (r : Outcome Typed). IsGiven scope spot r) (sym (ap (λ (f : Binds). f scope spot) (para-roll-Sign Look Takes Binds Binds Named Binds Binds Binds Binds Binds access_step arg_step cmp_step sign_step term_step and_step expr_step post_step prod_step sum_step (Sign-F.Minus place p.0))))
     (then-part scope spot (post_bound p.0 scope (inside spot.position)) (λ (t : Typed). negated place t) (p.1 scope sound (inside spot.position)) (λ t h. negated-bound scope spot place t h))
 
 entry-bound : (scope : Scope) (spot : Spot) (w : Word) → IsGiven scope spot (Ok (entry_key w))
@@ -276,15 +286,15 @@ entry-bound scope spot w = record { holds = part-bound scope spot (entry_key w) 
 
 of-access : (y : Access-F GivenAccess GivenArg GivenCmp GivenSign GivenTerm GivenAnd GivenExpr GivenPost GivenProd GivenSum) → BoundAccess (roll-Access (map-Access GivenAccess GivenArg GivenCmp GivenSign GivenTerm GivenAnd GivenExpr GivenPost GivenProd GivenSum Access Arg Cmp Sign Term And Expr Post Prod Sum bare_access bare_arg bare_cmp bare_sign bare_term bare_and bare_expr bare_post bare_prod bare_sum y))
 unfolding expr_bound and_bound cmp_bound sum_bound prod_bound sign_bound post_bound access_read term_read arg_bound bare_access bare_arg bare_cmp bare_sign bare_term bare_and bare_expr bare_post bare_prod bare_sum
-of-access (Access-F.Entry place w) scope sound at = subst (λ (r : Outcome Typed). IsGiven scope (inside at) r) (sym (ap (λ (l : Look). l.key scope at) (fold-roll-Access Look Takes Binds Binds Named Binds Binds Binds Binds Binds access_step arg_step cmp_step sign_step term_step and_step expr_step post_step prod_step sum_step (Access-F.Entry place w)))) (entry-bound scope (inside at) w)
-of-access (Access-F.Element place e) scope sound at = subst (λ (r : Outcome Typed). IsGiven scope (inside at) r) (sym (ap (λ (l : Look). l.key scope at) (fold-roll-Access Look Takes Binds Binds Named Binds Binds Binds Binds Binds access_step arg_step cmp_step sign_step term_step and_step expr_step post_step prod_step sum_step (Access-F.Element place e.0)))) (e.1 scope sound (inside at))
+of-access (Access-F.Entry place w) scope sound at = subst (λ (r : Outcome Typed). IsGiven scope (inside at) r) (sym (ap (λ (l : Look). l.key scope at) (para-roll-Access Look Takes Binds Binds Named Binds Binds Binds Binds Binds access_step arg_step cmp_step sign_step term_step and_step expr_step post_step prod_step sum_step (Access-F.Entry place w)))) (entry-bound scope (inside at) w)
+of-access (Access-F.Element place e) scope sound at = subst (λ (r : Outcome Typed). IsGiven scope (inside at) r) (sym (ap (λ (l : Look). l.key scope at) (para-roll-Access Look Takes Binds Binds Named Binds Binds Binds Binds Binds access_step arg_step cmp_step sign_step term_step and_step expr_step post_step prod_step sum_step (Access-F.Element place e.0)))) (e.1 scope sound (inside at))
 
 of-arg : (y : Arg-F GivenAccess GivenArg GivenCmp GivenSign GivenTerm GivenAnd GivenExpr GivenPost GivenProd GivenSum) → BoundArg (roll-Arg (map-Arg GivenAccess GivenArg GivenCmp GivenSign GivenTerm GivenAnd GivenExpr GivenPost GivenProd GivenSum Access Arg Cmp Sign Term And Expr Post Prod Sum bare_access bare_arg bare_cmp bare_sign bare_term bare_and bare_expr bare_post bare_prod bare_sum y))
 unfolding expr_bound and_bound cmp_bound sum_bound prod_bound sign_bound post_bound access_read term_read arg_bound bare_access bare_arg bare_cmp bare_sign bare_term bare_and bare_expr bare_post bare_prod bare_sum plain_arg
 of-arg (Arg-F.«Arg::Plain» e) scope sound at =
-    subst (λ (r : Outcome (Option Typed)). Gives (IsArg scope at) r) (sym (ap (λ (f : Takes). f scope at) (fold-roll-Arg Look Takes Binds Binds Named Binds Binds Binds Binds Binds access_step arg_step cmp_step sign_step term_step and_step expr_step post_step prod_step sum_step (Arg-F.«Arg::Plain» e.0))))
+    subst (λ (r : Outcome (Option Typed)). Gives (IsArg scope at) r) (sym (ap (λ (f : Takes). f scope at) (para-roll-Arg Look Takes Binds Binds Named Binds Binds Binds Binds Binds access_step arg_step cmp_step sign_step term_step and_step expr_step post_step prod_step sum_step (Arg-F.«Arg::Plain» e.0))))
     (gives-then (IsBound scope (inside at)) (IsArg scope at) (expr_bound e.0 scope (inside at)) (λ (x : Typed). Ok (Some x)) (e.1 scope sound (inside at)) (λ x b. record { holds = bound-part scope at x b }))
-of-arg (Arg-F.Star place) scope sound at = subst (λ (r : Outcome (Option Typed)). Gives (IsArg scope at) r) (sym (ap (λ (f : Takes). f scope at) (fold-roll-Arg Look Takes Binds Binds Named Binds Binds Binds Binds Binds access_step arg_step cmp_step sign_step term_step and_step expr_step post_step prod_step sum_step (Arg-F.Star place)))) (record { holds = tt })
+of-arg (Arg-F.Star place) scope sound at = subst (λ (r : Outcome (Option Typed)). Gives (IsArg scope at) r) (sym (ap (λ (f : Takes). f scope at) (para-roll-Arg Look Takes Binds Binds Named Binds Binds Binds Binds Binds access_step arg_step cmp_step sign_step term_step and_step expr_step post_step prod_step sum_step (Arg-F.Star place)))) (record { holds = tt })
 
 -- Calls.
 
@@ -299,6 +309,8 @@ found-bound : (w : Word) (scope : Scope) (spot : Spot) (f : Found) (ts : List Ta
 unfolding found_call
 found-bound w scope spot found.Unknown ts sound each =
     gives-then Anything (IsBound scope spot) (args_taken scope (first_slot found.Unknown spot.position) (next_slot found.Unknown spot.position) ts) (λ a. found_call w scope spot a found.Unknown) (any _) (λ a h. record { holds = tt })
+found-bound w scope spot found.Pattern ts sound each =
+    gives-then Anything (IsBound scope spot) (args_taken scope (first_slot found.Pattern spot.position) (next_slot found.Pattern spot.position) ts) (λ a. found_call w scope spot a found.Pattern) (any _) (λ a h. record { holds = tt })
 found-bound w scope spot found.Refused ts sound each =
     gives-then Anything (IsBound scope spot) (args_taken scope (first_slot found.Refused spot.position) (next_slot found.Refused spot.position) ts) (λ a. found_call w scope spot a found.Refused) (any _) (λ a h. record { holds = tt })
 found-bound w scope spot (found.Scalar f) ts sound each =
@@ -315,15 +327,19 @@ found-bound w scope spot (found.Aggregate f) ts sound each =
     (args-taken scope p p (first_slot (found.Aggregate f) spot.position) (next_slot (found.Aggregate f) spot.position) ts sound (aggregate-slots scope f spot.position sound) each)
     (λ a h. aggregate-bound scope spot w.place f a h)
 
+call-or : (w : Word) (gs : List GivenArg) (scope : Scope) → IsSoundScope scope → (spot : Spot) (b : Bool) → IsGiven scope spot (call_or_extract w (map bare_arg gs) (map arg_bound (map bare_arg gs)) scope spot b)
+call-or w gs scope sound spot true = extract-bound scope spot w.place (map bare_arg gs)
+call-or w gs scope sound spot false = found-bound w scope spot (found_as w.text) (map arg_bound (map bare_arg gs)) sound (λ at. each-args scope sound at gs)
+
 of-term : (y : Term-F GivenAccess GivenArg GivenCmp GivenSign GivenTerm GivenAnd GivenExpr GivenPost GivenProd GivenSum) → BoundTerm (roll-Term (map-Term GivenAccess GivenArg GivenCmp GivenSign GivenTerm GivenAnd GivenExpr GivenPost GivenProd GivenSum Access Arg Cmp Sign Term And Expr Post Prod Sum bare_access bare_arg bare_cmp bare_sign bare_term bare_and bare_expr bare_post bare_prod bare_sum y))
 unfolding expr_bound and_bound cmp_bound sum_bound prod_bound sign_bound post_bound access_read term_read arg_bound bare_access bare_arg bare_cmp bare_sign bare_term bare_and bare_expr bare_post bare_prod bare_sum
-of-term (Term-F.Literal l) scope sound spot = subst (λ (r : Outcome Typed). IsGiven scope spot r) (sym (ap (λ (n : Named). n.bound scope spot) (fold-roll-Term Look Takes Binds Binds Named Binds Binds Binds Binds Binds access_step arg_step cmp_step sign_step term_step and_step expr_step post_step prod_step sum_step (Term-F.Literal l)))) (literal-bound scope spot l)
-of-term (Term-F.Name n) scope sound spot = subst (λ (r : Outcome Typed). IsGiven scope spot r) (sym (ap (λ (n : Named). n.bound scope spot) (fold-roll-Term Look Takes Binds Binds Named Binds Binds Binds Binds Binds access_step arg_step cmp_step sign_step term_step and_step expr_step post_step prod_step sum_step (Term-F.Name n)))) (name-bound scope spot n sound)
+of-term (Term-F.Literal l) scope sound spot = subst (λ (r : Outcome Typed). IsGiven scope spot r) (sym (ap (λ (n : Named). n.bound scope spot) (para-roll-Term Look Takes Binds Binds Named Binds Binds Binds Binds Binds access_step arg_step cmp_step sign_step term_step and_step expr_step post_step prod_step sum_step (Term-F.Literal l)))) (literal-bound scope spot l)
+of-term (Term-F.Name n) scope sound spot = subst (λ (r : Outcome Typed). IsGiven scope spot r) (sym (ap (λ (n : Named). n.bound scope spot) (para-roll-Term Look Takes Binds Binds Named Binds Binds Binds Binds Binds access_step arg_step cmp_step sign_step term_step and_step expr_step post_step prod_step sum_step (Term-F.Name n)))) (name-bound scope spot n sound)
 of-term (Term-F.Call w args) scope sound spot =
-    subst (λ (r : Outcome Typed). IsGiven scope spot r) (sym (ap (λ (n : Named). n.bound scope spot) (fold-roll-Term Look Takes Binds Binds Named Binds Binds Binds Binds Binds access_step arg_step cmp_step sign_step term_step and_step expr_step post_step prod_step sum_step (Term-F.Call w (map bare_arg args)))))
-    (found-bound w scope spot (found_as w.text) (map arg_bound (map bare_arg args)) sound (λ at. each-args scope sound at args))
+    subst (λ (r : Outcome Typed). IsGiven scope spot r) (sym (ap (λ (n : Named). n.bound scope spot) (call-rolled w (map bare_arg args))))
+    (call-or w args scope sound spot (is_extract (found_as w.text)))
 of-term (Term-F.Group place e) scope sound spot =
-    subst (λ (r : Outcome Typed). IsGiven scope spot r) (sym (ap (λ (n : Named). n.bound scope spot) (fold-roll-Term Look Takes Binds Binds Named Binds Binds Binds Binds Binds access_step arg_step cmp_step sign_step term_step and_step expr_step post_step prod_step sum_step (Term-F.Group place e.0))))
+    subst (λ (r : Outcome Typed). IsGiven scope spot r) (sym (ap (λ (n : Named). n.bound scope spot) (para-roll-Term Look Takes Binds Binds Named Binds Binds Binds Binds Binds access_step arg_step cmp_step sign_step term_step and_step expr_step post_step prod_step sum_step (Term-F.Group place e.0))))
     (e.1 scope sound spot)
 
 -- Terms with looks behind them.
@@ -340,7 +356,7 @@ term-bound first scope sound h spot (l ∷ looks) each = from-bound first.bound 
 of-post : (y : Post-F GivenAccess GivenArg GivenCmp GivenSign GivenTerm GivenAnd GivenExpr GivenPost GivenProd GivenSum) → BoundPost (roll-Post (map-Post GivenAccess GivenArg GivenCmp GivenSign GivenTerm GivenAnd GivenExpr GivenPost GivenProd GivenSum Access Arg Cmp Sign Term And Expr Post Prod Sum bare_access bare_arg bare_cmp bare_sign bare_term bare_and bare_expr bare_post bare_prod bare_sum y))
 unfolding expr_bound and_bound cmp_bound sum_bound prod_bound sign_bound post_bound access_read term_read arg_bound bare_access bare_arg bare_cmp bare_sign bare_term bare_and bare_expr bare_post bare_prod bare_sum
 of-post y scope sound spot =
-    subst (λ (r : Outcome Typed). IsGiven scope spot r) (sym (ap (λ (f : Binds). f scope spot) (fold-roll-Post Look Takes Binds Binds Named Binds Binds Binds Binds Binds access_step arg_step cmp_step sign_step term_step and_step expr_step post_step prod_step sum_step (map-Post GivenAccess GivenArg GivenCmp GivenSign GivenTerm GivenAnd GivenExpr GivenPost GivenProd GivenSum Access Arg Cmp Sign Term And Expr Post Prod Sum bare_access bare_arg bare_cmp bare_sign bare_term bare_and bare_expr bare_post bare_prod bare_sum y))))
+    subst (λ (r : Outcome Typed). IsGiven scope spot r) (sym (post-rolled (map-Post GivenAccess GivenArg GivenCmp GivenSign GivenTerm GivenAnd GivenExpr GivenPost GivenProd GivenSum Access Arg Cmp Sign Term And Expr Post Prod Sum bare_access bare_arg bare_cmp bare_sign bare_term bare_and bare_expr bare_post bare_prod bare_sum y) scope spot))
     (term-bound (term_read y.first.0) scope sound (λ at. y.first.1 scope sound at) spot (map access_read (map bare_access y.more)) (each-looks scope sound spot.position y.more))
 
 -- The whole.

@@ -1,10 +1,12 @@
 -- Comparisons, and a minus before a term.
 use Rattle.std.proofs.Common.{Bool, true, false, List, [], ◌∷◌, refl}
+use Rattle.std.specs.Prelude.{Option, None, Some}
 use Rattle.kql_cells.specs.declared.value.Kind.{Kind}
 use Rattle.kql_functions.specs.declared.func.ArithmeticFunc.{ArithmeticFunc}
 use Rattle.kql_functions.specs.declared.func.ArithmeticFunc.TheVariants as arithmetic
 use Rattle.kql_functions.specs.declared.func.ComparisonFunc.{ComparisonFunc}
 use Rattle.kql_functions.specs.declared.func.ComparisonFunc.TheVariants as comparison
+use Rattle.kql_functions.specs.declared.func.Func.{Func}
 use Rattle.kql_functions.specs.declared.func.Func.TheVariants as func
 use Rattle.kql_functions.specs.declared.func.SearchFunc.{SearchFunc}
 use Rattle.kql_lexer.specs.declared.place.Place.{Place}
@@ -42,7 +44,12 @@ plain-search : (f : SearchFunc) → IsPlain (func.Search f)
 unfolding is_callable part_fits
 plain-search f = record { callable = refl; part = λ es. refl }
 
-plain-compared : (o : CompareOp) → IsPlain (compare_func o)
+-- The function of an operator, where it has one.
+abbrev pub IsPlainIf : Option Func → Type 0
+IsPlainIf None = Unit {0}
+IsPlainIf (Some f) = IsPlain f
+
+pub plain-compared : (o : CompareOp) → IsPlainIf (compare_func o)
 unfolding compare_func
 plain-compared op.Equal = plain-comparison comparison.Equal
 plain-compared op.NotEqual = plain-comparison comparison.NotEqual
@@ -68,6 +75,7 @@ plain-compared op.NotEndswith = plain-search _
 plain-compared op.NotEndswithCs = plain-search _
 plain-compared op.NotHas = plain-search _
 plain-compared op.NotHasCs = plain-search _
+plain-compared op.MatchesRegex = tt
 
 plain-among : (o : InOp) → IsPlain (among_func o)
 unfolding among_func
@@ -83,17 +91,17 @@ plain-between between.NotBetween = plain-comparison comparison.NotBetween
 
 -- The nodes.
 
-compared-by : (scope : Scope) (spot : Spot) (sign : CompareSign) (l r : Typed) (b : Bool) → IsPart scope spot.position l.expr l.kind → IsPart scope spot.position r.expr r.kind → Gives (IsBound scope spot) (compared_as sign l r b)
-compared-by scope spot sign l r true h k =
-    operands-bound scope spot sign.place (compare_func sign.op) (beside l r.kind ∷ beside r l.kind ∷ []) (plain-compared sign.op)
+compared-by : (scope : Scope) (spot : Spot) (f : Func) (sign : CompareSign) (l r : Typed) (b : Bool) → IsPlain f → IsPart scope spot.position l.expr l.kind → IsPart scope spot.position r.expr r.kind → Gives (IsBound scope spot) (compared_as f sign l r b)
+compared-by scope spot f sign l r true plain h k =
+    operands-bound scope spot sign.place f (beside l r.kind ∷ beside r l.kind ∷ []) plain
     (beside-part scope spot.position l r.kind h, (beside-part scope spot.position r l.kind k, tt))
-compared-by scope spot sign l r false h k =
-    operands-bound scope spot sign.place (compare_func sign.op) (as_text l ∷ as_text r ∷ []) (plain-compared sign.op)
+compared-by scope spot f sign l r false plain h k =
+    operands-bound scope spot sign.place f (as_text l ∷ as_text r ∷ []) plain
     (beside-part scope spot.position l kind.Text h, (beside-part scope spot.position r kind.Text k, tt))
 
-pub compared-bound : (scope : Scope) (spot : Spot) (sign : CompareSign) (l r : Typed) → IsPart scope spot.position l.expr l.kind → IsPart scope spot.position r.expr r.kind → Gives (IsBound scope spot) (compared sign l r)
+pub compared-bound : (scope : Scope) (spot : Spot) (f : Func) (sign : CompareSign) (l r : Typed) → IsPlain f → IsPart scope spot.position l.expr l.kind → IsPart scope spot.position r.expr r.kind → Gives (IsBound scope spot) (compared f sign l r)
 unfolding compared
-compared-bound scope spot sign l r h k = compared-by scope spot sign l r (is_of_any_type sign.op) h k
+compared-bound scope spot f sign l r plain h k = compared-by scope spot f sign l r (is_of_any_type sign.op) plain h k
 
 pub listed-bound : (scope : Scope) (spot : Spot) (sign : InSign) (ts : List Typed) → AreOperands scope spot.position ts → Gives (IsBound scope spot) (listed sign ts)
 unfolding listed

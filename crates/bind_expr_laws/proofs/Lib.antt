@@ -10,6 +10,7 @@ pub mod Logic
 pub mod Outcomes
 pub mod Parts
 pub mod Paths
+pub mod Patterns
 pub mod PlaceLaws
 pub mod PlaceSteps
 pub mod Shapes

@@ -1,18 +1,19 @@
 -- A refusal is told at a place of the tree, by induction over the tree.
-use Rattle.std.proofs.Common.{◌≡◌, ℕ, true, List, [], ◌∷◌, ◌++◌, map, refl, sym, subst, inl, inr}
+use Rattle.std.proofs.Common.{◌≡◌, ℕ, Bool, true, false, List, [], ◌∷◌, ◌++◌, map, refl, sym, ap, subst, inl, inr}
 use Rattle.std.specs.Prelude.{Ok, Err, Option, None, Some, fold}
 use Rattle.std.specs.List.{flat_map}
 use Rattle.kql_functions.specs.Find.{found_as}
+use Rattle.kql_functions.specs.declared.func.Func.{Func}
 use Rattle.kql_functions.specs.declared.func.LogicFunc.TheVariants as logic
 use Rattle.kql_lexer.specs.declared.place.Place.{Place}
 use Rattle.kql_meaning.proofs.MemberLaws.{Member, contains-member, member-left, member-right}
 use Rattle.kql_meaning.specs.declared.position.Position.{Position}
 use Rattle.kql_syntax.specs.declared.tree.Access.TheOpen.{Access-F, And-F, Arg-F, Cmp-F, Expr-F, Post-F, Prod-F, Sign-F, Sum-F, Term-F}
-use Rattle.kql_syntax.specs.declared.tree.Access.{Access, fold-Access, fold-roll-Access, map-Access, roll-Access}
-use Rattle.kql_syntax.specs.declared.tree.Arg.{Arg, fold-Arg, fold-roll-Arg, map-Arg, roll-Arg}
-use Rattle.kql_syntax.specs.declared.tree.Cmp.{Cmp, fold-Cmp, fold-roll-Cmp, map-Cmp, roll-Cmp}
-use Rattle.kql_syntax.specs.declared.tree.Sign.{Sign, fold-Sign, fold-roll-Sign, map-Sign, roll-Sign}
-use Rattle.kql_syntax.specs.declared.tree.Term.{Term, fold-Term, fold-roll-Term, map-Term, roll-Term}
+use Rattle.kql_syntax.specs.declared.tree.Access.{Access, fold-Access, fold-roll-Access, para-roll-Access, map-Access, roll-Access}
+use Rattle.kql_syntax.specs.declared.tree.Arg.{Arg, fold-Arg, fold-roll-Arg, para-roll-Arg, map-Arg, roll-Arg}
+use Rattle.kql_syntax.specs.declared.tree.Cmp.{Cmp, fold-Cmp, fold-roll-Cmp, para-roll-Cmp, map-Cmp, roll-Cmp}
+use Rattle.kql_syntax.specs.declared.tree.Sign.{Sign, fold-Sign, fold-roll-Sign, para-roll-Sign, map-Sign, roll-Sign}
+use Rattle.kql_syntax.specs.declared.tree.Term.{Term, fold-Term, fold-roll-Term, para-roll-Term, map-Term, roll-Term}
 use Rattle.kql_syntax.specs.declared.tree.And.{And, fold-And, fold-roll-And, map-And, roll-And}
 use Rattle.kql_syntax.specs.declared.tree.Expr.{Expr, fold-roll-Expr, map-Expr, roll-Expr, ind-Expr}
 use Rattle.kql_syntax.specs.declared.tree.Post.{Post, fold-Post, fold-roll-Post, map-Post, roll-Post}
@@ -25,18 +26,20 @@ use Rattle.kql_syntax.specs.declared.tree.ProdSign.{ProdSign}
 use Rattle.kql_syntax.specs.declared.tree.SumSign.{SumSign}
 use Rattle.kql_syntax.specs.declared.tree.Word.{Word}
 use Rattle.bind_expr.specs.Arguments.{arg_link, first_slot, next_slot, no_args, plain_arg, taken}
-use Rattle.bind_expr.specs.Bound.{Binds, Look, Named, Takes, access_read, access_step, and_bound, and_step, arg_bound, arg_step, args_taken, bound_expr, call_bound, cmp_bound, cmp_step, entry_key, expr_bound, expr_step, first_spot, found_call, inside, negated, operand_link, path_from, path_of, post_bound, post_of, post_step, prod_bound, prod_sign, prod_step, sign_bound, sign_step, sum_bound, sum_sign, sum_step, term_read, term_step}
+use Rattle.bind_expr.specs.Bound.{Binds, Look, Named, Takes, access_read, access_step, and_bound, and_step, arg_bound, arg_step, args_taken, bound_expr, call_bound, call_or_extract, call_taken, cmp_bound, compare_or_match, cmp_step, entry_key, expr_bound, expr_step, first_spot, found_call, inside, negated, operand_link, path_from, path_of, post_bound, post_of, post_step, prod_bound, prod_sign, prod_step, sign_bound, sign_step, sum_bound, sum_sign, sum_step, term_read, term_step}
 use Rattle.bind_expr.specs.Chains.{chain_whole, chained_from, closed, linked, opened}
-use Rattle.bind_expr.specs.Comparisons.{bounded, compared, in_node, listed}
+use Rattle.bind_expr.specs.Comparisons.{bounded, compare_func, compared, in_node, listed}
 use Rattle.bind_expr.specs.Logic.{joined_from, terms_closed, terms_opened, terms_whole, with_term}
 use Rattle.bind_expr.specs.Names.{name_bound}
 use Rattle.bind_expr.specs.Outcome.{Outcome, ◌>>=◌}
+use Rattle.bind_expr.specs.Patterns.{extract_bound, is_extract, match_bound}
 use Rattle.bind_expr.specs.Paths.{looked_from, looked_whole, path_closed, path_opened, step_bound, step_named, with_look}
 use Rattle.bind_expr.specs.declared.fault.BindFault.TheVariants as fault
 use Rattle.bind_expr.specs.declared.scope.Scope.{Scope}
 use Rattle.bind_expr.specs.declared.typed.Typed.{Typed}
+use Rattle.bind_expr.proofs.RolledLaws.{and-rolled, call-rolled, expr-rolled, in-rolled, post-rolled, prod-rolled, sum-rolled}
 use Rattle.bind_expr_laws.specs.Places.{BoundIsPlaced, NameIsPlaced, Places, access_places_step, and_places_step, arg_places_step, cmp_places_step, expr_places, expr_places_step, name_place, places_of_all, post_places_step, prod_places_step, sign_places_step, sum_places_step, term_places_step}
-use Rattle.bind_expr_laws.proofs.PlaceSteps.{Each, ToldIn, Within, each-of, told-bounded, told-compared, told-fold, told-found, told-link, told-listed, told-literal, told-look, told-name, told-negated, told-ok, told-one, told-step, told-term, told-then, told-wide}
+use Rattle.bind_expr_laws.proofs.PlaceSteps.{Each, ToldIn, Within, each-of, told-bounded, told-compared, told-extract, told-fold, told-found, told-link, told-listed, told-literal, told-look, told-match, told-name, told-negated, told-ok, told-one, told-step, told-term, told-then, told-wide}
 use Rattle.bind_expr_laws.proofs.Shapes.{Args, Looked, Slot, Spot}
 
 -- The places of each level.
@@ -183,45 +186,45 @@ bare_sum g = g.0
 rolled : {Y : Type 0} (told : Places → Y → Type 0) (ps qs : Places) (b c : Y) → ps ≡ qs → b ≡ c → told qs c → told ps b
 rolled told ps qs b c e f h = subst (λ (x : Places). told x b) (sym e) (subst (λ (y : _). told qs y) (sym f) h)
 
-access-rolled : (y : Access-F Access Arg Cmp Sign Term And Expr Post Prod Sum) → LooksIn (access_places_step (map-Access Access Arg Cmp Sign Term And Expr Post Prod Sum Places Places Places Places Places Places Places Places Places Places access_places arg_places cmp_places sign_places term_places and_places expr_places post_places prod_places sum_places y)) (access_step (map-Access Access Arg Cmp Sign Term And Expr Post Prod Sum Look Takes Binds Binds Named Binds Binds Binds Binds Binds access_read arg_bound cmp_bound sign_bound term_read and_bound expr_bound post_bound prod_bound sum_bound y)) → ToldAccess (roll-Access y)
-unfolding access_places arg_places cmp_places sign_places term_places and_places expr_places post_places prod_places sum_places access_read arg_bound cmp_bound sign_bound term_read and_bound expr_bound post_bound prod_bound sum_bound
-access-rolled y = rolled LooksIn (access_places (roll-Access y)) (access_places_step (map-Access Access Arg Cmp Sign Term And Expr Post Prod Sum Places Places Places Places Places Places Places Places Places Places access_places arg_places cmp_places sign_places term_places and_places expr_places post_places prod_places sum_places y)) (access_read (roll-Access y)) (access_step (map-Access Access Arg Cmp Sign Term And Expr Post Prod Sum Look Takes Binds Binds Named Binds Binds Binds Binds Binds access_read arg_bound cmp_bound sign_bound term_read and_bound expr_bound post_bound prod_bound sum_bound y)) (fold-roll-Access Places Places Places Places Places Places Places Places Places Places access_places_step arg_places_step cmp_places_step sign_places_step term_places_step and_places_step expr_places_step post_places_step prod_places_step sum_places_step y) (fold-roll-Access Look Takes Binds Binds Named Binds Binds Binds Binds Binds access_step arg_step cmp_step sign_step term_step and_step expr_step post_step prod_step sum_step y)
+access-placed : (y : Access-F Access Arg Cmp Sign Term And Expr Post Prod Sum) (c : Look) → access_read (roll-Access y) ≡ c → LooksIn (access_places_step (map-Access Access Arg Cmp Sign Term And Expr Post Prod Sum Places Places Places Places Places Places Places Places Places Places access_places arg_places cmp_places sign_places term_places and_places expr_places post_places prod_places sum_places y)) c → ToldAccess (roll-Access y)
+unfolding access_places arg_places cmp_places sign_places term_places and_places expr_places post_places prod_places sum_places
+access-placed y c e h = rolled LooksIn (access_places (roll-Access y)) (access_places_step (map-Access Access Arg Cmp Sign Term And Expr Post Prod Sum Places Places Places Places Places Places Places Places Places Places access_places arg_places cmp_places sign_places term_places and_places expr_places post_places prod_places sum_places y)) (access_read (roll-Access y)) c (fold-roll-Access Places Places Places Places Places Places Places Places Places Places access_places_step arg_places_step cmp_places_step sign_places_step term_places_step and_places_step expr_places_step post_places_step prod_places_step sum_places_step y) e h
 
-arg-rolled : (y : Arg-F Access Arg Cmp Sign Term And Expr Post Prod Sum) → TakesIn (arg_places_step (map-Arg Access Arg Cmp Sign Term And Expr Post Prod Sum Places Places Places Places Places Places Places Places Places Places access_places arg_places cmp_places sign_places term_places and_places expr_places post_places prod_places sum_places y)) (arg_step (map-Arg Access Arg Cmp Sign Term And Expr Post Prod Sum Look Takes Binds Binds Named Binds Binds Binds Binds Binds access_read arg_bound cmp_bound sign_bound term_read and_bound expr_bound post_bound prod_bound sum_bound y)) → ToldArg (roll-Arg y)
-unfolding access_places arg_places cmp_places sign_places term_places and_places expr_places post_places prod_places sum_places access_read arg_bound cmp_bound sign_bound term_read and_bound expr_bound post_bound prod_bound sum_bound
-arg-rolled y = rolled TakesIn (arg_places (roll-Arg y)) (arg_places_step (map-Arg Access Arg Cmp Sign Term And Expr Post Prod Sum Places Places Places Places Places Places Places Places Places Places access_places arg_places cmp_places sign_places term_places and_places expr_places post_places prod_places sum_places y)) (arg_bound (roll-Arg y)) (arg_step (map-Arg Access Arg Cmp Sign Term And Expr Post Prod Sum Look Takes Binds Binds Named Binds Binds Binds Binds Binds access_read arg_bound cmp_bound sign_bound term_read and_bound expr_bound post_bound prod_bound sum_bound y)) (fold-roll-Arg Places Places Places Places Places Places Places Places Places Places access_places_step arg_places_step cmp_places_step sign_places_step term_places_step and_places_step expr_places_step post_places_step prod_places_step sum_places_step y) (fold-roll-Arg Look Takes Binds Binds Named Binds Binds Binds Binds Binds access_step arg_step cmp_step sign_step term_step and_step expr_step post_step prod_step sum_step y)
+arg-placed : (y : Arg-F Access Arg Cmp Sign Term And Expr Post Prod Sum) (scope : Scope) (at : Position) (c : Outcome (Option Typed)) → arg_bound (roll-Arg y) scope at ≡ c → ToldIn (arg_places_step (map-Arg Access Arg Cmp Sign Term And Expr Post Prod Sum Places Places Places Places Places Places Places Places Places Places access_places arg_places cmp_places sign_places term_places and_places expr_places post_places prod_places sum_places y)) c → ToldIn (arg_places (roll-Arg y)) (arg_bound (roll-Arg y) scope at)
+unfolding access_places arg_places cmp_places sign_places term_places and_places expr_places post_places prod_places sum_places
+arg-placed y scope at c e h = rolled ToldIn (arg_places (roll-Arg y)) (arg_places_step (map-Arg Access Arg Cmp Sign Term And Expr Post Prod Sum Places Places Places Places Places Places Places Places Places Places access_places arg_places cmp_places sign_places term_places and_places expr_places post_places prod_places sum_places y)) (arg_bound (roll-Arg y) scope at) c (fold-roll-Arg Places Places Places Places Places Places Places Places Places Places access_places_step arg_places_step cmp_places_step sign_places_step term_places_step and_places_step expr_places_step post_places_step prod_places_step sum_places_step y) e h
 
-cmp-rolled : (y : Cmp-F Access Arg Cmp Sign Term And Expr Post Prod Sum) → BindsIn (cmp_places_step (map-Cmp Access Arg Cmp Sign Term And Expr Post Prod Sum Places Places Places Places Places Places Places Places Places Places access_places arg_places cmp_places sign_places term_places and_places expr_places post_places prod_places sum_places y)) (cmp_step (map-Cmp Access Arg Cmp Sign Term And Expr Post Prod Sum Look Takes Binds Binds Named Binds Binds Binds Binds Binds access_read arg_bound cmp_bound sign_bound term_read and_bound expr_bound post_bound prod_bound sum_bound y)) → ToldCmp (roll-Cmp y)
-unfolding access_places arg_places cmp_places sign_places term_places and_places expr_places post_places prod_places sum_places access_read arg_bound cmp_bound sign_bound term_read and_bound expr_bound post_bound prod_bound sum_bound
-cmp-rolled y = rolled BindsIn (cmp_places (roll-Cmp y)) (cmp_places_step (map-Cmp Access Arg Cmp Sign Term And Expr Post Prod Sum Places Places Places Places Places Places Places Places Places Places access_places arg_places cmp_places sign_places term_places and_places expr_places post_places prod_places sum_places y)) (cmp_bound (roll-Cmp y)) (cmp_step (map-Cmp Access Arg Cmp Sign Term And Expr Post Prod Sum Look Takes Binds Binds Named Binds Binds Binds Binds Binds access_read arg_bound cmp_bound sign_bound term_read and_bound expr_bound post_bound prod_bound sum_bound y)) (fold-roll-Cmp Places Places Places Places Places Places Places Places Places Places access_places_step arg_places_step cmp_places_step sign_places_step term_places_step and_places_step expr_places_step post_places_step prod_places_step sum_places_step y) (fold-roll-Cmp Look Takes Binds Binds Named Binds Binds Binds Binds Binds access_step arg_step cmp_step sign_step term_step and_step expr_step post_step prod_step sum_step y)
+cmp-placed : (y : Cmp-F Access Arg Cmp Sign Term And Expr Post Prod Sum) (scope : Scope) (spot : Spot) (c : Outcome Typed) → cmp_bound (roll-Cmp y) scope spot ≡ c → ToldIn (cmp_places_step (map-Cmp Access Arg Cmp Sign Term And Expr Post Prod Sum Places Places Places Places Places Places Places Places Places Places access_places arg_places cmp_places sign_places term_places and_places expr_places post_places prod_places sum_places y)) c → ToldIn (cmp_places (roll-Cmp y)) (cmp_bound (roll-Cmp y) scope spot)
+unfolding access_places arg_places cmp_places sign_places term_places and_places expr_places post_places prod_places sum_places
+cmp-placed y scope spot c e h = rolled ToldIn (cmp_places (roll-Cmp y)) (cmp_places_step (map-Cmp Access Arg Cmp Sign Term And Expr Post Prod Sum Places Places Places Places Places Places Places Places Places Places access_places arg_places cmp_places sign_places term_places and_places expr_places post_places prod_places sum_places y)) (cmp_bound (roll-Cmp y) scope spot) c (fold-roll-Cmp Places Places Places Places Places Places Places Places Places Places access_places_step arg_places_step cmp_places_step sign_places_step term_places_step and_places_step expr_places_step post_places_step prod_places_step sum_places_step y) e h
 
-sign-rolled : (y : Sign-F Access Arg Cmp Sign Term And Expr Post Prod Sum) → BindsIn (sign_places_step (map-Sign Access Arg Cmp Sign Term And Expr Post Prod Sum Places Places Places Places Places Places Places Places Places Places access_places arg_places cmp_places sign_places term_places and_places expr_places post_places prod_places sum_places y)) (sign_step (map-Sign Access Arg Cmp Sign Term And Expr Post Prod Sum Look Takes Binds Binds Named Binds Binds Binds Binds Binds access_read arg_bound cmp_bound sign_bound term_read and_bound expr_bound post_bound prod_bound sum_bound y)) → ToldSign (roll-Sign y)
-unfolding access_places arg_places cmp_places sign_places term_places and_places expr_places post_places prod_places sum_places access_read arg_bound cmp_bound sign_bound term_read and_bound expr_bound post_bound prod_bound sum_bound
-sign-rolled y = rolled BindsIn (sign_places (roll-Sign y)) (sign_places_step (map-Sign Access Arg Cmp Sign Term And Expr Post Prod Sum Places Places Places Places Places Places Places Places Places Places access_places arg_places cmp_places sign_places term_places and_places expr_places post_places prod_places sum_places y)) (sign_bound (roll-Sign y)) (sign_step (map-Sign Access Arg Cmp Sign Term And Expr Post Prod Sum Look Takes Binds Binds Named Binds Binds Binds Binds Binds access_read arg_bound cmp_bound sign_bound term_read and_bound expr_bound post_bound prod_bound sum_bound y)) (fold-roll-Sign Places Places Places Places Places Places Places Places Places Places access_places_step arg_places_step cmp_places_step sign_places_step term_places_step and_places_step expr_places_step post_places_step prod_places_step sum_places_step y) (fold-roll-Sign Look Takes Binds Binds Named Binds Binds Binds Binds Binds access_step arg_step cmp_step sign_step term_step and_step expr_step post_step prod_step sum_step y)
+sign-placed : (y : Sign-F Access Arg Cmp Sign Term And Expr Post Prod Sum) (scope : Scope) (spot : Spot) (c : Outcome Typed) → sign_bound (roll-Sign y) scope spot ≡ c → ToldIn (sign_places_step (map-Sign Access Arg Cmp Sign Term And Expr Post Prod Sum Places Places Places Places Places Places Places Places Places Places access_places arg_places cmp_places sign_places term_places and_places expr_places post_places prod_places sum_places y)) c → ToldIn (sign_places (roll-Sign y)) (sign_bound (roll-Sign y) scope spot)
+unfolding access_places arg_places cmp_places sign_places term_places and_places expr_places post_places prod_places sum_places
+sign-placed y scope spot c e h = rolled ToldIn (sign_places (roll-Sign y)) (sign_places_step (map-Sign Access Arg Cmp Sign Term And Expr Post Prod Sum Places Places Places Places Places Places Places Places Places Places access_places arg_places cmp_places sign_places term_places and_places expr_places post_places prod_places sum_places y)) (sign_bound (roll-Sign y) scope spot) c (fold-roll-Sign Places Places Places Places Places Places Places Places Places Places access_places_step arg_places_step cmp_places_step sign_places_step term_places_step and_places_step expr_places_step post_places_step prod_places_step sum_places_step y) e h
 
-term-rolled : (y : Term-F Access Arg Cmp Sign Term And Expr Post Prod Sum) → NamedIn (term_places_step (map-Term Access Arg Cmp Sign Term And Expr Post Prod Sum Places Places Places Places Places Places Places Places Places Places access_places arg_places cmp_places sign_places term_places and_places expr_places post_places prod_places sum_places y)) (term_step (map-Term Access Arg Cmp Sign Term And Expr Post Prod Sum Look Takes Binds Binds Named Binds Binds Binds Binds Binds access_read arg_bound cmp_bound sign_bound term_read and_bound expr_bound post_bound prod_bound sum_bound y)) → ToldTerm (roll-Term y)
-unfolding access_places arg_places cmp_places sign_places term_places and_places expr_places post_places prod_places sum_places access_read arg_bound cmp_bound sign_bound term_read and_bound expr_bound post_bound prod_bound sum_bound
-term-rolled y = rolled NamedIn (term_places (roll-Term y)) (term_places_step (map-Term Access Arg Cmp Sign Term And Expr Post Prod Sum Places Places Places Places Places Places Places Places Places Places access_places arg_places cmp_places sign_places term_places and_places expr_places post_places prod_places sum_places y)) (term_read (roll-Term y)) (term_step (map-Term Access Arg Cmp Sign Term And Expr Post Prod Sum Look Takes Binds Binds Named Binds Binds Binds Binds Binds access_read arg_bound cmp_bound sign_bound term_read and_bound expr_bound post_bound prod_bound sum_bound y)) (fold-roll-Term Places Places Places Places Places Places Places Places Places Places access_places_step arg_places_step cmp_places_step sign_places_step term_places_step and_places_step expr_places_step post_places_step prod_places_step sum_places_step y) (fold-roll-Term Look Takes Binds Binds Named Binds Binds Binds Binds Binds access_step arg_step cmp_step sign_step term_step and_step expr_step post_step prod_step sum_step y)
+term-placed : (y : Term-F Access Arg Cmp Sign Term And Expr Post Prod Sum) (c : Named) → term_read (roll-Term y) ≡ c → NamedIn (term_places_step (map-Term Access Arg Cmp Sign Term And Expr Post Prod Sum Places Places Places Places Places Places Places Places Places Places access_places arg_places cmp_places sign_places term_places and_places expr_places post_places prod_places sum_places y)) c → ToldTerm (roll-Term y)
+unfolding access_places arg_places cmp_places sign_places term_places and_places expr_places post_places prod_places sum_places
+term-placed y c e h = rolled NamedIn (term_places (roll-Term y)) (term_places_step (map-Term Access Arg Cmp Sign Term And Expr Post Prod Sum Places Places Places Places Places Places Places Places Places Places access_places arg_places cmp_places sign_places term_places and_places expr_places post_places prod_places sum_places y)) (term_read (roll-Term y)) c (fold-roll-Term Places Places Places Places Places Places Places Places Places Places access_places_step arg_places_step cmp_places_step sign_places_step term_places_step and_places_step expr_places_step post_places_step prod_places_step sum_places_step y) e h
 
-and-rolled : (y : And-F Access Arg Cmp Sign Term And Expr Post Prod Sum) → BindsIn (and_places_step (map-And Access Arg Cmp Sign Term And Expr Post Prod Sum Places Places Places Places Places Places Places Places Places Places access_places arg_places cmp_places sign_places term_places and_places expr_places post_places prod_places sum_places y)) (and_step (map-And Access Arg Cmp Sign Term And Expr Post Prod Sum Look Takes Binds Binds Named Binds Binds Binds Binds Binds access_read arg_bound cmp_bound sign_bound term_read and_bound expr_bound post_bound prod_bound sum_bound y)) → ToldAnd (roll-And y)
-unfolding access_places arg_places cmp_places sign_places term_places and_places expr_places post_places prod_places sum_places access_read arg_bound cmp_bound sign_bound term_read and_bound expr_bound post_bound prod_bound sum_bound
-and-rolled y = rolled BindsIn (and_places (roll-And y)) (and_places_step (map-And Access Arg Cmp Sign Term And Expr Post Prod Sum Places Places Places Places Places Places Places Places Places Places access_places arg_places cmp_places sign_places term_places and_places expr_places post_places prod_places sum_places y)) (and_bound (roll-And y)) (and_step (map-And Access Arg Cmp Sign Term And Expr Post Prod Sum Look Takes Binds Binds Named Binds Binds Binds Binds Binds access_read arg_bound cmp_bound sign_bound term_read and_bound expr_bound post_bound prod_bound sum_bound y)) (fold-roll-And Places Places Places Places Places Places Places Places Places Places access_places_step arg_places_step cmp_places_step sign_places_step term_places_step and_places_step expr_places_step post_places_step prod_places_step sum_places_step y) (fold-roll-And Look Takes Binds Binds Named Binds Binds Binds Binds Binds access_step arg_step cmp_step sign_step term_step and_step expr_step post_step prod_step sum_step y)
+and-placed : (y : And-F Access Arg Cmp Sign Term And Expr Post Prod Sum) (scope : Scope) (spot : Spot) (c : Outcome Typed) → and_bound (roll-And y) scope spot ≡ c → ToldIn (and_places_step (map-And Access Arg Cmp Sign Term And Expr Post Prod Sum Places Places Places Places Places Places Places Places Places Places access_places arg_places cmp_places sign_places term_places and_places expr_places post_places prod_places sum_places y)) c → ToldIn (and_places (roll-And y)) (and_bound (roll-And y) scope spot)
+unfolding access_places arg_places cmp_places sign_places term_places and_places expr_places post_places prod_places sum_places
+and-placed y scope spot c e h = rolled ToldIn (and_places (roll-And y)) (and_places_step (map-And Access Arg Cmp Sign Term And Expr Post Prod Sum Places Places Places Places Places Places Places Places Places Places access_places arg_places cmp_places sign_places term_places and_places expr_places post_places prod_places sum_places y)) (and_bound (roll-And y) scope spot) c (fold-roll-And Places Places Places Places Places Places Places Places Places Places access_places_step arg_places_step cmp_places_step sign_places_step term_places_step and_places_step expr_places_step post_places_step prod_places_step sum_places_step y) e h
 
-expr-rolled : (y : Expr-F Access Arg Cmp Sign Term And Expr Post Prod Sum) → BindsIn (expr_places_step (map-Expr Access Arg Cmp Sign Term And Expr Post Prod Sum Places Places Places Places Places Places Places Places Places Places access_places arg_places cmp_places sign_places term_places and_places expr_places post_places prod_places sum_places y)) (expr_step (map-Expr Access Arg Cmp Sign Term And Expr Post Prod Sum Look Takes Binds Binds Named Binds Binds Binds Binds Binds access_read arg_bound cmp_bound sign_bound term_read and_bound expr_bound post_bound prod_bound sum_bound y)) → ToldExpr (roll-Expr y)
-unfolding access_places arg_places cmp_places sign_places term_places and_places expr_places post_places prod_places sum_places access_read arg_bound cmp_bound sign_bound term_read and_bound expr_bound post_bound prod_bound sum_bound
-expr-rolled y = rolled BindsIn (expr_places (roll-Expr y)) (expr_places_step (map-Expr Access Arg Cmp Sign Term And Expr Post Prod Sum Places Places Places Places Places Places Places Places Places Places access_places arg_places cmp_places sign_places term_places and_places expr_places post_places prod_places sum_places y)) (expr_bound (roll-Expr y)) (expr_step (map-Expr Access Arg Cmp Sign Term And Expr Post Prod Sum Look Takes Binds Binds Named Binds Binds Binds Binds Binds access_read arg_bound cmp_bound sign_bound term_read and_bound expr_bound post_bound prod_bound sum_bound y)) (fold-roll-Expr Places Places Places Places Places Places Places Places Places Places access_places_step arg_places_step cmp_places_step sign_places_step term_places_step and_places_step expr_places_step post_places_step prod_places_step sum_places_step y) (fold-roll-Expr Look Takes Binds Binds Named Binds Binds Binds Binds Binds access_step arg_step cmp_step sign_step term_step and_step expr_step post_step prod_step sum_step y)
+expr-placed : (y : Expr-F Access Arg Cmp Sign Term And Expr Post Prod Sum) (scope : Scope) (spot : Spot) (c : Outcome Typed) → expr_bound (roll-Expr y) scope spot ≡ c → ToldIn (expr_places_step (map-Expr Access Arg Cmp Sign Term And Expr Post Prod Sum Places Places Places Places Places Places Places Places Places Places access_places arg_places cmp_places sign_places term_places and_places expr_places post_places prod_places sum_places y)) c → ToldIn (expr_places (roll-Expr y)) (expr_bound (roll-Expr y) scope spot)
+unfolding access_places arg_places cmp_places sign_places term_places and_places expr_places post_places prod_places sum_places
+expr-placed y scope spot c e h = rolled ToldIn (expr_places (roll-Expr y)) (expr_places_step (map-Expr Access Arg Cmp Sign Term And Expr Post Prod Sum Places Places Places Places Places Places Places Places Places Places access_places arg_places cmp_places sign_places term_places and_places expr_places post_places prod_places sum_places y)) (expr_bound (roll-Expr y) scope spot) c (fold-roll-Expr Places Places Places Places Places Places Places Places Places Places access_places_step arg_places_step cmp_places_step sign_places_step term_places_step and_places_step expr_places_step post_places_step prod_places_step sum_places_step y) e h
 
-post-rolled : (y : Post-F Access Arg Cmp Sign Term And Expr Post Prod Sum) → BindsIn (post_places_step (map-Post Access Arg Cmp Sign Term And Expr Post Prod Sum Places Places Places Places Places Places Places Places Places Places access_places arg_places cmp_places sign_places term_places and_places expr_places post_places prod_places sum_places y)) (post_step (map-Post Access Arg Cmp Sign Term And Expr Post Prod Sum Look Takes Binds Binds Named Binds Binds Binds Binds Binds access_read arg_bound cmp_bound sign_bound term_read and_bound expr_bound post_bound prod_bound sum_bound y)) → ToldPost (roll-Post y)
-unfolding access_places arg_places cmp_places sign_places term_places and_places expr_places post_places prod_places sum_places access_read arg_bound cmp_bound sign_bound term_read and_bound expr_bound post_bound prod_bound sum_bound
-post-rolled y = rolled BindsIn (post_places (roll-Post y)) (post_places_step (map-Post Access Arg Cmp Sign Term And Expr Post Prod Sum Places Places Places Places Places Places Places Places Places Places access_places arg_places cmp_places sign_places term_places and_places expr_places post_places prod_places sum_places y)) (post_bound (roll-Post y)) (post_step (map-Post Access Arg Cmp Sign Term And Expr Post Prod Sum Look Takes Binds Binds Named Binds Binds Binds Binds Binds access_read arg_bound cmp_bound sign_bound term_read and_bound expr_bound post_bound prod_bound sum_bound y)) (fold-roll-Post Places Places Places Places Places Places Places Places Places Places access_places_step arg_places_step cmp_places_step sign_places_step term_places_step and_places_step expr_places_step post_places_step prod_places_step sum_places_step y) (fold-roll-Post Look Takes Binds Binds Named Binds Binds Binds Binds Binds access_step arg_step cmp_step sign_step term_step and_step expr_step post_step prod_step sum_step y)
+post-placed : (y : Post-F Access Arg Cmp Sign Term And Expr Post Prod Sum) (scope : Scope) (spot : Spot) (c : Outcome Typed) → post_bound (roll-Post y) scope spot ≡ c → ToldIn (post_places_step (map-Post Access Arg Cmp Sign Term And Expr Post Prod Sum Places Places Places Places Places Places Places Places Places Places access_places arg_places cmp_places sign_places term_places and_places expr_places post_places prod_places sum_places y)) c → ToldIn (post_places (roll-Post y)) (post_bound (roll-Post y) scope spot)
+unfolding access_places arg_places cmp_places sign_places term_places and_places expr_places post_places prod_places sum_places
+post-placed y scope spot c e h = rolled ToldIn (post_places (roll-Post y)) (post_places_step (map-Post Access Arg Cmp Sign Term And Expr Post Prod Sum Places Places Places Places Places Places Places Places Places Places access_places arg_places cmp_places sign_places term_places and_places expr_places post_places prod_places sum_places y)) (post_bound (roll-Post y) scope spot) c (fold-roll-Post Places Places Places Places Places Places Places Places Places Places access_places_step arg_places_step cmp_places_step sign_places_step term_places_step and_places_step expr_places_step post_places_step prod_places_step sum_places_step y) e h
 
-prod-rolled : (y : Prod-F Access Arg Cmp Sign Term And Expr Post Prod Sum) → BindsIn (prod_places_step (map-Prod Access Arg Cmp Sign Term And Expr Post Prod Sum Places Places Places Places Places Places Places Places Places Places access_places arg_places cmp_places sign_places term_places and_places expr_places post_places prod_places sum_places y)) (prod_step (map-Prod Access Arg Cmp Sign Term And Expr Post Prod Sum Look Takes Binds Binds Named Binds Binds Binds Binds Binds access_read arg_bound cmp_bound sign_bound term_read and_bound expr_bound post_bound prod_bound sum_bound y)) → ToldProd (roll-Prod y)
-unfolding access_places arg_places cmp_places sign_places term_places and_places expr_places post_places prod_places sum_places access_read arg_bound cmp_bound sign_bound term_read and_bound expr_bound post_bound prod_bound sum_bound
-prod-rolled y = rolled BindsIn (prod_places (roll-Prod y)) (prod_places_step (map-Prod Access Arg Cmp Sign Term And Expr Post Prod Sum Places Places Places Places Places Places Places Places Places Places access_places arg_places cmp_places sign_places term_places and_places expr_places post_places prod_places sum_places y)) (prod_bound (roll-Prod y)) (prod_step (map-Prod Access Arg Cmp Sign Term And Expr Post Prod Sum Look Takes Binds Binds Named Binds Binds Binds Binds Binds access_read arg_bound cmp_bound sign_bound term_read and_bound expr_bound post_bound prod_bound sum_bound y)) (fold-roll-Prod Places Places Places Places Places Places Places Places Places Places access_places_step arg_places_step cmp_places_step sign_places_step term_places_step and_places_step expr_places_step post_places_step prod_places_step sum_places_step y) (fold-roll-Prod Look Takes Binds Binds Named Binds Binds Binds Binds Binds access_step arg_step cmp_step sign_step term_step and_step expr_step post_step prod_step sum_step y)
+prod-placed : (y : Prod-F Access Arg Cmp Sign Term And Expr Post Prod Sum) (scope : Scope) (spot : Spot) (c : Outcome Typed) → prod_bound (roll-Prod y) scope spot ≡ c → ToldIn (prod_places_step (map-Prod Access Arg Cmp Sign Term And Expr Post Prod Sum Places Places Places Places Places Places Places Places Places Places access_places arg_places cmp_places sign_places term_places and_places expr_places post_places prod_places sum_places y)) c → ToldIn (prod_places (roll-Prod y)) (prod_bound (roll-Prod y) scope spot)
+unfolding access_places arg_places cmp_places sign_places term_places and_places expr_places post_places prod_places sum_places
+prod-placed y scope spot c e h = rolled ToldIn (prod_places (roll-Prod y)) (prod_places_step (map-Prod Access Arg Cmp Sign Term And Expr Post Prod Sum Places Places Places Places Places Places Places Places Places Places access_places arg_places cmp_places sign_places term_places and_places expr_places post_places prod_places sum_places y)) (prod_bound (roll-Prod y) scope spot) c (fold-roll-Prod Places Places Places Places Places Places Places Places Places Places access_places_step arg_places_step cmp_places_step sign_places_step term_places_step and_places_step expr_places_step post_places_step prod_places_step sum_places_step y) e h
 
-sum-rolled : (y : Sum-F Access Arg Cmp Sign Term And Expr Post Prod Sum) → BindsIn (sum_places_step (map-Sum Access Arg Cmp Sign Term And Expr Post Prod Sum Places Places Places Places Places Places Places Places Places Places access_places arg_places cmp_places sign_places term_places and_places expr_places post_places prod_places sum_places y)) (sum_step (map-Sum Access Arg Cmp Sign Term And Expr Post Prod Sum Look Takes Binds Binds Named Binds Binds Binds Binds Binds access_read arg_bound cmp_bound sign_bound term_read and_bound expr_bound post_bound prod_bound sum_bound y)) → ToldSum (roll-Sum y)
-unfolding access_places arg_places cmp_places sign_places term_places and_places expr_places post_places prod_places sum_places access_read arg_bound cmp_bound sign_bound term_read and_bound expr_bound post_bound prod_bound sum_bound
-sum-rolled y = rolled BindsIn (sum_places (roll-Sum y)) (sum_places_step (map-Sum Access Arg Cmp Sign Term And Expr Post Prod Sum Places Places Places Places Places Places Places Places Places Places access_places arg_places cmp_places sign_places term_places and_places expr_places post_places prod_places sum_places y)) (sum_bound (roll-Sum y)) (sum_step (map-Sum Access Arg Cmp Sign Term And Expr Post Prod Sum Look Takes Binds Binds Named Binds Binds Binds Binds Binds access_read arg_bound cmp_bound sign_bound term_read and_bound expr_bound post_bound prod_bound sum_bound y)) (fold-roll-Sum Places Places Places Places Places Places Places Places Places Places access_places_step arg_places_step cmp_places_step sign_places_step term_places_step and_places_step expr_places_step post_places_step prod_places_step sum_places_step y) (fold-roll-Sum Look Takes Binds Binds Named Binds Binds Binds Binds Binds access_step arg_step cmp_step sign_step term_step and_step expr_step post_step prod_step sum_step y)
+sum-placed : (y : Sum-F Access Arg Cmp Sign Term And Expr Post Prod Sum) (scope : Scope) (spot : Spot) (c : Outcome Typed) → sum_bound (roll-Sum y) scope spot ≡ c → ToldIn (sum_places_step (map-Sum Access Arg Cmp Sign Term And Expr Post Prod Sum Places Places Places Places Places Places Places Places Places Places access_places arg_places cmp_places sign_places term_places and_places expr_places post_places prod_places sum_places y)) c → ToldIn (sum_places (roll-Sum y)) (sum_bound (roll-Sum y) scope spot)
+unfolding access_places arg_places cmp_places sign_places term_places and_places expr_places post_places prod_places sum_places
+sum-placed y scope spot c e h = rolled ToldIn (sum_places (roll-Sum y)) (sum_places_step (map-Sum Access Arg Cmp Sign Term And Expr Post Prod Sum Places Places Places Places Places Places Places Places Places Places access_places arg_places cmp_places sign_places term_places and_places expr_places post_places prod_places sum_places y)) (sum_bound (roll-Sum y) scope spot) c (fold-roll-Sum Places Places Places Places Places Places Places Places Places Places access_places_step arg_places_step cmp_places_step sign_places_step term_places_step and_places_step expr_places_step post_places_step prod_places_step sum_places_step y) e h
 
 -- Lists of parts.
 
@@ -264,38 +267,42 @@ told-joined {S = S} {X = X} {B = B} bound places at begin join close joins first
 
 of-expr : (y : Expr-F GivenAccess GivenArg GivenCmp GivenSign GivenTerm GivenAnd GivenExpr GivenPost GivenProd GivenSum) → ToldExpr (roll-Expr (map-Expr GivenAccess GivenArg GivenCmp GivenSign GivenTerm GivenAnd GivenExpr GivenPost GivenProd GivenSum Access Arg Cmp Sign Term And Expr Post Prod Sum bare_access bare_arg bare_cmp bare_sign bare_term bare_and bare_expr bare_post bare_prod bare_sum y))
 unfolding bare_access bare_arg bare_cmp bare_sign bare_term bare_and bare_expr bare_post bare_prod bare_sum terms_opened terms_closed
-of-expr y =
-    expr-rolled (map-Expr GivenAccess GivenArg GivenCmp GivenSign GivenTerm GivenAnd GivenExpr GivenPost GivenProd GivenSum Access Arg Cmp Sign Term And Expr Post Prod Sum bare_access bare_arg bare_cmp bare_sign bare_term bare_and bare_expr bare_post bare_prod bare_sum y)
-    (λ scope spot. told-joined and_bound and_places (λ (s : Place). s) joined_from (λ (s : Place). with_term logic.Or s) (terms_whole logic.Or) (λ s b t. told-term logic.Or s b t) y.first.0 y.first.1 y.more scope (first_spot (map {B = Place × Binds} (λ (l : Place × And). (l.0, and_bound l.1)) (map {B = Place × And} (λ (l : Place × GivenAnd). (l.0, l.1.0)) y.more)) spot) (inside spot.position))
+of-expr y scope spot =
+    expr-placed (map-Expr GivenAccess GivenArg GivenCmp GivenSign GivenTerm GivenAnd GivenExpr GivenPost GivenProd GivenSum Access Arg Cmp Sign Term And Expr Post Prod Sum bare_access bare_arg bare_cmp bare_sign bare_term bare_and bare_expr bare_post bare_prod bare_sum y) scope spot _ (expr-rolled (map-Expr GivenAccess GivenArg GivenCmp GivenSign GivenTerm GivenAnd GivenExpr GivenPost GivenProd GivenSum Access Arg Cmp Sign Term And Expr Post Prod Sum bare_access bare_arg bare_cmp bare_sign bare_term bare_and bare_expr bare_post bare_prod bare_sum y) scope spot)
+    (told-joined and_bound and_places (λ (s : Place). s) joined_from (λ (s : Place). with_term logic.Or s) (terms_whole logic.Or) (λ s b t. told-term logic.Or s b t) y.first.0 y.first.1 y.more scope (first_spot (map {B = Place × Binds} (λ (l : Place × And). (l.0, and_bound l.1)) (map {B = Place × And} (λ (l : Place × GivenAnd). (l.0, l.1.0)) y.more)) spot) (inside spot.position))
 
 of-and : (y : And-F GivenAccess GivenArg GivenCmp GivenSign GivenTerm GivenAnd GivenExpr GivenPost GivenProd GivenSum) → ToldAnd (roll-And (map-And GivenAccess GivenArg GivenCmp GivenSign GivenTerm GivenAnd GivenExpr GivenPost GivenProd GivenSum Access Arg Cmp Sign Term And Expr Post Prod Sum bare_access bare_arg bare_cmp bare_sign bare_term bare_and bare_expr bare_post bare_prod bare_sum y))
 unfolding bare_access bare_arg bare_cmp bare_sign bare_term bare_and bare_expr bare_post bare_prod bare_sum terms_opened terms_closed
-of-and y =
-    and-rolled (map-And GivenAccess GivenArg GivenCmp GivenSign GivenTerm GivenAnd GivenExpr GivenPost GivenProd GivenSum Access Arg Cmp Sign Term And Expr Post Prod Sum bare_access bare_arg bare_cmp bare_sign bare_term bare_and bare_expr bare_post bare_prod bare_sum y)
-    (λ scope spot. told-joined cmp_bound cmp_places (λ (s : Place). s) joined_from (λ (s : Place). with_term logic.And s) (terms_whole logic.And) (λ s b t. told-term logic.And s b t) y.first.0 y.first.1 y.more scope (first_spot (map {B = Place × Binds} (λ (l : Place × Cmp). (l.0, cmp_bound l.1)) (map {B = Place × Cmp} (λ (l : Place × GivenCmp). (l.0, l.1.0)) y.more)) spot) (inside spot.position))
+of-and y scope spot =
+    and-placed (map-And GivenAccess GivenArg GivenCmp GivenSign GivenTerm GivenAnd GivenExpr GivenPost GivenProd GivenSum Access Arg Cmp Sign Term And Expr Post Prod Sum bare_access bare_arg bare_cmp bare_sign bare_term bare_and bare_expr bare_post bare_prod bare_sum y) scope spot _ (and-rolled (map-And GivenAccess GivenArg GivenCmp GivenSign GivenTerm GivenAnd GivenExpr GivenPost GivenProd GivenSum Access Arg Cmp Sign Term And Expr Post Prod Sum bare_access bare_arg bare_cmp bare_sign bare_term bare_and bare_expr bare_post bare_prod bare_sum y) scope spot)
+    (told-joined cmp_bound cmp_places (λ (s : Place). s) joined_from (λ (s : Place). with_term logic.And s) (terms_whole logic.And) (λ s b t. told-term logic.And s b t) y.first.0 y.first.1 y.more scope (first_spot (map {B = Place × Binds} (λ (l : Place × Cmp). (l.0, cmp_bound l.1)) (map {B = Place × Cmp} (λ (l : Place × GivenCmp). (l.0, l.1.0)) y.more)) spot) (inside spot.position))
 
 of-sum : (y : Sum-F GivenAccess GivenArg GivenCmp GivenSign GivenTerm GivenAnd GivenExpr GivenPost GivenProd GivenSum) → ToldSum (roll-Sum (map-Sum GivenAccess GivenArg GivenCmp GivenSign GivenTerm GivenAnd GivenExpr GivenPost GivenProd GivenSum Access Arg Cmp Sign Term And Expr Post Prod Sum bare_access bare_arg bare_cmp bare_sign bare_term bare_and bare_expr bare_post bare_prod bare_sum y))
 unfolding bare_access bare_arg bare_cmp bare_sign bare_term bare_and bare_expr bare_post bare_prod bare_sum opened closed
-of-sum y =
-    sum-rolled (map-Sum GivenAccess GivenArg GivenCmp GivenSign GivenTerm GivenAnd GivenExpr GivenPost GivenProd GivenSum Access Arg Cmp Sign Term And Expr Post Prod Sum bare_access bare_arg bare_cmp bare_sign bare_term bare_and bare_expr bare_post bare_prod bare_sum y)
-    (λ scope spot. told-joined prod_bound prod_places (λ (s : SumSign). s.place) chained_from (λ (s : SumSign). linked (sum_sign s.op) s.place) chain_whole (λ s b t. told-link (sum_sign s.op) s.place b t) y.first.0 y.first.1 y.more scope (first_spot (map {B = SumSign × Binds} (λ (l : SumSign × Prod). (l.0, prod_bound l.1)) (map {B = SumSign × Prod} (λ (l : SumSign × GivenProd). (l.0, l.1.0)) y.more)) spot) (inside spot.position))
+of-sum y scope spot =
+    sum-placed (map-Sum GivenAccess GivenArg GivenCmp GivenSign GivenTerm GivenAnd GivenExpr GivenPost GivenProd GivenSum Access Arg Cmp Sign Term And Expr Post Prod Sum bare_access bare_arg bare_cmp bare_sign bare_term bare_and bare_expr bare_post bare_prod bare_sum y) scope spot _ (sum-rolled (map-Sum GivenAccess GivenArg GivenCmp GivenSign GivenTerm GivenAnd GivenExpr GivenPost GivenProd GivenSum Access Arg Cmp Sign Term And Expr Post Prod Sum bare_access bare_arg bare_cmp bare_sign bare_term bare_and bare_expr bare_post bare_prod bare_sum y) scope spot)
+    (told-joined prod_bound prod_places (λ (s : SumSign). s.place) chained_from (λ (s : SumSign). linked (sum_sign s.op) s.place) chain_whole (λ s b t. told-link (sum_sign s.op) s.place b t) y.first.0 y.first.1 y.more scope (first_spot (map {B = SumSign × Binds} (λ (l : SumSign × Prod). (l.0, prod_bound l.1)) (map {B = SumSign × Prod} (λ (l : SumSign × GivenProd). (l.0, l.1.0)) y.more)) spot) (inside spot.position))
 
 of-prod : (y : Prod-F GivenAccess GivenArg GivenCmp GivenSign GivenTerm GivenAnd GivenExpr GivenPost GivenProd GivenSum) → ToldProd (roll-Prod (map-Prod GivenAccess GivenArg GivenCmp GivenSign GivenTerm GivenAnd GivenExpr GivenPost GivenProd GivenSum Access Arg Cmp Sign Term And Expr Post Prod Sum bare_access bare_arg bare_cmp bare_sign bare_term bare_and bare_expr bare_post bare_prod bare_sum y))
 unfolding bare_access bare_arg bare_cmp bare_sign bare_term bare_and bare_expr bare_post bare_prod bare_sum opened closed
-of-prod y =
-    prod-rolled (map-Prod GivenAccess GivenArg GivenCmp GivenSign GivenTerm GivenAnd GivenExpr GivenPost GivenProd GivenSum Access Arg Cmp Sign Term And Expr Post Prod Sum bare_access bare_arg bare_cmp bare_sign bare_term bare_and bare_expr bare_post bare_prod bare_sum y)
-    (λ scope spot. told-joined sign_bound sign_places (λ (s : ProdSign). s.place) chained_from (λ (s : ProdSign). linked (prod_sign s.op) s.place) chain_whole (λ s b t. told-link (prod_sign s.op) s.place b t) y.first.0 y.first.1 y.more scope (first_spot (map {B = ProdSign × Binds} (λ (l : ProdSign × Sign). (l.0, sign_bound l.1)) (map {B = ProdSign × Sign} (λ (l : ProdSign × GivenSign). (l.0, l.1.0)) y.more)) spot) (inside spot.position))
+of-prod y scope spot =
+    prod-placed (map-Prod GivenAccess GivenArg GivenCmp GivenSign GivenTerm GivenAnd GivenExpr GivenPost GivenProd GivenSum Access Arg Cmp Sign Term And Expr Post Prod Sum bare_access bare_arg bare_cmp bare_sign bare_term bare_and bare_expr bare_post bare_prod bare_sum y) scope spot _ (prod-rolled (map-Prod GivenAccess GivenArg GivenCmp GivenSign GivenTerm GivenAnd GivenExpr GivenPost GivenProd GivenSum Access Arg Cmp Sign Term And Expr Post Prod Sum bare_access bare_arg bare_cmp bare_sign bare_term bare_and bare_expr bare_post bare_prod bare_sum y) scope spot)
+    (told-joined sign_bound sign_places (λ (s : ProdSign). s.place) chained_from (λ (s : ProdSign). linked (prod_sign s.op) s.place) chain_whole (λ s b t. told-link (prod_sign s.op) s.place b t) y.first.0 y.first.1 y.more scope (first_spot (map {B = ProdSign × Binds} (λ (l : ProdSign × Sign). (l.0, sign_bound l.1)) (map {B = ProdSign × Sign} (λ (l : ProdSign × GivenSign). (l.0, l.1.0)) y.more)) spot) (inside spot.position))
 
 -- Comparisons.
 
-told-compare : (s b : GivenSum) (sign : CompareSign) (scope : Scope) (at : Spot) → ToldIn (sum_places s.0 ++ sign.place ∷ sum_places b.0) (sum_bound s.0 scope at >>= λ l. sum_bound b.0 scope at >>= λ r. compared sign l r)
-told-compare s b sign scope at =
+told-compare : (f : Func) (s b : GivenSum) (sign : CompareSign) (scope : Scope) (at : Spot) → ToldIn (sum_places s.0 ++ sign.place ∷ sum_places b.0) (sum_bound s.0 scope at >>= λ l. sum_bound b.0 scope at >>= λ r. compared f sign l r)
+told-compare f s b sign scope at =
     let ps : Places = sum_places s.0 in
     let qs : Places = sum_places b.0 in
     let all : Places = ps ++ sign.place ∷ qs in
-    told-then all (sum_bound s.0 scope at) (λ (l : Typed). sum_bound b.0 scope at >>= λ r. compared sign l r) (told-wide ps all (sum_bound s.0 scope at) (left-of ps sign.place qs) (s.1 scope at))
-    (λ l. told-then all (sum_bound b.0 scope at) (λ (r : Typed). compared sign l r) (told-wide qs all (sum_bound b.0 scope at) (right-of ps sign.place qs) (b.1 scope at))
-    (λ r. told-one sign.place all (compared sign l r) (sign-of ps sign.place qs) (told-compared sign l r)))
+    told-then all (sum_bound s.0 scope at) (λ (l : Typed). sum_bound b.0 scope at >>= λ r. compared f sign l r) (told-wide ps all (sum_bound s.0 scope at) (left-of ps sign.place qs) (s.1 scope at))
+    (λ l. told-then all (sum_bound b.0 scope at) (λ (r : Typed). compared f sign l r) (told-wide qs all (sum_bound b.0 scope at) (right-of ps sign.place qs) (b.1 scope at))
+    (λ r. told-one sign.place all (compared f sign l r) (sign-of ps sign.place qs) (told-compared f sign l r)))
+
+told-compare-or-match : (s b : GivenSum) (sign : CompareSign) (scope : Scope) (spot : Spot) (o : Option Func) → ToldIn (sum_places s.0 ++ sign.place ∷ sum_places b.0) (compare_or_match (s.0, sum_bound s.0) sign (b.0, sum_bound b.0) scope spot o)
+told-compare-or-match s b sign scope spot None = told-one sign.place (sum_places s.0 ++ sign.place ∷ sum_places b.0) (match_bound sign.place scope s.0 b.0) (sign-of (sum_places s.0) sign.place (sum_places b.0)) (told-match sign.place scope s.0 b.0)
+told-compare-or-match s b sign scope spot (Some f) = told-compare f s b sign scope (inside spot.position)
 
 told-in : (s : GivenSum) (sign : InSign) (es : List GivenExpr) (scope : Scope) (at : Spot) → ToldIn (sum_places s.0 ++ sign.place ∷ places_of_all (map expr_places (map (λ (g : GivenExpr). g.0) es))) (in_node sign (fold (λ (before : Outcome (List Typed)) (e : Binds). before >>= λ ts. e scope at >>= λ t. Ok (ts ++ t ∷ [])) (operand_link (Ok []) (sum_bound s.0 scope at)) (map expr_bound (map (λ (g : GivenExpr). g.0) es))))
 told-in s sign es scope at =
@@ -326,11 +333,11 @@ told-between s a b sign scope at =
     (λ high. told-one sign.place all (bounded sign x low high) (sign-of ps sign.place qs) (told-bounded sign x low high))))
 
 of-cmp : (y : Cmp-F GivenAccess GivenArg GivenCmp GivenSign GivenTerm GivenAnd GivenExpr GivenPost GivenProd GivenSum) → ToldCmp (roll-Cmp (map-Cmp GivenAccess GivenArg GivenCmp GivenSign GivenTerm GivenAnd GivenExpr GivenPost GivenProd GivenSum Access Arg Cmp Sign Term And Expr Post Prod Sum bare_access bare_arg bare_cmp bare_sign bare_term bare_and bare_expr bare_post bare_prod bare_sum y))
-unfolding bare_access bare_arg bare_cmp bare_sign bare_term bare_and bare_expr bare_post bare_prod bare_sum
-of-cmp (Cmp-F.«Cmp::Plain» s) = cmp-rolled (Cmp-F.«Cmp::Plain» s.0) s.1
-of-cmp (Cmp-F.Compared s sign b) = cmp-rolled (Cmp-F.Compared s.0 sign b.0) (λ scope spot. told-compare s b sign scope (inside spot.position))
-of-cmp (Cmp-F.In s sign es) = cmp-rolled (Cmp-F.In s.0 sign (map bare_expr es)) (λ scope spot. told-in s sign es scope (inside spot.position))
-of-cmp (Cmp-F.Between s sign bounds) = cmp-rolled (Cmp-F.Between s.0 sign (bounds.0.0, bounds.1.0)) (λ scope spot. told-between s bounds.0 bounds.1 sign scope (inside spot.position))
+unfolding bare_access bare_arg bare_cmp bare_sign bare_term bare_and bare_expr bare_post bare_prod bare_sum cmp_bound sum_bound
+of-cmp (Cmp-F.«Cmp::Plain» s) scope spot = cmp-placed (Cmp-F.«Cmp::Plain» s.0) scope spot _ (ap (λ (f : Binds). f scope spot) (para-roll-Cmp Look Takes Binds Binds Named Binds Binds Binds Binds Binds access_step arg_step cmp_step sign_step term_step and_step expr_step post_step prod_step sum_step (Cmp-F.«Cmp::Plain» s.0))) (s.1 scope spot)
+of-cmp (Cmp-F.Compared s sign b) scope spot = cmp-placed (Cmp-F.Compared s.0 sign b.0) scope spot _ (ap (λ (f : Binds). f scope spot) (para-roll-Cmp Look Takes Binds Binds Named Binds Binds Binds Binds Binds access_step arg_step cmp_step sign_step term_step and_step expr_step post_step prod_step sum_step (Cmp-F.Compared s.0 sign b.0))) (told-compare-or-match s b sign scope spot (compare_func sign.op))
+of-cmp (Cmp-F.In s sign es) scope spot = cmp-placed (Cmp-F.In s.0 sign (map bare_expr es)) scope spot _ (in-rolled s.0 sign (map bare_expr es) scope spot) (told-in s sign es scope (inside spot.position))
+of-cmp (Cmp-F.Between s sign bounds) scope spot = cmp-placed (Cmp-F.Between s.0 sign (bounds.0.0, bounds.1.0)) scope spot _ (ap (λ (f : Binds). f scope spot) (para-roll-Cmp Look Takes Binds Binds Named Binds Binds Binds Binds Binds access_step arg_step cmp_step sign_step term_step and_step expr_step post_step prod_step sum_step (Cmp-F.Between s.0 sign (bounds.0.0, bounds.1.0)))) (told-between s bounds.0 bounds.1 sign scope (inside spot.position))
 
 told-minus : (place : Place) (p : GivenPost) (scope : Scope) (at : Spot) → ToldIn (place ∷ post_places p.0) (post_bound p.0 scope at >>= λ t. negated place t)
 told-minus place p scope at =
@@ -339,27 +346,27 @@ told-minus place p scope at =
     (λ t. told-one place (place ∷ ps) (negated place t) (inl refl) (told-negated place t))
 
 of-sign : (y : Sign-F GivenAccess GivenArg GivenCmp GivenSign GivenTerm GivenAnd GivenExpr GivenPost GivenProd GivenSum) → ToldSign (roll-Sign (map-Sign GivenAccess GivenArg GivenCmp GivenSign GivenTerm GivenAnd GivenExpr GivenPost GivenProd GivenSum Access Arg Cmp Sign Term And Expr Post Prod Sum bare_access bare_arg bare_cmp bare_sign bare_term bare_and bare_expr bare_post bare_prod bare_sum y))
-unfolding bare_access bare_arg bare_cmp bare_sign bare_term bare_and bare_expr bare_post bare_prod bare_sum
-of-sign (Sign-F.«Sign::Plain» p) = sign-rolled (Sign-F.«Sign::Plain» p.0) p.1
-of-sign (Sign-F.Minus place p) = sign-rolled (Sign-F.Minus place p.0) (λ scope spot. told-minus place p scope (inside spot.position))
+unfolding bare_access bare_arg bare_cmp bare_sign bare_term bare_and bare_expr bare_post bare_prod bare_sum sign_bound post_bound
+of-sign (Sign-F.«Sign::Plain» p) scope spot = sign-placed (Sign-F.«Sign::Plain» p.0) scope spot _ (ap (λ (f : Binds). f scope spot) (para-roll-Sign Look Takes Binds Binds Named Binds Binds Binds Binds Binds access_step arg_step cmp_step sign_step term_step and_step expr_step post_step prod_step sum_step (Sign-F.«Sign::Plain» p.0))) (p.1 scope spot)
+of-sign (Sign-F.Minus place p) scope spot = sign-placed (Sign-F.Minus place p.0) scope spot _ (ap (λ (f : Binds). f scope spot) (para-roll-Sign Look Takes Binds Binds Named Binds Binds Binds Binds Binds access_step arg_step cmp_step sign_step term_step and_step expr_step post_step prod_step sum_step (Sign-F.Minus place p.0))) (told-minus place p scope (inside spot.position))
 
 of-access : (y : Access-F GivenAccess GivenArg GivenCmp GivenSign GivenTerm GivenAnd GivenExpr GivenPost GivenProd GivenSum) → ToldAccess (roll-Access (map-Access GivenAccess GivenArg GivenCmp GivenSign GivenTerm GivenAnd GivenExpr GivenPost GivenProd GivenSum Access Arg Cmp Sign Term And Expr Post Prod Sum bare_access bare_arg bare_cmp bare_sign bare_term bare_and bare_expr bare_post bare_prod bare_sum y))
-unfolding bare_access bare_arg bare_cmp bare_sign bare_term bare_and bare_expr bare_post bare_prod bare_sum
-of-access (Access-F.Entry place w) = access-rolled (Access-F.Entry place w) (record {
+unfolding bare_access bare_arg bare_cmp bare_sign bare_term bare_and bare_expr bare_post bare_prod bare_sum access_read expr_bound
+of-access (Access-F.Entry place w) = access-placed (Access-F.Entry place w) _ (para-roll-Access Look Takes Binds Binds Named Binds Binds Binds Binds Binds access_step arg_step cmp_step sign_step term_step and_step expr_step post_step prod_step sum_step (Access-F.Entry place w)) (record {
   key = λ scope at. told-ok (place ∷ w.place ∷ []) (entry_key w);
   sign = inl refl;
   entry = inr (inl refl);
 })
-of-access (Access-F.Element place e) = access-rolled (Access-F.Element place e.0) (record {
+of-access (Access-F.Element place e) = access-placed (Access-F.Element place e.0) _ (para-roll-Access Look Takes Binds Binds Named Binds Binds Binds Binds Binds access_step arg_step cmp_step sign_step term_step and_step expr_step post_step prod_step sum_step (Access-F.Element place e.0)) (record {
   key = λ scope at. told-wide (expr_places e.0) (place ∷ expr_places e.0) (expr_bound e.0 scope (inside at)) (behind place (expr_places e.0)) (e.1 scope (inside at));
   sign = inl refl;
   entry = tt;
 })
 
 of-arg : (y : Arg-F GivenAccess GivenArg GivenCmp GivenSign GivenTerm GivenAnd GivenExpr GivenPost GivenProd GivenSum) → ToldArg (roll-Arg (map-Arg GivenAccess GivenArg GivenCmp GivenSign GivenTerm GivenAnd GivenExpr GivenPost GivenProd GivenSum Access Arg Cmp Sign Term And Expr Post Prod Sum bare_access bare_arg bare_cmp bare_sign bare_term bare_and bare_expr bare_post bare_prod bare_sum y))
-unfolding bare_access bare_arg bare_cmp bare_sign bare_term bare_and bare_expr bare_post bare_prod bare_sum plain_arg
-of-arg (Arg-F.«Arg::Plain» e) = arg-rolled (Arg-F.«Arg::Plain» e.0) (λ scope at. told-then (expr_places e.0) (expr_bound e.0 scope (inside at)) (λ (x : Typed). Ok (Some x)) (e.1 scope (inside at)) (λ x. told-ok (expr_places e.0) (Some x)))
-of-arg (Arg-F.Star place) = arg-rolled (Arg-F.Star place) (λ scope at. told-ok (place ∷ []) None)
+unfolding bare_access bare_arg bare_cmp bare_sign bare_term bare_and bare_expr bare_post bare_prod bare_sum plain_arg arg_bound expr_bound
+of-arg (Arg-F.«Arg::Plain» e) scope at = arg-placed (Arg-F.«Arg::Plain» e.0) scope at _ (ap (λ (f : Takes). f scope at) (para-roll-Arg Look Takes Binds Binds Named Binds Binds Binds Binds Binds access_step arg_step cmp_step sign_step term_step and_step expr_step post_step prod_step sum_step (Arg-F.«Arg::Plain» e.0))) (told-then (expr_places e.0) (expr_bound e.0 scope (inside at)) (λ (x : Typed). Ok (Some x)) (e.1 scope (inside at)) (λ x. told-ok (expr_places e.0) (Some x)))
+of-arg (Arg-F.Star place) scope at = arg-placed (Arg-F.Star place) scope at _ (ap (λ (f : Takes). f scope at) (para-roll-Arg Look Takes Binds Binds Named Binds Binds Binds Binds Binds access_step arg_step cmp_step sign_step term_step and_step expr_step post_step prod_step sum_step (Arg-F.Star place))) (told-ok (place ∷ []) None)
 
 -- Calls.
 
@@ -377,8 +384,8 @@ told-args scope first next (g ∷ gs) =
     (map arg_bound (map bare gs))
     (each-of all bare arg_bound arg_places (λ (own : Places). own) made part (λ h. h.1 scope next.position) (λ h b t. told-ok (arg_places h.0) (taken scope next b t)) gs (member-right ps others))
 
-told-call-bound : (w : Word) (gs : List GivenArg) (scope : Scope) (spot : Spot) → ToldIn (w.place ∷ places_of_all (map arg_places (map (λ (g : GivenArg). g.0) gs))) (call_bound w (map arg_bound (map (λ (g : GivenArg). g.0) gs)) scope spot)
-told-call-bound w gs scope spot =
+told-call-taken : (w : Word) (gs : List GivenArg) (scope : Scope) (spot : Spot) → ToldIn (w.place ∷ places_of_all (map arg_places (map (λ (g : GivenArg). g.0) gs))) (call_taken w (map arg_bound (map (λ (g : GivenArg). g.0) gs)) scope spot)
+told-call-taken w gs scope spot =
     let bare : GivenArg → Arg = λ (g : GivenArg). g.0 in
     let ps : Places = places_of_all (map arg_places (map bare gs)) in
     let all : Places = w.place ∷ ps in
@@ -388,12 +395,21 @@ told-call-bound w gs scope spot =
     told-then all args (λ (a : Args). found_call w scope spot a (found_as w.text)) (told-wide ps all args (behind w.place ps) (told-args scope first next gs))
     (λ a. told-one w.place all (found_call w scope spot a (found_as w.text)) (inl refl) (told-found w scope spot a (found_as w.text)))
 
+told-call-or : (w : Word) (gs : List GivenArg) (scope : Scope) (spot : Spot) (b : Bool) → ToldIn (w.place ∷ places_of_all (map arg_places (map (λ (g : GivenArg). g.0) gs))) (call_or_extract w (map (λ (g : GivenArg). g.0) gs) (map arg_bound (map (λ (g : GivenArg). g.0) gs)) scope spot b)
+told-call-or w gs scope spot true =
+    let args : List Arg = map (λ (g : GivenArg). g.0) gs in
+    told-one w.place (w.place ∷ places_of_all (map arg_places args)) (extract_bound w.place scope args) (inl refl) (told-extract w.place scope args)
+told-call-or w gs scope spot false = told-call-taken w gs scope spot
+
+told-call-bound : (w : Word) (gs : List GivenArg) (scope : Scope) (spot : Spot) → ToldIn (w.place ∷ places_of_all (map arg_places (map (λ (g : GivenArg). g.0) gs))) (call_bound w (map (λ (g : GivenArg). g.0) gs) (map arg_bound (map (λ (g : GivenArg). g.0) gs)) scope spot)
+told-call-bound w gs scope spot = told-call-or w gs scope spot (is_extract (found_as w.text))
+
 of-term : (y : Term-F GivenAccess GivenArg GivenCmp GivenSign GivenTerm GivenAnd GivenExpr GivenPost GivenProd GivenSum) → ToldTerm (roll-Term (map-Term GivenAccess GivenArg GivenCmp GivenSign GivenTerm GivenAnd GivenExpr GivenPost GivenProd GivenSum Access Arg Cmp Sign Term And Expr Post Prod Sum bare_access bare_arg bare_cmp bare_sign bare_term bare_and bare_expr bare_post bare_prod bare_sum y))
-unfolding bare_access bare_arg bare_cmp bare_sign bare_term bare_and bare_expr bare_post bare_prod bare_sum
-of-term (Term-F.Literal l) = term-rolled (Term-F.Literal l) (λ scope spot. told-literal l)
-of-term (Term-F.Name n) = term-rolled (Term-F.Name n) (λ scope spot. told-name n scope)
-of-term (Term-F.Call w args) = term-rolled (Term-F.Call w (map bare_arg args)) (λ scope spot. told-call-bound w args scope spot)
-of-term (Term-F.Group place e) = term-rolled (Term-F.Group place e.0) (λ scope spot. told-wide (expr_places e.0) (place ∷ expr_places e.0) (expr_bound e.0 scope spot) (behind place (expr_places e.0)) (e.1 scope spot))
+unfolding bare_access bare_arg bare_cmp bare_sign bare_term bare_and bare_expr bare_post bare_prod bare_sum term_read expr_bound
+of-term (Term-F.Literal l) = term-placed (Term-F.Literal l) _ (para-roll-Term Look Takes Binds Binds Named Binds Binds Binds Binds Binds access_step arg_step cmp_step sign_step term_step and_step expr_step post_step prod_step sum_step (Term-F.Literal l)) (λ scope spot. told-literal l)
+of-term (Term-F.Name n) = term-placed (Term-F.Name n) _ (para-roll-Term Look Takes Binds Binds Named Binds Binds Binds Binds Binds access_step arg_step cmp_step sign_step term_step and_step expr_step post_step prod_step sum_step (Term-F.Name n)) (λ scope spot. told-name n scope)
+of-term (Term-F.Call w args) = term-placed (Term-F.Call w (map bare_arg args)) _ (call-rolled w (map bare_arg args)) (λ scope spot. told-call-bound w args scope spot)
+of-term (Term-F.Group place e) = term-placed (Term-F.Group place e.0) _ (para-roll-Term Look Takes Binds Binds Named Binds Binds Binds Binds Binds access_step arg_step cmp_step sign_step term_step and_step expr_step post_step prod_step sum_step (Term-F.Group place e.0)) (λ scope spot. told-wide (expr_places e.0) (place ∷ expr_places e.0) (expr_bound e.0 scope spot) (behind place (expr_places e.0)) (e.1 scope spot))
 
 -- Terms with looks behind them.
 
@@ -433,7 +449,7 @@ told-post first (g ∷ gs) scope spot =
 
 of-post : (y : Post-F GivenAccess GivenArg GivenCmp GivenSign GivenTerm GivenAnd GivenExpr GivenPost GivenProd GivenSum) → ToldPost (roll-Post (map-Post GivenAccess GivenArg GivenCmp GivenSign GivenTerm GivenAnd GivenExpr GivenPost GivenProd GivenSum Access Arg Cmp Sign Term And Expr Post Prod Sum bare_access bare_arg bare_cmp bare_sign bare_term bare_and bare_expr bare_post bare_prod bare_sum y))
 unfolding bare_access bare_arg bare_cmp bare_sign bare_term bare_and bare_expr bare_post bare_prod bare_sum
-of-post y = post-rolled (map-Post GivenAccess GivenArg GivenCmp GivenSign GivenTerm GivenAnd GivenExpr GivenPost GivenProd GivenSum Access Arg Cmp Sign Term And Expr Post Prod Sum bare_access bare_arg bare_cmp bare_sign bare_term bare_and bare_expr bare_post bare_prod bare_sum y) (λ scope spot. told-post y.first y.more scope spot)
+of-post y scope spot = post-placed (map-Post GivenAccess GivenArg GivenCmp GivenSign GivenTerm GivenAnd GivenExpr GivenPost GivenProd GivenSum Access Arg Cmp Sign Term And Expr Post Prod Sum bare_access bare_arg bare_cmp bare_sign bare_term bare_and bare_expr bare_post bare_prod bare_sum y) scope spot _ (post-rolled (map-Post GivenAccess GivenArg GivenCmp GivenSign GivenTerm GivenAnd GivenExpr GivenPost GivenProd GivenSum Access Arg Cmp Sign Term And Expr Post Prod Sum bare_access bare_arg bare_cmp bare_sign bare_term bare_and bare_expr bare_post bare_prod bare_sum y) scope spot) (told-post y.first y.more scope spot)
 
 -- The whole.
 

@@ -23,6 +23,7 @@ use Rattle.kql_meaning.specs.Expressions.{column_kind, look}
 use Rattle.kql_meaning.specs.FittingExpressions.{takes_aggregate, takes_window}
 use Rattle.kql_meaning.specs.declared.position.Position.{Position}
 use Rattle.kql_meaning.proofs.MemberLaws.{Member, member-left, member-right}
+use Rattle.kql_syntax.specs.declared.tree.Arg.{Arg}
 use Rattle.kql_syntax.specs.declared.tree.BetweenSign.{BetweenSign}
 use Rattle.kql_syntax.specs.declared.tree.CompareSign.{CompareSign}
 use Rattle.kql_syntax.specs.declared.tree.InSign.{InSign}
@@ -30,17 +31,19 @@ use Rattle.kql_syntax.specs.declared.tree.Literal.{Literal}
 use Rattle.kql_syntax.specs.declared.tree.Literal.TheVariants as literal
 use Rattle.kql_syntax.specs.declared.tree.Name.{Name}
 use Rattle.kql_syntax.specs.declared.tree.Name.TheVariants as name
+use Rattle.kql_syntax.specs.declared.tree.Sum.{Sum}
 use Rattle.kql_syntax.specs.declared.tree.Word.{Word}
 use Rattle.typed_literals.specs.Reading.{kind_of_word, trimmed, value_or_null}
 use Rattle.bind_expr.specs.AggregateCalls.{aggregate_call, aggregate_given, aggregate_stands, aggregate_taken, aggregate_typed}
 use Rattle.bind_expr.specs.Calls.{from_moment, moment_call, moment_call_as, moment_sign, plain_call, plain_call_as, scalar_call, scalar_call_as, takes_args}
 use Rattle.bind_expr.specs.Chains.{linked, linked_as}
-use Rattle.bind_expr.specs.Comparisons.{among_func, among_kind, between_func, bounded, compare_func, compared, compared_as, is_of_any_type, listed}
+use Rattle.bind_expr.specs.Comparisons.{among_func, among_kind, between_func, bounded, compared, compared_as, is_of_any_type, listed}
 use Rattle.bind_expr.specs.Literals.{literal_bound, read_or_fault, typed_literal, typed_of_kind}
 use Rattle.bind_expr.specs.Logic.{joined_as, with_term}
-use Rattle.bind_expr.specs.Names.{column_or_const, const_named, const_or_fault, name_bound, word_bound}
+use Rattle.bind_expr.specs.Names.{column_or_const, const_named, const_or_fault, name_bound, text_of, word_bound}
 use Rattle.bind_expr.specs.Operands.{all_beside, as_text, beside, common_kind, exprs_of, kinds_of, typed_as, typed_call}
 use Rattle.bind_expr.specs.Outcome.{Outcome, ◌>>=◌}
+use Rattle.bind_expr.specs.Patterns.{arg_literal, arg_name, extract_bound, extract_of, group_if, is_searchable, match_bound, refused_here, search_of, search_or_refuse, searched, sum_literal, sum_name}
 use Rattle.bind_expr.specs.Paths.{looked_as, step_bound, step_or_fault, with_look}
 use Rattle.bind_expr.specs.Windows.{window_call, window_forms, window_given, window_serial, window_standing, window_typed}
 use Rattle.bind_expr.specs.declared.fault.BindFault.TheVariants as fault
@@ -131,13 +134,13 @@ pub told-look : (place : Place) (l : Looked) (key : Typed) → ToldIn (place ∷
 unfolding with_look
 told-look place l key = told-look-as place l.whole l.steps key.expr (result_kind look (l.kind ∷ key.kind ∷ []))
 
-told-compared-as : (sign : CompareSign) (l r : Typed) (b : Bool) → ToldIn (sign.place ∷ []) (compared_as sign l r b)
-told-compared-as sign l r true = told-call sign.place (compare_func sign.op) (exprs_of (beside l r.kind ∷ beside r l.kind ∷ [])) (kinds_of (beside l r.kind ∷ beside r l.kind ∷ []))
-told-compared-as sign l r false = told-call sign.place (compare_func sign.op) (exprs_of (as_text l ∷ as_text r ∷ [])) (kinds_of (as_text l ∷ as_text r ∷ []))
+told-compared-as : (f : Func) (sign : CompareSign) (l r : Typed) (b : Bool) → ToldIn (sign.place ∷ []) (compared_as f sign l r b)
+told-compared-as f sign l r true = told-call sign.place f (exprs_of (beside l r.kind ∷ beside r l.kind ∷ [])) (kinds_of (beside l r.kind ∷ beside r l.kind ∷ []))
+told-compared-as f sign l r false = told-call sign.place f (exprs_of (as_text l ∷ as_text r ∷ [])) (kinds_of (as_text l ∷ as_text r ∷ []))
 
-pub told-compared : (sign : CompareSign) (l r : Typed) → ToldIn (sign.place ∷ []) (compared sign l r)
+pub told-compared : (f : Func) (sign : CompareSign) (l r : Typed) → ToldIn (sign.place ∷ []) (compared f sign l r)
 unfolding compared
-told-compared sign l r = told-compared-as sign l r (is_of_any_type sign.op)
+told-compared f sign l r = told-compared-as f sign l r (is_of_any_type sign.op)
 
 pub told-listed : (sign : InSign) (ts : List Typed) → ToldIn (sign.place ∷ []) (listed sign ts)
 unfolding listed
@@ -253,10 +256,51 @@ told-aggregate place f a spot = told-aggregate-taken place f a spot (takes_aggre
 pub told-found : (w : Word) (scope : Scope) (spot : Spot) (a : Args) (f : Found) → ToldIn (w.place ∷ []) (found_call w scope spot a f)
 unfolding found_call
 told-found w scope spot a found.Unknown = told-at 402 w.place
+told-found w scope spot a found.Pattern = told-at 420 w.place
 told-found w scope spot a found.Refused = told-at 406 w.place
 told-found w scope spot a (found.Scalar f) = told-scalar w.place f a scope.moment
 told-found w scope spot a (found.Window f) = told-window w.place f a scope spot.position
 told-found w scope spot a (found.Aggregate f) = told-aggregate w.place f a spot
+
+-- Calls of patterns.
+
+told-here : (word : Place) → ToldIn (word ∷ []) (refused_here word)
+unfolding refused_here
+told-here word = told-at 420 word
+
+told-search-or : (word : Place) (g : Option ℕ) (c : List ℕ) (place : Place) (text : List ℕ) (b : Bool) → ToldIn (word ∷ []) (search_or_refuse word g c place text b)
+told-search-or word g c place text true = told-call word _ _ _
+told-search-or word g c place text false = told-here word
+
+told-searched : (word : Place) (g : Option ℕ) (scope : Scope) (c : List ℕ) (l : Literal) → ToldIn (word ∷ []) (searched word g scope c l)
+unfolding searched
+told-searched word g scope c (literal.Text place text) = told-search-or word g c place text (is_searchable scope c)
+told-searched word g scope c (literal.Number place n) = told-here word
+told-searched word g scope c (literal.Span place n) = told-here word
+told-searched word g scope c (literal.True place) = told-here word
+told-searched word g scope c (literal.False place) = told-here word
+told-searched word g scope c (literal.Typed place w text) = told-here word
+
+told-search : (word : Place) (g : Option ℕ) (scope : Scope) (n : Option Name) (l : Option Literal) → ToldIn (word ∷ []) (search_of word g scope n l)
+told-search word g scope (Some n) (Some l) = told-searched word g scope (text_of n) l
+told-search word g scope (Some n) None = told-here word
+told-search word g scope None l = told-here word
+
+pub told-match : (word : Place) (scope : Scope) (c p : Sum) → ToldIn (word ∷ []) (match_bound word scope c p)
+unfolding match_bound
+told-match word scope c p = told-search word None scope (sum_name c) (sum_literal p)
+
+told-extract-of : (word : Place) (scope : Scope) (l : Option Literal) (g : Option ℕ) (n : Option Name) → ToldIn (word ∷ []) (extract_of word scope l g n)
+told-extract-of word scope l None n = told-here word
+told-extract-of word scope l (Some g) n = told-search word (Some g) scope n l
+
+pub told-extract : (word : Place) (scope : Scope) (args : List Arg) → ToldIn (word ∷ []) (extract_bound word scope args)
+unfolding extract_bound
+told-extract word scope [] = told-here word
+told-extract word scope (p ∷ []) = told-here word
+told-extract word scope (p ∷ n ∷ []) = told-here word
+told-extract word scope (p ∷ n ∷ c ∷ []) = told-extract-of word scope (arg_literal p) (group_if (arg_literal n)) (arg_name c)
+told-extract word scope (p ∷ n ∷ c ∷ d ∷ more) = told-here word
 
 -- Lists of parts.
 

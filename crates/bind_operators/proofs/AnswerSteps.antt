@@ -181,7 +181,7 @@ some-columns operator columns many empty is e at z =
 pub ruleset width_steps = (too-many, no-columns, some-columns)
 
 -- An operator behind the faults of its width.
-pub within : (operator : Place) (o : Op) (columns : List Column) (serial : Bool) (r : Outcome (Unit {0})) (result : Outcome BoundOp) → r ≡ Ok tt → Answers r (unless (width_faults operator columns) tt) → Answers result (Ok (over o (record { columns = columns; serial = serial }))) → Answers result (answer operator [] o columns serial)
+pub within : (operator : Place) (o : Op) (columns : List Column) (serial : Bool) (r : Outcome (Unit {0})) (result : Outcome BoundOp) → r ≡ Ok tt → Answers r (unless (width_faults operator columns) tt) → Answers result (Ok (over o (record { columns = columns; serial = serial; own = [] }))) → Answers result (answer operator [] o columns serial)
 unfolding answer over made
 within operator o columns serial r result is a h = last-none (width_faults operator columns) (made o columns serial) r result is a h
 

@@ -1,4 +1,5 @@
 pub mod AnswerSteps
+pub mod ExtendSteps
 pub mod NameLaws
 pub mod PlaceFacts
 pub mod PrintSteps

@@ -1,5 +1,5 @@
 -- What operators give: their part of the plan, and the rows behind them.
-use Rattle.std.specs.Prelude.{nat_lt, Bool, List, ◌++◌, length, true}
+use Rattle.std.specs.Prelude.{nat_lt, Bool, List, [], ◌++◌, length, true}
 use Rattle.kql_cells.specs.declared.schema.Column.{Column}
 use Rattle.kql_lexer.specs.declared.place.Place.{Place}
 use Rattle.kql_bound.specs.declared.plan.Op.{Op}
@@ -14,9 +14,9 @@ use Rattle.bind_operators.specs.Faults.{fault_if, unless}
 unfoldable pub width_faults : Place → List Column → List BindFault
 width_faults operator columns = fault_if (nat_lt 256 (length columns)) 412 operator ++ fault_if (is_empty columns) 419 operator
 
--- An operator that makes columns, and whether its rows are serialised.
+-- An operator that makes columns, and whether its rows are serialised. They are no longer those of a table.
 unfoldable pub made : Op → List Column → Bool → BoundOp
-made op columns serial = record { op = op; after = record { columns = columns; serial = serial } }
+made op columns serial = record { op = op; after = record { columns = columns; serial = serial; own = [] } }
 
 unfoldable pub answer : Place → List BindFault → Op → List Column → Bool → Outcome BoundOp
 answer operator faults op columns serial = unless (faults ++ width_faults operator columns) (made op columns serial)
@@ -27,4 +27,8 @@ over op rows = record { op = op; after = rows }
 
 -- Rows in an order that counts.
 unfoldable pub serialised : Shape → Shape
-serialised rows = record { columns = rows.columns; serial = true }
+serialised rows = record { columns = rows.columns; serial = true; own = [] }
+
+-- Rows behind the end of a pattern prefix.
+unfoldable pub apart : Shape → Shape
+apart rows = record { columns = rows.columns; serial = rows.serial; own = [] }

@@ -10,6 +10,7 @@ use Rattle.kql_bound.specs.declared.plan.Source.{Source}
 use Rattle.kql_bound.specs.declared.plan.Source.TheVariants as source
 use Rattle.kql_meaning.specs.declared.position.Position.{Position}
 use Rattle.kql_meaning.specs.Fits.{table_columns}
+use Rattle.kql_meaning.specs.Tables.{names_of}
 use Rattle.kql_syntax.specs.declared.tree.Name.{Name}
 use Rattle.bind_expr.specs.Names.{text_of}
 use Rattle.bind_expr.specs.Outcome.{Outcome}
@@ -40,11 +41,11 @@ is_constant_name consts n = list_any (λ (c : Const). bytes_eq c.name n) consts
 
 -- Tables.
 
--- Rows straight from a source, serialised or not.
+-- Rows straight from a source, serialised or not; none of their columns is a table's own.
 abbrev pub straight_from : Bool → Source → List Column → BoundPlan
 straight_from serial source columns = record {
   plan = roll-Plan (record { source = source; ops = [] });
-  after = record { columns = columns; serial = serial };
+  after = record { columns = columns; serial = serial; own = [] };
 }
 
 unfoldable pub rows_of : Source → List Column → BoundPlan
@@ -53,13 +54,20 @@ rows_of source columns = straight_from false source columns
 unfoldable pub serial_rows_of : Source → List Column → BoundPlan
 serial_rows_of source columns = straight_from true source columns
 
+-- Rows of a table that was handed in, all of whose columns are its own.
+unfoldable pub table_rows : List ℕ → List Column → BoundPlan
+table_rows n columns = record {
+  plan = roll-Plan (record { source = source.Table n; ops = [] });
+  after = record { columns = columns; serial = false; own = names_of columns };
+}
+
 -- The columns of a table that was handed in. A constant's name hides the table of that name.
 unfoldable pub columns_handed_in : Known → List ℕ → Option (List Column)
 columns_handed_in known n = if is_constant_name known.consts n then None else table_columns known.tables n
 
 abbrev pub handed_in : List ℕ → Option (List Column) → Option BoundPlan
 handed_in n None = None
-handed_in n (Some columns) = Some (rows_of (source.Table n) columns)
+handed_in n (Some columns) = Some (table_rows n columns)
 
 abbrev pub let_or_handed_in : Known → List ℕ → Option ℕ → Option BoundPlan
 let_or_handed_in known n (Some i) = Some (rows_of (source.Let i) (let_columns known i))
@@ -100,9 +108,10 @@ scope_at known rows position = record {
   steps = record { names = []; columns = []; defaults = [] };
   consts = known.consts;
   keys = [];
+  own = rows.own;
   moment = known.moment;
 }
 
 -- Rows without columns, as a constant and `print` read.
 unfoldable pub no_rows : Shape
-no_rows = record { columns = []; serial = false }
+no_rows = record { columns = []; serial = false; own = [] }

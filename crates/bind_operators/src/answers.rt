@@ -2,7 +2,7 @@
 ghost use Rattle.std.specs.Prelude.{◌≡◌, [], ◌∷◌, ◌++◌, IfOk, Ok, length, nat_lt};
 ghost use Rattle.bind_expr.specs.Outcome.{Answers};
 ghost use Rattle.kql_meaning.specs.FittingOperators.{is_empty};
-ghost use Rattle.bind_operators.specs.Answers.{answer, over, serialised, width_faults};
+ghost use Rattle.bind_operators.specs.Answers.{answer, apart, over, serialised, width_faults};
 ghost use Rattle.bind_operators.specs.Faults.{unless, with_next};
 
 use crate::bound::BoundOp;
@@ -70,12 +70,25 @@ pub fn over(alloc: Global, op: Op, after: Shape) -> Result<BoundOp, AllocError>
 
 /// The same rows, in an order that counts.
 #[tactic(auto, unfolding(crate::specs::Answers::serialised))]
-pub fn serialised(rows: Shape) -> Shape
+pub fn serialised(alloc: Global, rows: Shape) -> Shape
     ensures serial { result ≡ serialised rows }
 {
     Shape {
         columns: rows.columns,
         serial: true,
+        own: Items::new(alloc),
+    }
+}
+
+/// The same rows, behind the end of a pattern prefix.
+#[tactic(auto, unfolding(crate::specs::Answers::apart))]
+pub fn apart(alloc: Global, rows: Shape) -> Shape
+    ensures apart { result ≡ apart rows }
+{
+    Shape {
+        columns: rows.columns,
+        serial: rows.serial,
+        own: Items::new(alloc),
     }
 }
 
@@ -128,7 +141,15 @@ pub fn answered(
     ensures exact { Answers result (answer operator [] op columns serial) }
 {
     match checked_width(operator, &columns) {
-        Ok(()) => or_lost(over(alloc, op, Shape { columns, serial })),
+        Ok(()) => {
+            let own = Items::new(alloc);
+            let after = Shape {
+                columns,
+                serial,
+                own,
+            };
+            or_lost(over(alloc, op, after))
+        }
         Err(fault) => {
             drop(op);
             drop(columns);

@@ -22,7 +22,7 @@ mod take_and_count;
 mod wanted;
 mod where_op;
 
-pub use answers::{answered, or_lost, over, serialised, with_next};
+pub use answers::{answered, apart, or_lost, over, serialised, with_next};
 pub use bound::{BoundOp, BoundPlan};
 pub use extend::{bind_extend, bind_serialize};
 pub use items::{

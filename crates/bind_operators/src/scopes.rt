@@ -5,7 +5,7 @@ ghost use Rattle.bind_operators.specs.Known.{no_rows, scope_at};
 use crate::known::Known;
 use crate::shape::Shape;
 use bind_expr::{Const, Consts, Scope, StepNames};
-use kql_cells::{Schema, clone_value};
+use kql_cells::{Schema, clone_value, copy_names};
 use kql_items::Items;
 use kql_meaning::Position;
 use std::alloc::{AllocError, Global};
@@ -58,6 +58,7 @@ pub fn scope_at(
         steps: no_steps(alloc),
         consts: copy_consts(alloc, known.consts.as_slice())?,
         keys: Items::new(alloc),
+        own: copy_names(alloc, rows.own.as_slice())?,
         moment: known.moment,
     })
 }
@@ -70,5 +71,6 @@ pub fn no_rows(alloc: Global) -> Shape
     Shape {
         columns: Schema::new(alloc),
         serial: false,
+        own: Items::new(alloc),
     }
 }

@@ -85,7 +85,7 @@ pub fn bind_sort(
 {
     match scope_at(alloc, known, &rows, Position::Plain) {
         Ok(scope) => match bind_keys(alloc, &scope, keys) {
-            Ok(bound) => or_lost(over(alloc, Op::Sort(bound), serialised(rows))),
+            Ok(bound) => or_lost(over(alloc, Op::Sort(bound), serialised(alloc, rows))),
             Err(fault) => Err(fault),
         },
         Err(_) => Err(BindFault::OutOfMemory),
@@ -119,7 +119,7 @@ fn topped(
         });
     }
     match one_key(alloc, key) {
-        Ok(keys) => or_lost(over(alloc, Op::Top(count_in(n), keys), serialised(rows))),
+        Ok(keys) => or_lost(over(alloc, Op::Top(count_in(n), keys), serialised(alloc, rows))),
         Err(_) => {
             drop(rows);
             Err(BindFault::OutOfMemory)

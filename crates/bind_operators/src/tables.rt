@@ -3,7 +3,7 @@ ghost use Rattle.std.specs.Prelude.{◌≡◌, bytes_eq, find, IfOk};
 ghost use Rattle.bind_expr.specs.Outcome.{Answers};
 ghost use Rattle.kql_cells.specs.declared.schema.Column.{Column};
 ghost use Rattle.kql_meaning.specs.Fits.{table_columns};
-ghost use Rattle.bind_operators.specs.Known.{column_wanted, columns_handed_in, is_constant_name, let_columns, let_numbered, straight_from, table_bound, table_named};
+ghost use Rattle.bind_operators.specs.Known.{column_wanted, columns_handed_in, is_constant_name, let_columns, let_numbered, straight_from, table_bound, table_named, table_rows};
 
 use crate::answers::or_lost;
 use crate::bound::BoundPlan;
@@ -13,6 +13,7 @@ use crate::shape::Shape;
 use bind_expr::{BindFault, Const};
 use kql_bound::{Plan, Source};
 use kql_cells::{Column, KText, NamedSchema, Schema};
+use kql_columns::names_of;
 use kql_items::{Boxed, Items};
 use kql_lexer::Place;
 use kql_syntax::Name;
@@ -58,7 +59,30 @@ pub fn straight_from(
     let plan = Boxed::new(alloc, Plan { source, ops })?;
     Ok(BoundPlan {
         plan,
-        after: Shape { columns, serial },
+        after: Shape {
+            columns,
+            serial,
+            own: Items::new(alloc),
+        },
+    })
+}
+
+// Rows of a table that was handed in, all of whose columns are its own.
+#[tactic(auto, unfolding(crate::specs::Known::table_rows))]
+fn table_rows(alloc: Global, name: &KText, columns: Schema) -> Result<BoundPlan, AllocError>
+    ensures rows { IfOk result (λ p. p ≡ table_rows name.now columns) }
+{
+    let own = names_of(alloc, columns.columns())?;
+    let source = Source::Table(name.copy(alloc)?);
+    let ops = Items::new(alloc);
+    let plan = Boxed::new(alloc, Plan { source, ops })?;
+    Ok(BoundPlan {
+        plan,
+        after: Shape {
+            columns,
+            serial: false,
+            own,
+        },
     })
 }
 
@@ -117,10 +141,7 @@ pub fn table_named(
             Ok(Some(straight_from(alloc, false, Source::Let(number), columns)?))
         }
         None => match columns_handed_in(alloc, known, name.as_str())? {
-            Some(columns) => {
-                let source = Source::Table(name.copy(alloc)?);
-                Ok(Some(straight_from(alloc, false, source, columns)?))
-            }
+            Some(columns) => Ok(Some(table_rows(alloc, name, columns)?)),
             None => Ok(None),
         },
     }

@@ -11,7 +11,7 @@ use bind_expr::BindFault;
 use kql_bound::{Lit, Op};
 use kql_cells::Schema;
 use kql_columns::count_columns;
-use kql_items::Boxed;
+use kql_items::{Boxed, Items};
 use kql_lexer::Place;
 use kql_syntax::Expr;
 use std::alloc::{AllocError, Global};
@@ -60,6 +60,7 @@ pub fn bind_count(alloc: Global) -> Result<BoundOp, AllocError>
         after: Shape {
             columns: Schema::from_items(columns),
             serial: false,
+            own: Items::new(alloc),
         },
     })
 }

@@ -56,7 +56,7 @@ use Rattle.bind_operators.specs.declared.known.Known.{Known}
 use Rattle.bind_operators.specs.declared.shape.Shape.{Shape}
 use Rattle.bind_operators.specs.declared.wanted.Wanted.{Wanted}
 use Rattle.bind_operators.specs.declared.wanted.Wanted.TheVariants as wanted
-use Rattle.bind_operators.specs.Answers.{made}
+use Rattle.bind_operators.specs.Answers.{apart, made}
 use Rattle.bind_operators.specs.Faults.{each_bound, fault_if, unless}
 use Rattle.bind_operators.specs.Items.{names_twice}
 use Rattle.bind_operators.specs.Known.{column_wanted, no_rows, scope_at, table_named}
@@ -326,9 +326,9 @@ each-args (g ∷ gs) known inside = (g.1 known inside, each-args gs known inside
 of-op : (y : Op-F GivenOp GivenSource GivenTableArg GivenTableOp GivenJoin GivenPartition GivenPipe GivenUnion) → TellsOp (roll-Op (map-Op GivenOp GivenSource GivenTableArg GivenTableOp GivenJoin GivenPartition GivenPipe GivenUnion Op Source TableArg TableOp Join Partition Pipe Union bare_op bare_source bare_arg bare_table_op bare_join bare_partition bare_pipe bare_union y))
 unfolding op_bound source_bound arg_read table_op_bound join_read partition_read pipe_bound union_read bare_op bare_source bare_arg bare_table_op bare_join bare_partition bare_pipe bare_union
 of-op (Op-F.Columns o) known inside rows = subst (λ (r : Outcome BoundOp). IsTold r) (sym (ap (λ (f : BindsOp). f known inside rows) (fold-roll-Op BindsOp BindsPlan BindsArg BindsOp BindsJoin BindsPartition BindsPlan UnionParts op_step source_step table_arg_step table_op_step join_step partition_step pipe_step union_step (Op-F.Columns o)))) (told-column-op o known rows)
-of-op (Op-F.Rows o) known inside rows = subst (λ (r : Outcome BoundOp). IsTold r) (sym (ap (λ (f : BindsOp). f known inside rows) (fold-roll-Op BindsOp BindsPlan BindsArg BindsOp BindsJoin BindsPartition BindsPlan UnionParts op_step source_step table_arg_step table_op_step join_step partition_step pipe_step union_step (Op-F.Rows o)))) (told-row-op o known rows)
-of-op (Op-F.Groups o) known inside rows = subst (λ (r : Outcome BoundOp). IsTold r) (sym (ap (λ (f : BindsOp). f known inside rows) (fold-roll-Op BindsOp BindsPlan BindsArg BindsOp BindsJoin BindsPartition BindsPlan UnionParts op_step source_step table_arg_step table_op_step join_step partition_step pipe_step union_step (Op-F.Groups o)))) (told-group-op o known rows)
-of-op (Op-F.Tables o) known inside rows = subst (λ (r : Outcome BoundOp). IsTold r) (sym (ap (λ (f : BindsOp). f known inside rows) (fold-roll-Op BindsOp BindsPlan BindsArg BindsOp BindsJoin BindsPartition BindsPlan UnionParts op_step source_step table_arg_step table_op_step join_step partition_step pipe_step union_step (Op-F.Tables o.0)))) (o.1 known inside rows)
+of-op (Op-F.Rows o) known inside rows = subst (λ (r : Outcome BoundOp). IsTold r) (sym (ap (λ (f : BindsOp). f known inside rows) (fold-roll-Op BindsOp BindsPlan BindsArg BindsOp BindsJoin BindsPartition BindsPlan UnionParts op_step source_step table_arg_step table_op_step join_step partition_step pipe_step union_step (Op-F.Rows o)))) (told-row-op o known (apart rows))
+of-op (Op-F.Groups o) known inside rows = subst (λ (r : Outcome BoundOp). IsTold r) (sym (ap (λ (f : BindsOp). f known inside rows) (fold-roll-Op BindsOp BindsPlan BindsArg BindsOp BindsJoin BindsPartition BindsPlan UnionParts op_step source_step table_arg_step table_op_step join_step partition_step pipe_step union_step (Op-F.Groups o)))) (told-group-op o known (apart rows))
+of-op (Op-F.Tables o) known inside rows = subst (λ (r : Outcome BoundOp). IsTold r) (sym (ap (λ (f : BindsOp). f known inside rows) (fold-roll-Op BindsOp BindsPlan BindsArg BindsOp BindsJoin BindsPartition BindsPlan UnionParts op_step source_step table_arg_step table_op_step join_step partition_step pipe_step union_step (Op-F.Tables o.0)))) (o.1 known inside (apart rows))
 
 of-source : (y : Source-F GivenOp GivenSource GivenTableArg GivenTableOp GivenJoin GivenPartition GivenPipe GivenUnion) → TellsSource (roll-Source (map-Source GivenOp GivenSource GivenTableArg GivenTableOp GivenJoin GivenPartition GivenPipe GivenUnion Op Source TableArg TableOp Join Partition Pipe Union bare_op bare_source bare_arg bare_table_op bare_join bare_partition bare_pipe bare_union y))
 unfolding op_bound source_bound arg_read table_op_bound join_read partition_read pipe_bound union_read bare_op bare_source bare_arg bare_table_op bare_join bare_partition bare_pipe bare_union

@@ -75,8 +75,8 @@ use Rattle.bind_operators.specs.declared.known.Known.{Known}
 use Rattle.bind_operators.specs.declared.shape.Shape.{Shape}
 use Rattle.bind_operators.specs.declared.wanted.Wanted.{Wanted}
 use Rattle.bind_operators.specs.declared.wanted.Wanted.TheVariants as wanted
-use Rattle.bind_operators.specs.Answers.{answer, made, over, serialised, width_faults}
-use Rattle.bind_operators.specs.Extend.{extend_bound, extended, serialize_bound}
+use Rattle.bind_operators.specs.Answers.{answer, apart, made, over, serialised, width_faults}
+use Rattle.bind_operators.specs.Extend.{extend_bound, extended, lending, own_left, serialize_bound}
 use Rattle.bind_operators.specs.Faults.{each_bound, fault_if, unless}
 use Rattle.bind_operators.specs.Items.{clash, column_item, item_in, items_bound, items_from, names_of_items, names_twice, no_items, twice, twice_items, with_item}
 use Rattle.bind_operators.specs.Known.{column_or_fault, column_wanted, is_constant_name, no_rows, or_no_table, rows_of, scope_at, serial_rows_of, table_bound, table_named}
@@ -363,7 +363,9 @@ told-where e known rows = told-then (typed_bound (wanted.Is kind.Bool) e (scope_
 
 told-extended : (operator : Place) (rows : Shape) (done : NamedItems) → IsTold (extended operator rows done)
 unfolding extended
-told-extended operator rows done = told-answer operator (twice_items done) (op.Extend done.items) (extend_columns done.items rows.columns) rows.serial (coded-items done)
+told-extended operator rows done =
+    told-then (answer operator (twice_items done) (op.Extend done.items) (extend_columns done.items rows.columns) rows.serial) (λ b. Ok (lending (own_left done.items rows.own) b))
+    (told-answer operator (twice_items done) (op.Extend done.items) (extend_columns done.items rows.columns) rows.serial (coded-items done)) (λ b. told-ok (lending (own_left done.items rows.own) b))
 
 told-extend : (operator : Place) (items : List Item) (known : Known) (rows : Shape) → IsTold (extend_bound operator items known rows)
 unfolding extend_bound
@@ -417,7 +419,7 @@ pub told-column-op : (o : ColumnOp) (known : Known) (rows : Shape) → IsTold (c
 unfolding column_op_bound
 told-column-op (column_op.Where operator e) known rows = told-where e known rows
 told-column-op (column_op.Extend operator items) known rows = told-extend operator items known rows
-told-column-op (column_op.Project operator items) known rows = told-project operator items known rows
+told-column-op (column_op.Project operator items) known rows = told-project operator items known (apart rows)
 told-column-op (column_op.Serialize operator items) known rows = told-serialize operator items known rows
 told-column-op (column_op.ProjectAway operator names) known rows = told-away operator names known rows
 told-column-op (column_op.ProjectKeep operator names) known rows = told-keep operator names known rows

@@ -35,6 +35,7 @@ use Rattle.bind_operators.specs.declared.bound.BoundOp.{BoundOp}
 use Rattle.bind_operators.specs.declared.bound.BoundPlan.{BoundPlan}
 use Rattle.bind_operators.specs.declared.known.Known.{Known}
 use Rattle.bind_operators.specs.declared.shape.Shape.{Shape}
+use Rattle.bind_operators.specs.Answers.{apart}
 use Rattle.bind_operators.specs.Faults.{each_bound}
 use Rattle.bind_operators.specs.Known.{table_bound}
 use Rattle.bind_operators.specs.Places.{name_place}
@@ -66,15 +67,15 @@ pub op-Columns : (o : ColumnOp) (known : Known) (inside : Bool) (rows : Shape) �
 unfolding op_bound source_bound arg_read table_op_bound join_read partition_read pipe_bound union_read
 op-Columns o known inside rows = ap (λ (f : BindsOp). f known inside rows) (ap op_bound (sym (OpV.rolls-Columns o)) ∙ fold-roll-Op BindsOp BindsPlan BindsArg BindsOp BindsJoin BindsPartition BindsPlan UnionParts op_step source_step table_arg_step table_op_step join_step partition_step pipe_step union_step (Op-F.Columns o))
 
-pub op-Rows : (o : RowOp) (known : Known) (inside : Bool) (rows : Shape) → op_bound (OpV.Rows o) known inside rows ≡ row_op_bound o known rows
+pub op-Rows : (o : RowOp) (known : Known) (inside : Bool) (rows : Shape) → op_bound (OpV.Rows o) known inside rows ≡ row_op_bound o known (apart rows)
 unfolding op_bound source_bound arg_read table_op_bound join_read partition_read pipe_bound union_read
 op-Rows o known inside rows = ap (λ (f : BindsOp). f known inside rows) (ap op_bound (sym (OpV.rolls-Rows o)) ∙ fold-roll-Op BindsOp BindsPlan BindsArg BindsOp BindsJoin BindsPartition BindsPlan UnionParts op_step source_step table_arg_step table_op_step join_step partition_step pipe_step union_step (Op-F.Rows o))
 
-pub op-Groups : (o : GroupOp) (known : Known) (inside : Bool) (rows : Shape) → op_bound (OpV.Groups o) known inside rows ≡ group_op_bound o known rows
+pub op-Groups : (o : GroupOp) (known : Known) (inside : Bool) (rows : Shape) → op_bound (OpV.Groups o) known inside rows ≡ group_op_bound o known (apart rows)
 unfolding op_bound source_bound arg_read table_op_bound join_read partition_read pipe_bound union_read
 op-Groups o known inside rows = ap (λ (f : BindsOp). f known inside rows) (ap op_bound (sym (OpV.rolls-Groups o)) ∙ fold-roll-Op BindsOp BindsPlan BindsArg BindsOp BindsJoin BindsPartition BindsPlan UnionParts op_step source_step table_arg_step table_op_step join_step partition_step pipe_step union_step (Op-F.Groups o))
 
-pub op-Tables : (o : TableOp) (known : Known) (inside : Bool) (rows : Shape) → op_bound (OpV.Tables o) known inside rows ≡ table_op_bound o known inside rows
+pub op-Tables : (o : TableOp) (known : Known) (inside : Bool) (rows : Shape) → op_bound (OpV.Tables o) known inside rows ≡ table_op_bound o known inside (apart rows)
 unfolding op_bound source_bound arg_read table_op_bound join_read partition_read pipe_bound union_read
 op-Tables o known inside rows = ap (λ (f : BindsOp). f known inside rows) (ap op_bound (sym (OpV.rolls-Tables o)) ∙ fold-roll-Op BindsOp BindsPlan BindsArg BindsOp BindsJoin BindsPartition BindsPlan UnionParts op_step source_step table_arg_step table_op_step join_step partition_step pipe_step union_step (Op-F.Tables o))
 

@@ -8,7 +8,7 @@ use Rattle.bind_query.specs.Bound.{bound}
 
 -- The codes that binding a query tells.
 unfoldable pub is_query_code : ℕ → Bool
-is_query_code code = nat_le 401 code && nat_le code 419
+is_query_code code = nat_le 401 code && nat_le code 420
 
 -- A value, or a refusal with one of these codes.
 abbrev pub is_told : {X : Type 0} → Outcome X → Type 0

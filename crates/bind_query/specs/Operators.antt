@@ -22,6 +22,7 @@ use Rattle.bind_operators.specs.declared.bound.BoundPlan.{BoundPlan}
 use Rattle.bind_query.specs.declared.bound.BoundOps.{BoundOps}
 use Rattle.bind_operators.specs.declared.known.Known.{Known}
 use Rattle.bind_operators.specs.declared.shape.Shape.{Shape}
+use Rattle.bind_operators.specs.Answers.{apart}
 use Rattle.bind_operators.specs.Extend.{extend_bound, serialize_bound}
 use Rattle.bind_query.specs.Join.{join_bound}
 use Rattle.bind_operators.specs.Known.{table_bound}
@@ -40,12 +41,12 @@ use Rattle.bind_operators.specs.TakeAndCount.{counted, take_bound}
 use Rattle.bind_query.specs.Union.{is_inner, union_bound, union_source_bound}
 use Rattle.bind_operators.specs.Where.{where_bound}
 
--- Operators without tables in them.
+-- Operators without tables in them. A pattern prefix goes on over `where` and `extend` alone: all others see rows that are no table's own.
 
 unfoldable pub column_op_bound : ColumnOp → Known → Shape → Outcome BoundOp
 column_op_bound (column.Where operator e) known rows = where_bound e known rows
 column_op_bound (column.Extend operator items) known rows = extend_bound operator items known rows
-column_op_bound (column.Project operator items) known rows = project_bound operator items known rows
+column_op_bound (column.Project operator items) known rows = project_bound operator items known (apart rows)
 column_op_bound (column.Serialize operator items) known rows = serialize_bound operator items known rows
 column_op_bound (column.ProjectAway operator names) known rows = project_away_bound operator names known rows
 column_op_bound (column.ProjectKeep operator names) known rows = project_keep_bound operator names known rows
@@ -77,9 +78,9 @@ BindsPartition = Place → BindsOp
 
 abbrev pub op_step : Op-F BindsOp BindsPlan BindsArg BindsOp BindsJoin BindsPartition BindsPlan UnionParts → BindsOp
 op_step (Op-F.Columns o) known inside rows = column_op_bound o known rows
-op_step (Op-F.Rows o) known inside rows = row_op_bound o known rows
-op_step (Op-F.Groups o) known inside rows = group_op_bound o known rows
-op_step (Op-F.Tables o) known inside rows = o known inside rows
+op_step (Op-F.Rows o) known inside rows = row_op_bound o known (apart rows)
+op_step (Op-F.Groups o) known inside rows = group_op_bound o known (apart rows)
+op_step (Op-F.Tables o) known inside rows = o known inside (apart rows)
 
 abbrev pub table_op_step : TableOp-F BindsOp BindsPlan BindsArg BindsOp BindsJoin BindsPartition BindsPlan UnionParts → BindsOp
 table_op_step (TableOp-F.Join operator j) known inside rows = j operator false known inside rows

@@ -5,7 +5,7 @@ ghost use Rattle.bind_query.specs.Operators.{column_op_bound, group_op_bound, ro
 use bind_expr::BindFault;
 use bind_groups::{bind_distinct, bind_make_series, bind_mv_expand, bind_parse, bind_summarize};
 use bind_operators::{
-    BoundOp, Known, Shape, bind_count, bind_extend, bind_project, bind_project_away,
+    BoundOp, Known, Shape, apart, bind_count, bind_extend, bind_project, bind_project_away,
     bind_project_keep, bind_project_rename, bind_serialize, bind_sort, bind_take, bind_top,
     bind_where, or_lost,
 };
@@ -28,7 +28,13 @@ pub(crate) fn bind_column_op(
             bind_extend(alloc, *operator, items.as_slice(), known, rows)
         }
         ColumnOp::Project(operator, items) => {
-            bind_project(alloc, *operator, items.as_slice(), known, rows)
+            bind_project(
+                alloc,
+                *operator,
+                items.as_slice(),
+                known,
+                apart(alloc, rows),
+            )
         }
         ColumnOp::Serialize(operator, items) => {
             bind_serialize(alloc, *operator, items.as_slice(), known, rows)

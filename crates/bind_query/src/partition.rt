@@ -7,6 +7,7 @@ use bind_expr::BindFault;
 use bind_operators::{BoundOp, Shape, or_lost, over};
 use kql_bound::Op;
 use kql_cells::Column;
+use kql_items::Items;
 use kql_lexer::Place;
 use std::alloc::Global;
 
@@ -33,6 +34,7 @@ fn partitioned(
     let after = Shape {
         columns: after.columns,
         serial: false,
+        own: Items::new(alloc),
     };
     or_lost(over(alloc, Op::Partition(key.name, ops), after))
 }

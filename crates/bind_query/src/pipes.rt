@@ -16,7 +16,7 @@ use crate::union::{is_inner, unites, unites_behind};
 use bind_expr::BindFault;
 use bind_groups::distinct_column;
 use bind_operators::{
-    BoundOp, BoundPlan, Known, Shape, bind_print, bind_range, bind_table, with_next,
+    BoundOp, BoundPlan, Known, Shape, apart, bind_print, bind_range, bind_table, with_next,
 };
 use kql_items::Items;
 use kql_lexer::Place;
@@ -116,9 +116,9 @@ fn bind_op(
 {
     match op {
         Op::Columns(op) => bind_column_op(alloc, op, known, rows),
-        Op::Rows(op) => bind_row_op(alloc, op, known, rows),
-        Op::Groups(op) => bind_group_op(alloc, op, known, rows),
-        Op::Tables(op) => bind_table_op(alloc, op, known, inside, rows),
+        Op::Rows(op) => bind_row_op(alloc, op, known, apart(alloc, rows)),
+        Op::Groups(op) => bind_group_op(alloc, op, known, apart(alloc, rows)),
+        Op::Tables(op) => bind_table_op(alloc, op, known, inside, apart(alloc, rows)),
     }
 }
 

@@ -132,6 +132,7 @@ fn with_lists(
         },
         consts: scope.consts,
         keys: scope.keys,
+        own: scope.own,
         moment: scope.moment,
     })
 }

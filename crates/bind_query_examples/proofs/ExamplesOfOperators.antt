@@ -19,7 +19,7 @@ use Rattle.bind_operators.specs.Answers.{answer, made, over, width_faults}
 use Rattle.bind_operators.specs.Faults.{each_bound, fault_if, unless}
 use Rattle.bind_operators.specs.Items.{clash, column_as, names_twice, twice}
 use Rattle.bind_query.specs.Join.{join_bound, join_plan, joined, key_bound, key_clashes, key_place, kind_of_join, pair_wanted}
-use Rattle.bind_operators.specs.Known.{column_wanted, columns_handed_in, is_constant_name, let_numbered, rows_of, serial_rows_of, table_bound, table_named}
+use Rattle.bind_operators.specs.Known.{column_wanted, columns_handed_in, is_constant_name, let_numbered, serial_rows_of, table_bound, table_named, table_rows}
 use Rattle.bind_query.specs.Lets.{is_let_name, let_faults}
 use Rattle.bind_query.specs.Partition.{partition_bound, partitioned}
 use Rattle.bind_query.specs.Pipes.{next_op, no_ops, ops_over}
@@ -36,15 +36,15 @@ use Rattle.bind_query_examples.specs.Examples.{Assignments, AwayWithAll, Constan
 -- Tables.
 
 pub table_stands : TableStands
-unfolding table_bound table_named let_numbered columns_handed_in is_constant_name table_columns rows_of text_of name_place
+unfolding table_bound table_named let_numbered columns_handed_in is_constant_name table_columns table_rows text_of name_place
 table_stands = refl
 
 pub no_table : NoTable
-unfolding table_bound table_named let_numbered columns_handed_in is_constant_name table_columns rows_of text_of name_place
+unfolding table_bound table_named let_numbered columns_handed_in is_constant_name table_columns table_rows text_of name_place
 no_table = refl
 
 pub constant_is_no_table : ConstantIsNoTable
-unfolding table_bound table_named let_numbered columns_handed_in is_constant_name table_columns rows_of text_of name_place
+unfolding table_bound table_named let_numbered columns_handed_in is_constant_name table_columns table_rows text_of name_place
 constant_is_no_table = refl
 
 pub ruleset table_examples = (table_stands, no_table, constant_is_no_table)

@@ -12,6 +12,7 @@ use Rattle.kql_bound.specs.declared.plan.Op.{Op}
 use Rattle.kql_bound.specs.declared.plan.Op.TheVariants as op
 use Rattle.kql_bound.specs.declared.plan.Plan.{roll-Plan}
 use Rattle.kql_bound.specs.declared.plan.Source.TheVariants as source
+use Rattle.kql_meaning.specs.Tables.{names_of}
 use Rattle.kql_syntax.specs.declared.query.Distinct.TheVariants as distinct
 use Rattle.kql_syntax.specs.declared.query.On.{On}
 use Rattle.kql_syntax.specs.declared.query.On.TheVariants as key
@@ -74,18 +75,18 @@ known = record {
 
 -- Rows of A, serialised or not.
 abbrev pub rows_of_a : Bool → Shape
-rows_of_a serial = record { columns = columns_of_a; serial = serial }
+rows_of_a serial = record { columns = columns_of_a; serial = serial; own = [] }
 
 -- A table argument of these columns.
 abbrev pub table_of : List ℕ → List Column → BoundPlan
 table_of text columns = record {
   plan = roll-Plan (record { source = source.Table text; ops = [] });
-  after = record { columns = columns; serial = false };
+  after = record { columns = columns; serial = false; own = names_of columns };
 }
 
 -- What an operator that makes columns is bound to.
 abbrev pub makes : Op → List Column → Bool → Outcome BoundOp
-makes o columns serial = Ok (record { op = o; after = record { columns = columns; serial = serial } })
+makes o columns serial = Ok (record { op = o; after = record { columns = columns; serial = serial; own = [] } })
 
 -- Tables.
 
@@ -111,6 +112,7 @@ joined_by_k = record {
   after = record {
     columns = column (codes "k") kind.Long ∷ column (codes "v") kind.Text ∷ column (codes "k1") kind.Long ∷ column (codes "w") kind.Text ∷ [];
     serial = false;
+    own = [];
   };
 }
 
@@ -150,7 +152,7 @@ UnionOfTwoTypes =
 -- Inner, with no column in common: 419.
 abbrev pub UnionOfNothing : Type 0
 UnionOfNothing =
-    union_bound (at 5) (true, (at 11, λ k inside. Ok (record { plan = roll-Plan (record { source = source.Let 0; ops = [] }); after = record { columns = column (codes "x") kind.Long ∷ []; serial = false } })) ∷ []) known false (rows_of_a true)
+    union_bound (at 5) (true, (at 11, λ k inside. Ok (record { plan = roll-Plan (record { source = source.Let 0; ops = [] }); after = record { columns = column (codes "x") kind.Long ∷ []; serial = false; own = [] } })) ∷ []) known false (rows_of_a true)
     ≡ refused 419 5
 
 -- Partition.
@@ -186,7 +188,7 @@ abbrev pub DistinctTwice : Type 0
 DistinctTwice = distinct_bound (at 5) (distinct.Columns (word 14 (codes "v") ∷ word 17 (codes "v") ∷ [])) known (rows_of_a true) ≡ refused 411 17
 
 abbrev pub DistinctStarOfDynamic : Type 0
-DistinctStarOfDynamic = distinct_bound (at 5) (distinct.Star (at 14)) known (record { columns = columns_of_d; serial = false }) ≡ refused 404 14
+DistinctStarOfDynamic = distinct_bound (at 5) (distinct.Star (at 14)) known (record { columns = columns_of_d; serial = false; own = [] }) ≡ refused 404 14
 
 -- Counts and ranges.
 
@@ -209,7 +211,7 @@ range_to n = ranged (at 1) (codes "x") (long (value.Long (pos 1))) (long (value.
 abbrev pub RangeStands : Type 0
 RangeStands = range_to 1000000 ≡ Ok (record {
   plan = roll-Plan (record { source = source.Range (codes "x") (long (value.Long (pos 1))) (long (value.Long (pos 1000000))) (long (value.Long (pos 1))); ops = [] });
-  after = record { columns = column (codes "x") kind.Long ∷ []; serial = true };
+  after = record { columns = column (codes "x") kind.Long ∷ []; serial = true; own = [] };
 })
 
 abbrev pub RangeTooLong : Type 0

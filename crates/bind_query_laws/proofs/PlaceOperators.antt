@@ -6,8 +6,8 @@ use Rattle.bind_expr.specs.declared.scope.Scope.{Scope}
 use Rattle.bind_expr_laws.proofs.PlaceSteps.{ToldIn, Within, told-ok, told-then}
 use Rattle.bind_expr_laws.specs.Places.{Places, expr_places}
 use Rattle.bind_groups.specs.Summarize.{distinct_answer, distinct_bound, distinct_column, key_column}
-use Rattle.bind_operators.specs.Answers.{over, serialised, width_faults}
-use Rattle.bind_operators.specs.Extend.{extend_bound, extended, serialize_bound}
+use Rattle.bind_operators.specs.Answers.{answer, apart, over, serialised, width_faults}
+use Rattle.bind_operators.specs.Extend.{extend_bound, extended, lending, own_left, serialize_bound}
 use Rattle.bind_operators.specs.Faults.{each_bound, fault_if}
 use Rattle.bind_operators.specs.Items.{column_item, item_in, items_bound, names_twice, no_items, twice_items}
 use Rattle.bind_operators.specs.Known.{column_wanted, no_rows, rows_of, scope_at, serial_rows_of}
@@ -66,7 +66,9 @@ told-where ps e known rows w = told-then ps (typed_bound (wanted.Is kind.Bool) e
 
 told-extended : (ps : Places) (operator : Place) (rows : Shape) (done : NamedItems) → Member operator ps → ItemsIn ps done → ToldIn ps (extended operator rows done)
 unfolding extended
-told-extended ps operator rows done m q = told-answer ps operator (twice_items done) (op.Extend done.items) (extend_columns done.items rows.columns) rows.serial m (placed-items ps done q)
+told-extended ps operator rows done m q =
+    told-then ps (answer operator (twice_items done) (op.Extend done.items) (extend_columns done.items rows.columns) rows.serial) (λ b. Ok (lending (own_left done.items rows.own) b))
+    (told-answer ps operator (twice_items done) (op.Extend done.items) (extend_columns done.items rows.columns) rows.serial m (placed-items ps done q)) (λ b. told-ok ps (lending (own_left done.items rows.own) b))
 
 told-extend : (ps : Places) (operator : Place) (items : List Item) (known : Known) (rows : Shape) → Member operator ps → Within (items_places items) ps → ToldIn ps (extend_bound operator items known rows)
 unfolding extend_bound
@@ -133,7 +135,7 @@ pub told-column-op : (o : ColumnOp) (known : Known) (rows : Shape) → ToldIn (c
 unfolding column_op_bound
 told-column-op (column_op.Where operator e) known rows = told-where (operator ∷ expr_places e) e known rows (λ q m. inr m)
 told-column-op (column_op.Extend operator items) known rows = told-extend (operator ∷ items_places items) operator items known rows (inl refl) (λ q m. inr m)
-told-column-op (column_op.Project operator items) known rows = told-project (operator ∷ items_places items) operator items known rows (inl refl) (λ q m. inr m)
+told-column-op (column_op.Project operator items) known rows = told-project (operator ∷ items_places items) operator items known (apart rows) (inl refl) (λ q m. inr m)
 told-column-op (column_op.Serialize operator items) known rows = told-serialize (operator ∷ items_places items) operator items known rows (inl refl) (λ q m. inr m)
 told-column-op (column_op.ProjectAway operator names) known rows = told-away (operator ∷ names_places names) operator names known rows (inl refl) (λ q m. inr m)
 told-column-op (column_op.ProjectKeep operator names) known rows = told-keep (operator ∷ names_places names) operator names known rows (inl refl) (λ q m. inr m)

@@ -52,6 +52,7 @@ use Rattle.kql_syntax.specs.declared.tree.Name.{Name}
 use Rattle.std.proofs.Common.{List, [], ap, inl, inr, map, refl, subst, sym, ℕ, ◌++◌, ◌∷◌, ◌≡◌}
 use Rattle.std.specs.List.{flat_map}
 use Rattle.std.specs.Prelude.{Bool, Err, None, Ok, Option, Some, false, fold, true, ℤ}
+use Rattle.bind_operators.specs.Answers.{apart}
 
 -- The places of each part of a pipe.
 
@@ -232,9 +233,9 @@ each-args ps (g ∷ gs) w =
 of-op : (y : Op-F GivenOp GivenSource GivenTableArg GivenTableOp GivenJoin GivenPartition GivenPipe GivenUnion) → ToldOp (roll-Op (map-Op GivenOp GivenSource GivenTableArg GivenTableOp GivenJoin GivenPartition GivenPipe GivenUnion Op Source TableArg TableOp Join Partition Pipe Union bare_op bare_source bare_arg bare_table_op bare_join bare_partition bare_pipe bare_union y))
 unfolding bare_op bare_source bare_arg bare_table_op bare_join bare_partition bare_pipe bare_union
 of-op (Op-F.Columns o) = op-rolled (Op-F.Columns o) (λ known inside rows. told-column-op o known rows)
-of-op (Op-F.Rows o) = op-rolled (Op-F.Rows o) (λ known inside rows. told-row-op o known rows)
-of-op (Op-F.Groups o) = op-rolled (Op-F.Groups o) (λ known inside rows. told-group-op o known rows)
-of-op (Op-F.Tables o) = op-rolled (Op-F.Tables o.0) o.1
+of-op (Op-F.Rows o) = op-rolled (Op-F.Rows o) (λ known inside rows. told-row-op o known (apart rows))
+of-op (Op-F.Groups o) = op-rolled (Op-F.Groups o) (λ known inside rows. told-group-op o known (apart rows))
+of-op (Op-F.Tables o) = op-rolled (Op-F.Tables o.0) (λ known inside rows. o.1 known inside (apart rows))
 
 of-source : (y : Source-F GivenOp GivenSource GivenTableArg GivenTableOp GivenJoin GivenPartition GivenPipe GivenUnion) → ToldSource (roll-Source (map-Source GivenOp GivenSource GivenTableArg GivenTableOp GivenJoin GivenPartition GivenPipe GivenUnion Op Source TableArg TableOp Join Partition Pipe Union bare_op bare_source bare_arg bare_table_op bare_join bare_partition bare_pipe bare_union y))
 unfolding bare_op bare_source bare_arg bare_table_op bare_join bare_partition bare_pipe bare_union

@@ -41,7 +41,7 @@ use Rattle.bind_operators.specs.declared.wanted.Wanted.TheVariants as wanted
 use Rattle.bind_operators.specs.Answers.{width_faults}
 use Rattle.bind_operators.specs.Faults.{fault_if}
 use Rattle.bind_operators.specs.Items.{given_name, item_in, no_items, twice_items}
-use Rattle.bind_operators.specs.Known.{columns_handed_in, handed_in, is_constant_name, let_columns, let_name, let_numbered, let_or_handed_in, no_rows, or_no_table, rows_of, scope_at, serial_rows_of, straight_from, table_bound, table_named}
+use Rattle.bind_operators.specs.Known.{columns_handed_in, handed_in, is_constant_name, let_columns, let_name, let_numbered, let_or_handed_in, no_rows, or_no_table, rows_of, scope_at, serial_rows_of, straight_from, table_bound, table_named, table_rows}
 use Rattle.bind_operators.specs.Places.{name_place}
 use Rattle.bind_operators.specs.Sources.{print_bound, print_items, print_names, printed, range_bound, ranged, with_print_item}
 use Rattle.bind_operators.specs.Wanted.{constant_bound}
@@ -96,12 +96,20 @@ unhidden : (b : Bool) (o : Option (List Column)) (columns : List Column) → (if
 unhidden true o columns e = absurd cc
 unhidden false o columns e = e
 
+-- The same of a table's rows.
+table-rows-sound : (known : Known) (n : List ℕ) (columns : List Column) → source_columns (source.Table n) (read_known known) ≡ Some columns → AreColumns columns → IsSoundPlan known (table_rows n columns)
+unfolding table_rows
+table-rows-sound known n columns is names = record {
+  fits = plan-rolled (source.Table n) [] (read_known known) ∙ (nothing-behind (source_columns (source.Table n) (read_known known)) (read_known known) ∙ is);
+  columns = names;
+}
+
 handed-sound : (known : Known) (n : List ℕ) (o : Option (List Column)) (p : BoundPlan) → IsSoundKnown known → columns_handed_in known n ≡ o → handed_in n o ≡ Some p → IsSoundPlan known p
-unfolding columns_handed_in rows_of source_columns read_known
+unfolding columns_handed_in source_columns read_known
 handed-sound known n None p sound is e = absurd cc
 handed-sound known n (Some columns) p sound is e =
     let there : table_columns known.tables n ≡ Some columns = unhidden (is_constant_name known.consts n) (table_columns known.tables n) columns is in
-    subst (IsSoundPlan known) (some-same (rows_of (source.Table n) columns) p e) (straight-sound known false (source.Table n) columns there (table-columns known.tables n columns sound.tables there))
+    subst (IsSoundPlan known) (some-same (table_rows n columns) p e) (table-rows-sound known n columns there (table-columns known.tables n columns sound.tables there))
 
 named-by : (known : Known) (n : List ℕ) (o : Option ℕ) (p : BoundPlan) → IsSoundKnown known → let_numbered known n ≡ o → let_or_handed_in known n o ≡ Some p → IsSoundPlan known p
 named-by known n (Some i) p sound is e = subst (IsSoundPlan known) (some-same (rows_of (source.Let i) (let_columns known i)) p e) (let-sound known n i sound is)

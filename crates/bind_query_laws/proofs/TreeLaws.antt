@@ -52,6 +52,11 @@ use Rattle.bind_query_laws.proofs.SortLaws.{sort_sound, top_sound}
 use Rattle.bind_query_laws.proofs.SourceLaws.{print_sound, range_sound, table_sound}
 use Rattle.bind_query_laws.proofs.TakeAndCountLaws.{count_sound, take_sound}
 use Rattle.bind_query_laws.proofs.WhereLaws.{where_sound}
+use Rattle.bind_operators.specs.Answers.{apart}
+use Rattle.bind_operators.specs.declared.bound.BoundOp.{BoundOp}
+use Rattle.bind_operators.specs.declared.known.Known.{Known}
+use Rattle.bind_operators.specs.declared.shape.Shape.{Shape}
+use Rattle.bind_query_laws.specs.Sound.{IsSoundOp}
 
 -- The operators over groups, and those over tables, are sound.
 pub record SoundOthers : Type 0 where
@@ -66,13 +71,22 @@ pub record SoundOthers : Type 0 where
   pub union_source : (operator : Place) (u : UnionParts) → AllByRecursion (λ (a : BindsArg). SoundPlan a.1) u.1 → SoundPlan (union_source_bound operator u)
   pub partition : (operator : Place) (column : Name) (ops : List BindsOp) → AllByRecursion SoundOp ops → SoundOp (partition_bound operator column ops)
 
+-- Rows behind the end of a pattern prefix have the columns of those before.
+of-apart : (known : Known) (inside : Bool) (rows : Shape) (b : BoundOp) → IsSoundOp known inside (apart rows) b → IsSoundOp known inside rows b
+unfolding apart
+of-apart known inside rows b h = record { fits = h.fits; columns = h.columns }
+
+apart-sound : (bind : BindsOp) → SoundOp bind → SoundOp (λ known inside rows. bind known inside (apart rows))
+unfolding apart
+apart-sound bind h known inside rows b sound names is = of-apart known inside rows b (h known inside (apart rows) b sound names is)
+
 -- Operators without tables in them.
 
 column-op : (o : ColumnOp) → SoundOp (λ known inside rows. column_op_bound o known rows)
-unfolding column_op_bound
+unfolding column_op_bound apart
 column-op (column.Where operator e) known inside rows b sound names is = where_sound e known rows b sound names is inside
 column-op (column.Extend operator items) known inside rows b sound names is = extend_sound operator items known rows b sound names is inside
-column-op (column.Project operator items) known inside rows b sound names is = project_sound operator items known rows b sound names is inside
+column-op (column.Project operator items) known inside rows b sound names is = of-apart known inside rows b (project_sound operator items known (apart rows) b sound names is inside)
 column-op (column.Serialize operator items) known inside rows b sound names is = serialize_sound operator items known rows b sound names is inside
 column-op (column.ProjectAway operator ns) known inside rows b sound names is = project_away_sound operator ns known rows b sound names is inside
 column-op (column.ProjectKeep operator ns) known inside rows b sound names is = project_keep_sound operator ns known rows b sound names is inside
@@ -191,9 +205,9 @@ each-arg (g ∷ gs) h = let parts = and_parts (arg_patterns g.0) (all_have (map 
 of-op : SoundOthers → (y : Op-F GivenOp GivenSource GivenTableArg GivenTableOp GivenJoin GivenPartition GivenPipe GivenUnion) → HoldsOp (roll-Op (map-Op GivenOp GivenSource GivenTableArg GivenTableOp GivenJoin GivenPartition GivenPipe GivenUnion Op Source TableArg TableOp Join Partition Pipe Union bare_op bare_source bare_arg bare_table_op bare_join bare_partition bare_pipe bare_union y))
 unfolding op_patterns source_patterns arg_patterns table_op_patterns join_patterns partition_patterns pipe_patterns union_patterns op_bound source_bound arg_read table_op_bound join_read partition_read pipe_bound union_read bare_op bare_source bare_arg bare_table_op bare_join bare_partition bare_pipe bare_union
 of-op others (Op-F.Columns o) h = subst SoundOp (sym (fold-roll-Op BindsOp BindsPlan BindsArg BindsOp BindsJoin BindsPartition BindsPlan UnionParts op_step source_step table_arg_step table_op_step join_step partition_step pipe_step union_step (Op-F.Columns o))) (column-op o)
-of-op others (Op-F.Rows o) h = subst SoundOp (sym (fold-roll-Op BindsOp BindsPlan BindsArg BindsOp BindsJoin BindsPartition BindsPlan UnionParts op_step source_step table_arg_step table_op_step join_step partition_step pipe_step union_step (Op-F.Rows o))) (row-op others o)
-of-op others (Op-F.Groups o) h = subst SoundOp (sym (fold-roll-Op BindsOp BindsPlan BindsArg BindsOp BindsJoin BindsPartition BindsPlan UnionParts op_step source_step table_arg_step table_op_step join_step partition_step pipe_step union_step (Op-F.Groups o))) (group-op others o (sym (fold-roll-Op Bool Bool Bool Bool Bool Bool Bool Bool op_patterns_step source_patterns_step arg_patterns_step table_op_patterns_step join_patterns_step partition_patterns_step pipe_patterns_step union_patterns_step (Op-F.Groups o)) ∙ h))
-of-op others (Op-F.Tables o) h = subst SoundOp (sym (fold-roll-Op BindsOp BindsPlan BindsArg BindsOp BindsJoin BindsPartition BindsPlan UnionParts op_step source_step table_arg_step table_op_step join_step partition_step pipe_step union_step (Op-F.Tables o.0))) (o.1 (sym (fold-roll-Op Bool Bool Bool Bool Bool Bool Bool Bool op_patterns_step source_patterns_step arg_patterns_step table_op_patterns_step join_patterns_step partition_patterns_step pipe_patterns_step union_patterns_step (Op-F.Tables o.0)) ∙ h))
+of-op others (Op-F.Rows o) h = subst SoundOp (sym (fold-roll-Op BindsOp BindsPlan BindsArg BindsOp BindsJoin BindsPartition BindsPlan UnionParts op_step source_step table_arg_step table_op_step join_step partition_step pipe_step union_step (Op-F.Rows o))) (apart-sound (λ known inside rows. row_op_bound o known rows) (row-op others o))
+of-op others (Op-F.Groups o) h = subst SoundOp (sym (fold-roll-Op BindsOp BindsPlan BindsArg BindsOp BindsJoin BindsPartition BindsPlan UnionParts op_step source_step table_arg_step table_op_step join_step partition_step pipe_step union_step (Op-F.Groups o))) (apart-sound (λ known inside rows. group_op_bound o known rows) (group-op others o (sym (fold-roll-Op Bool Bool Bool Bool Bool Bool Bool Bool op_patterns_step source_patterns_step arg_patterns_step table_op_patterns_step join_patterns_step partition_patterns_step pipe_patterns_step union_patterns_step (Op-F.Groups o)) ∙ h)))
+of-op others (Op-F.Tables o) h = subst SoundOp (sym (fold-roll-Op BindsOp BindsPlan BindsArg BindsOp BindsJoin BindsPartition BindsPlan UnionParts op_step source_step table_arg_step table_op_step join_step partition_step pipe_step union_step (Op-F.Tables o.0))) (apart-sound (table_op_bound o.0) (o.1 (sym (fold-roll-Op Bool Bool Bool Bool Bool Bool Bool Bool op_patterns_step source_patterns_step arg_patterns_step table_op_patterns_step join_patterns_step partition_patterns_step pipe_patterns_step union_patterns_step (Op-F.Tables o.0)) ∙ h)))
 
 of-source : SoundOthers → (y : Source-F GivenOp GivenSource GivenTableArg GivenTableOp GivenJoin GivenPartition GivenPipe GivenUnion) → HoldsSource (roll-Source (map-Source GivenOp GivenSource GivenTableArg GivenTableOp GivenJoin GivenPartition GivenPipe GivenUnion Op Source TableArg TableOp Join Partition Pipe Union bare_op bare_source bare_arg bare_table_op bare_join bare_partition bare_pipe bare_union y))
 unfolding op_patterns source_patterns arg_patterns table_op_patterns join_patterns partition_patterns pipe_patterns union_patterns op_bound source_bound arg_read table_op_bound join_read partition_read pipe_bound union_read bare_op bare_source bare_arg bare_table_op bare_join bare_partition bare_pipe bare_union

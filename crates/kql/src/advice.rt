@@ -2,6 +2,7 @@
 
 use crate::caret;
 use crate::probe::{columns_at, headers_of};
+use crate::shown::Asked as Call;
 use kql_messages::{
     KnownColumn, RefusedFile, RefusedQuery, Sizes, file_message, query_message, sizes_message,
 };
@@ -13,6 +14,9 @@ use std::{fs, io};
 
 // For how long a word at the place of a refusal another one is looked for: each is compared with all others there are, byte by byte.
 const WORD_TOP: usize = 1_000;
+
+// The code of a pattern that is refused.
+const BAD_PATTERN: u32 = 501;
 
 // What is told where `run` has `-e` or `-q`.
 const WITHOUT_RUN: &str =
@@ -45,19 +49,24 @@ pub(crate) fn front_of(rt: &HostRuntime, path: &str, most: u64) -> Option<Vec<u8
     read_up_to(rt.alloc(), &mut shelf, most).ok()
 }
 
-/// Tells a terminal of a refusal: of these words, and of the text of the query where that stands in no file. Where nothing
-/// more is known, it is what the code means.
+/// Tells a terminal of a call that is refused. Where nothing more is known, it is what the code means.
 pub(crate) fn tell<T: Threads + Sync>(
     rt: &HostRuntime,
     threads: &T,
-    words: &[String],
-    query: Option<&str>,
+    call: Call<'_, '_>,
     ended: &Ended,
 ) -> io::Result<()> {
+    let words = call.words;
     let (code, told) = match ended {
+        Ended::QueryRefused { code, .. } if *code == BAD_PATTERN => {
+            (*code, String::from_str(rt.alloc(), call.pattern)?)
+        }
         Ended::QueryRefused { code, place } => {
             let byte = place.byte as usize;
-            (*code, query_told(rt, threads, words, query, *code, byte)?)
+            (
+                *code,
+                query_told(rt, threads, words, call.query, *code, byte)?,
+            )
         }
         Ended::DataRefused {
             file,

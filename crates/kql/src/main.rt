@@ -20,8 +20,9 @@ use kql_outside::{DirShelf, OpenGate, StreamSink};
 use kql_program::{Ended, kql, status};
 use kql_shell::Verb;
 use output::{tell_cause, tell_fault, watched};
+use pattern_ops::RegexMaker;
 use shell::run_shell;
-use shown::{Asked, show_more};
+use shown::{Asked, pattern_told, show_more};
 use std::io::{ErrorKind, IsTerminal};
 use std::process::ExitCode;
 use std::rt::Env;
@@ -107,6 +108,7 @@ fn run_top<T: Threads + Sync>(
     let mut out = watched(rt);
     let mut sink = StreamSink::new(&mut out);
     let mut err = StreamSink::new(rt.stderr());
+    let mut patterns = RegexMaker::new(rt.alloc());
     let ended = kql(
         threads,
         rt.alloc(),
@@ -115,10 +117,18 @@ fn run_top<T: Threads + Sync>(
         &mut sink,
         &mut err,
         &OpenGate,
+        &mut patterns,
     );
     drop(sink);
     tell_fault(rt, &out);
-    show_more(rt, threads, Asked { words, query: None }, &ended);
+    let told = pattern_told(rt, &patterns);
+    let pattern = told.as_str();
+    let asked = Asked {
+        words,
+        query: None,
+        pattern,
+    };
+    show_more(rt, threads, asked, &ended);
     Ok(ExitCode::from(status(&ended)))
 }
 

@@ -9,6 +9,7 @@ use kql_outside::{CleanShelf, CleanSink, OpenGate};
 use kql_program::{kql, status};
 use kql_values::Table;
 use kql_words::table_parts;
+use pattern_ops::RegexMaker;
 use std::alloc::{AllocError, Global};
 use std::str;
 use std::thread::Threads;
@@ -182,6 +183,7 @@ impl<T: Threads + Sync> Bare<'_, T> {
         let mut shelf = CleanShelf::new(self.files(query)?);
         let mut out = CleanSink::new(alloc, CHUNK, ROOM)?;
         let mut err = CleanSink::new(alloc, CHUNK, ROOM)?;
+        let mut patterns = RegexMaker::new(alloc);
         let ended = kql(
             self.threads,
             alloc,
@@ -190,6 +192,7 @@ impl<T: Threads + Sync> Bare<'_, T> {
             &mut out,
             &mut err,
             &OpenGate,
+            &mut patterns,
         );
         if status(&ended) != 0 {
             return Ok(None);

@@ -4,7 +4,7 @@ use crate::output::{tell_fault, watched};
 use crate::query::{Query, path_of, query_of, word_at};
 use crate::refuse::{csv_alone, no_memory, read_fault, refuse_file, refuse_word, write_out};
 use crate::screen::look;
-use crate::shown::{Asked, show_more};
+use crate::shown::{Asked, pattern_told, show_more};
 use csv_io::{DataFault, load};
 use kql_bound::Program;
 use kql_cells::{Bytes, CellRef, NamedSchema};
@@ -17,6 +17,7 @@ use kql_shell::{Form, Request, RunWords, Stop, Verb, read_request, run_words};
 use kql_values::Table;
 use kql_views::{json_lines, json_text, table_view};
 use kql_words::{Refusal, read_command, table_parts};
+use pattern_ops::RegexMaker;
 use std::alloc::AllocError;
 use std::io;
 use std::io::IsTerminal;
@@ -144,17 +145,18 @@ fn answer<T: Threads + Sync>(
     form: Form,
     shows_all: bool,
 ) -> io::Result<ExitCode> {
+    let mut patterns = RegexMaker::new(rt.alloc());
     if form == Form::Csv {
         let mut out = watched(rt);
         let mut sink = StreamSink::new(&mut out);
-        let ended = run_call(rt, threads, call, &mut sink);
+        let ended = run_call(rt, threads, call, &mut sink, &mut patterns);
         drop(sink);
         tell_fault(rt, &out);
-        show_call(rt, threads, call, &ended);
+        show_call(rt, threads, call, &patterns, &ended);
         return Ok(ExitCode::from(status(&ended)));
     }
     let mut out = KeptSink::new(rt.alloc());
-    let ended = run_call(rt, threads, call, &mut out);
+    let ended = run_call(rt, threads, call, &mut out, &mut patterns);
     if out.has_failed() {
         return no_memory(rt);
     }
@@ -162,7 +164,7 @@ fn answer<T: Threads + Sync>(
         Ended::Table { .. } => write_form(rt, out.bytes(), form, shows_all),
         _ => Ok(ExitCode::from(status(&ended))),
     };
-    show_call(rt, threads, call, &ended);
+    show_call(rt, threads, call, &patterns, &ended);
     code
 }
 
@@ -181,6 +183,7 @@ fn run_call<T: Threads + Sync, O: Sink>(
     threads: &T,
     call: &Call,
     out: &mut O,
+    patterns: &mut RegexMaker,
 ) -> Ended {
     let Ok(files) = files_of(rt, call) else {
         let _ = no_memory(rt);
@@ -196,19 +199,28 @@ fn run_call<T: Threads + Sync, O: Sink>(
         out,
         &mut err,
         &OpenGate,
+        patterns,
     )
 }
 
 // Shows a terminal more of a refusal of a call, or of its answer.
-fn show_call<T: Threads + Sync>(rt: &HostRuntime, threads: &T, call: &Call, ended: &Ended) {
+fn show_call<T: Threads + Sync>(
+    rt: &HostRuntime,
+    threads: &T,
+    call: &Call,
+    patterns: &RegexMaker,
+    ended: &Ended,
+) {
     let Ok(text) = String::from_utf8_lossy(rt.alloc(), call.text.as_slice()) else {
         return;
     };
+    let pattern = pattern_told(rt, patterns);
     show_asked(
         rt,
         threads,
         call.made.words.as_slice(),
         text.as_str(),
+        pattern.as_str(),
         ended,
     );
 }
@@ -218,10 +230,15 @@ fn show_asked<'a, T: Threads + Sync>(
     threads: &T,
     words: &'a [String],
     text: &'a str,
+    pattern: &'a str,
     ended: &Ended,
 ) {
     let query = Some(text);
-    let asked = Asked { words, query };
+    let asked = Asked {
+        words,
+        query,
+        pattern,
+    };
     show_more(rt, threads, asked, ended);
 }
 
@@ -284,7 +301,8 @@ fn run_schema<T: Threads + Sync>(
         Err(_) => return no_memory(rt),
     }
     let mut out = KeptSink::new(rt.alloc());
-    let ended = run_call(rt, threads, &call, &mut out);
+    let mut patterns = RegexMaker::new(rt.alloc());
+    let ended = run_call(rt, threads, &call, &mut out, &mut patterns);
     if out.has_failed() {
         return no_memory(rt);
     }
@@ -295,7 +313,7 @@ fn run_schema<T: Threads + Sync>(
         },
         _ => Ok(ExitCode::from(status(&ended))),
     };
-    show_call(rt, threads, &call, &ended);
+    show_call(rt, threads, &call, &patterns, &ended);
     code
 }
 

@@ -4,15 +4,28 @@ use crate::advice::{self, asked_in};
 use crate::{caret, under};
 use kql_lexer::Place;
 use kql_program::Ended;
+use pattern_ops::RegexMaker;
 use std::io;
 use std::io::IsTerminal;
 use std::thread::Threads;
 
-/// What is known of a refused call: its words, and the text of its query where that stands in no file.
+/// What is known of a refused call: its words, the text of its query where that stands in no file, and what is wrong with a pattern that is refused.
 #[derive(Clone, Copy)]
-pub(crate) struct Asked<'a> {
+pub(crate) struct Asked<'a, 'p> {
     pub words: &'a [String],
     pub query: Option<&'a str>,
+    pub pattern: &'p str,
+}
+
+/// What is wrong with the last pattern that a maker refused, where there is one.
+pub(crate) fn pattern_told(rt: &HostRuntime, patterns: &RegexMaker) -> String {
+    match patterns.last_error() {
+        Some(error) => match format!(in rt.alloc(); "{error}") {
+            Ok(text) => text,
+            Err(_) => String::new(rt.alloc()),
+        },
+        None => String::new(rt.alloc()),
+    }
 }
 
 /// Shows a terminal more of a call that ended, behind what it wrote: of a refusal more than its line, and of an answer what its files have that may
@@ -20,7 +33,7 @@ pub(crate) struct Asked<'a> {
 pub(crate) fn show_more<T: Threads + Sync>(
     rt: &HostRuntime,
     threads: &T,
-    asked: Asked<'_>,
+    asked: Asked<'_, '_>,
     ended: &Ended,
 ) {
     if rt.stderr().is_terminal() {
@@ -39,7 +52,7 @@ pub(crate) fn show_meaning(rt: &HostRuntime, code: u32) {
 fn told<T: Threads + Sync>(
     rt: &HostRuntime,
     threads: &T,
-    asked: Asked<'_>,
+    asked: Asked<'_, '_>,
     ended: &Ended,
 ) -> io::Result<()> {
     match ended {
@@ -53,11 +66,11 @@ fn told<T: Threads + Sync>(
         Ended::QueryRefused { place, .. } => show_place(rt, asked, *place)?,
         _ => {}
     }
-    advice::tell(rt, threads, asked.words, asked.query, ended)
+    advice::tell(rt, threads, asked, ended)
 }
 
 // Shows a place of the query.
-fn show_place(rt: &HostRuntime, asked: Asked<'_>, place: Place) -> io::Result<()> {
+fn show_place(rt: &HostRuntime, asked: Asked<'_, '_>, place: Place) -> io::Result<()> {
     if let Some(text) = asked.query {
         return caret::show_line(rt, text, place.line, place.column);
     }

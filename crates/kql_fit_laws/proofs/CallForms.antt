@@ -41,7 +41,7 @@ use Rattle.kql_functions.specs.declared.func.TextFunc.TheVariants as texts
 use Rattle.kql_functions.specs.declared.func.TextFunc.{TextFunc}
 use Rattle.kql_functions.specs.declared.func.TimeFunc.TheVariants as time
 use Rattle.kql_functions.specs.declared.func.TimeFunc.{TimeFunc}
-use Rattle.kql_scalar_fns.specs.Applied.{applied}
+use Rattle.kql_scalar_fns.specs.Applied.{applied, untold}
 use Rattle.kql_scalar_fns.specs.Arguments.{AreWellFormed, bool_or_null, long_or_null, moment_or_null, span_or_null}
 use Rattle.kql_scalar_fns.specs.Arithmetic.{arithmetic, bin, bin_from_zero, bits_of_both, bits_turned, difference, negative, product, quotient, remainder, sign, size, sum}
 use Rattle.kql_scalar_fns.specs.Choice.{choice}
@@ -496,6 +496,12 @@ dynamic-form dynamic.SetIntersect vs h = of_count-form 2 set_intersect vs inters
 dynamic-form dynamic.SetDifference vs h = of_count-form 2 set_difference vs set_difference-form h
 dynamic-form dynamic.SetHasElement vs h = of_count-form 2 set_has_element vs has_element-form h
 
+-- Calls of patterns.
+
+untold-form : (g : Option ℕ) → IsWellFormed (untold g)
+untold-form None = tt
+untold-form (Some n) = tt
+
 -- All calls.
 
 pub applied-form : (f : Func) (vs : List Value) → AreWellFormed vs → IsWellFormed (applied f vs)
@@ -509,3 +515,4 @@ applied-form (function.Conversion f) vs h = conversion-form f vs h
 applied-form (function.Text f) vs h = text-form f vs
 applied-form (function.Time f) vs h = time-form f vs
 applied-form (function.Dynamic f) vs h = dynamic-form f vs h
+applied-form (function.Pattern f) vs h = untold-form f.group

@@ -1,5 +1,5 @@
 -- Each function, operator, window function and aggregate has a name of its own, and stands once in its table.
-use Rattle.std.proofs.Common.{◌≡◌, ℕ, Bool, true, false, not, List, refl, ◌∙◌}
+use Rattle.std.proofs.Common.{◌≡◌, ℕ, ◌||◌, Bool, true, false, not, List, refl, ◌∙◌}
 use Rattle.std.specs.Prelude.{◌↔◌, Some, Contains}
 use Rattle.std.specs.List.{list_all}
 use Rattle.kql_functions.specs.declared.func.ArithmeticFunc.{ArithmeticFunc}
@@ -29,7 +29,7 @@ use Rattle.kql_functions.specs.declared.window.Window.{Window}
 use Rattle.kql_functions.specs.declared.window.Window.TheVariants as window
 use Rattle.kql_functions.specs.declared.aggregate.Aggregate.{Aggregate}
 use Rattle.kql_functions.specs.declared.aggregate.Aggregate.TheVariants as aggregate
-use Rattle.kql_functions.specs.Find.{AreDistinct, aggregates, functions, is_operator, named_among, operators, search, windows}
+use Rattle.kql_functions.specs.Find.{AreDistinct, aggregates, functions, is_called, is_operator, is_pattern, named_among, operators, search, windows}
 use Rattle.kql_functions.specs.Names.{aggregate_name, arithmetic_name, choice_name, comparison_name, conversion_name, dynamic_name, func_name, logic_name, search_text, text_name, time_name, window_name}
 use Rattle.kql_functions.proofs.NamedTables.{all-at, among-held, have_own, one-name, own-distinct}
 
@@ -104,27 +104,42 @@ stands-place place.Term fold.Exact true = refl
 stands-search : (f : SearchFunc) → Stands (func.Search f)
 stands-search f = stands-place f.place f.fold f.negated
 
-stands : (f : Func) → Stands f
-stands (func.Arithmetic f) = stands-arithmetic f
-stands (func.Comparison f) = stands-comparison f
-stands (func.Search f) = stands-search f
-stands (func.Logic f) = stands-logic f
-stands (func.Choice f) = stands-choice f
-stands (func.Conversion f) = stands-conversion f
-stands (func.Text f) = stands-text f
-stands (func.Time f) = stands-time f
-stands (func.Dynamic f) = stands-dynamic f
+stands : (f : Func) → is_pattern f ≡ false → Stands f
+stands (func.Arithmetic f) e = stands-arithmetic f
+stands (func.Comparison f) e = stands-comparison f
+stands (func.Search f) e = stands-search f
+stands (func.Logic f) e = stands-logic f
+stands (func.Choice f) e = stands-choice f
+stands (func.Conversion f) e = stands-conversion f
+stands (func.Text f) e = stands-text f
+stands (func.Time f) e = stands-time f
+stands (func.Dynamic f) e = stands-dynamic f
+stands (func.Pattern f) e = cc
 
-pub called : (f : Func) → is_operator f ≡ false → named_among func_name functions (func_name f) ≡ Some f
-called f e = rw e at (stands f)
+neither : (a b : Bool) → not (a || b) ≡ true → (a ≡ false) × (b ≡ false)
+neither true b e = cc
+neither false true e = cc
+neither false false e = (refl, refl)
+
+pub operator-apart : (f : Func) → is_operator f ≡ true → is_pattern f ≡ false
+operator-apart (func.Arithmetic f) e = refl
+operator-apart (func.Comparison f) e = refl
+operator-apart (func.Search f) e = refl
+operator-apart (func.Logic f) e = refl
+operator-apart (func.Choice f) e = refl
+operator-apart (func.Conversion f) e = refl
+operator-apart (func.Text f) e = refl
+operator-apart (func.Time f) e = refl
+operator-apart (func.Dynamic f) e = refl
+operator-apart (func.Pattern f) e = cc
+
+pub called : (f : Func) → is_called f ≡ true → named_among func_name functions (func_name f) ≡ Some f
+called f e = let n = neither (is_operator f) (is_pattern f) e in rw n.0 at (stands f n.1)
 
 pub written : (f : Func) → is_operator f ≡ true → named_among func_name operators (func_name f) ≡ Some f
-written f e = rw e at (stands f)
+written f e = rw e at (stands f (operator-apart f e))
 
 -- ---- what stands in each table
-
-abbrev is_called : Func → Bool
-is_called f = not (is_operator f)
 
 all-called : list_all is_called functions ≡ true
 unfolding functions
@@ -134,14 +149,10 @@ all-operators : list_all is_operator operators ≡ true
 unfolding operators
 all-operators = refl
 
-not-true : (b : Bool) → not b ≡ true → b ≡ false
-not-true true e = cc
-not-true false e = refl
+pub held-called : (f : Func) → Contains functions f → is_called f ≡ true
+held-called f c = all-at is_called functions f all-called c
 
-pub held-called : (f : Func) → Contains functions f → is_operator f ≡ false
-held-called f c = not-true (is_operator f) (all-at is_called functions f all-called c)
-
-pub every-function : (f : Func) → Contains functions f ↔ (is_operator f ≡ false)
+pub every-function : (f : Func) → Contains functions f ↔ (is_called f ≡ true)
 every-function f = (held-called f, λ e. among-held func_name functions (func_name f) f (called f e))
 
 pub every-operator : (f : Func) → Contains operators f ↔ (is_operator f ≡ true)

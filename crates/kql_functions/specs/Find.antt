@@ -1,5 +1,5 @@
 -- The functions that a call can name, and what a name is.
-use Rattle.std.specs.Prelude.{◌≡◌, ◌≢◌, ℕ, Bool, true, false, ◌||◌, List, [], ◌∷◌, ◌++◌, codes, Contains, Option, None, Some, if◌then◌else◌}
+use Rattle.std.specs.Prelude.{◌≡◌, ◌≢◌, ℕ, Bool, true, false, not, ◌||◌, List, [], ◌∷◌, ◌++◌, codes, Contains, Option, None, Some, if◌then◌else◌}
 use Rattle.std.specs.List.{AllPairs, list_any}
 use Rattle.std.specs.Str.{bytes_eq}
 use Rattle.kql_functions.specs.declared.func.ArithmeticFunc.{ArithmeticFunc}
@@ -121,16 +121,26 @@ is_one_of names n = list_any (λ r. bytes_eq n r) names
 abbrev pub is_refused : List ℕ → Bool
 is_refused n = is_one_of refused_aggregates n || (is_one_of refused_functions n || is_one_of refused_conversions n)
 
--- what is found first: a function, a window function, an aggregate, or a name that is refused
-abbrev pub found_first : Option Func → Option Window → Option Aggregate → Bool → Found
+-- the name by which a call asks for the text of a pattern's group
+abbrev pub extract_name : List ℕ
+extract_name = codes "extract"
+
+-- a name that stands in no table of names
+abbrev pub found_apart : Bool → Bool → Found
+found_apart true p = found.Refused
+found_apart false true = found.Pattern
+found_apart false false = found.Unknown
+
+-- what is found first: a function, a window function, an aggregate, or a name that stands in none of these tables
+abbrev pub found_first : Option Func → Option Window → Option Aggregate → Found → Found
 found_first (Some f) w a r = found.Scalar f
 found_first None (Some w) a r = found.Window w
 found_first None None (Some a) r = found.Aggregate a
-found_first None None None r = if r then found.Refused else found.Unknown
+found_first None None None r = r
 
 -- what a name is
 unfoldable pub found_as : List ℕ → Found
-found_as n = found_first (named_among func_name functions n) (named_among window_name windows n) (named_among aggregate_name aggregates n) (is_refused n)
+found_as n = found_first (named_among func_name functions n) (named_among window_name windows n) (named_among aggregate_name aggregates n) (found_apart (is_refused n) (bytes_eq n extract_name))
 
 -- operators, which no call names
 abbrev pub is_arithmetic_operator : ArithmeticFunc → Bool
@@ -184,7 +194,25 @@ is_operator (func.Conversion f) = false
 is_operator (func.Text f) = false
 is_operator (func.Time f) = false
 is_operator (func.Dynamic f) = is_dynamic_operator f
+is_operator (func.Pattern f) = false
 
--- a name of no function that a call names, of no window function, of no aggregate, and of none that is refused
+-- calls of patterns, which are neither operators nor functions of a table
+abbrev pub is_pattern : Func → Bool
+is_pattern (func.Arithmetic f) = false
+is_pattern (func.Comparison f) = false
+is_pattern (func.Search f) = false
+is_pattern (func.Logic f) = false
+is_pattern (func.Choice f) = false
+is_pattern (func.Conversion f) = false
+is_pattern (func.Text f) = false
+is_pattern (func.Time f) = false
+is_pattern (func.Dynamic f) = false
+is_pattern (func.Pattern f) = true
+
+-- functions that a call names
+abbrev pub is_called : Func → Bool
+is_called f = not (is_operator f || is_pattern f)
+
+-- a name of no function that a call names, of no window function, of no aggregate, of none that is refused, and not `extract`
 abbrev pub IsNoName : List ℕ → Type 0
-IsNoName n = ((f : Func) → is_operator f ≡ false → func_name f ≢ n) × (((w : Window) → window_name w ≢ n) × (((a : Aggregate) → aggregate_name a ≢ n) × (¬ Contains refused_names n)))
+IsNoName n = ((f : Func) → is_called f ≡ true → func_name f ≢ n) × (((w : Window) → window_name w ≢ n) × (((a : Aggregate) → aggregate_name a ≢ n) × ((¬ Contains refused_names n) × (n ≢ extract_name))))

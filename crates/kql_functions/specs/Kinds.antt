@@ -344,6 +344,11 @@ dynamic_kind dynamic.SetIntersect ks = row ks (kind.Dynamic ∷ kind.Dynamic ∷
 dynamic_kind dynamic.SetDifference ks = row ks (kind.Dynamic ∷ kind.Dynamic ∷ []) kind.Dynamic
 dynamic_kind dynamic.SetHasElement ks = beside_dynamic kind.Bool ks
 
+-- a call of a pattern: whether it is found, or the text of a group
+abbrev pub pattern_kind : Option ℕ → Kind
+pattern_kind None = kind.Bool
+pattern_kind (Some n) = kind.Text
+
 -- the type that a function gives for arguments of these types, or none where it does not take them
 unfoldable pub result_kind : Func → List Kind → Option Kind
 result_kind (func.Arithmetic f) ks = arithmetic_kind f ks
@@ -355,3 +360,4 @@ result_kind (func.Conversion f) ks = conversion_kind f ks
 result_kind (func.Text f) ks = text_kind f ks
 result_kind (func.Time f) ks = time_kind f ks
 result_kind (func.Dynamic f) ks = dynamic_kind f ks
+result_kind (func.Pattern f) ks = row ks (kind.Text ∷ kind.Text ∷ []) (pattern_kind f.group)

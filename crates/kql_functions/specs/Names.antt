@@ -1,5 +1,5 @@
 -- The names of functions and operators, window functions and aggregates.
-use Rattle.std.specs.Prelude.{ℕ, Bool, true, false, List, codes}
+use Rattle.std.specs.Prelude.{ℕ, Bool, true, false, List, Option, None, Some, codes}
 use Rattle.kql_functions.specs.declared.func.ArithmeticFunc.{ArithmeticFunc}
 use Rattle.kql_functions.specs.declared.func.ArithmeticFunc.TheVariants as arithmetic
 use Rattle.kql_functions.specs.declared.func.ComparisonFunc.{ComparisonFunc}
@@ -163,7 +163,12 @@ search_text place.Term fold.Exact true = codes "!has_cs"
 abbrev pub search_name : SearchFunc → List ℕ
 search_name f = search_text f.place f.fold f.negated
 
--- each function and operator has a name of its own
+-- the name of a call of a pattern, by the group that it asks for
+abbrev pub pattern_name : Option ℕ → List ℕ
+pattern_name None = codes "matches regex"
+pattern_name (Some n) = codes "extract"
+
+-- each function and operator has a name of its own; calls of patterns share theirs
 unfoldable pub func_name : Func → List ℕ
 func_name (func.Arithmetic f) = arithmetic_name f
 func_name (func.Comparison f) = comparison_name f
@@ -174,6 +179,7 @@ func_name (func.Conversion f) = conversion_name f
 func_name (func.Text f) = text_name f
 func_name (func.Time f) = time_name f
 func_name (func.Dynamic f) = dynamic_name f
+func_name (func.Pattern f) = pattern_name f.group
 
 unfoldable pub window_name : Window → List ℕ
 window_name window.Prev = codes "prev"

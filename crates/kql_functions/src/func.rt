@@ -1,7 +1,9 @@
-ghost use Rattle.std.specs.Prelude.{◌≡◌};
+ghost use Rattle.std.specs.Prelude.{◌≡◌, false};
 ghost use Rattle.kql_functions.specs.declared.func.Func.{Func};
-ghost use Rattle.kql_functions.specs.Names.{arithmetic_name, choice_name, comparison_name, conversion_name, dynamic_name, func_name, logic_name, search_name, search_text, text_name, time_name};
+ghost use Rattle.kql_functions.specs.Find.{is_pattern};
+ghost use Rattle.kql_functions.specs.Names.{arithmetic_name, choice_name, comparison_name, conversion_name, dynamic_name, func_name, logic_name, pattern_name, search_name, search_text, text_name, time_name};
 
+use kql_lexer::Place;
 use kql_texts::Fold;
 
 /// A scalar function or operator of the language.
@@ -16,6 +18,7 @@ pub enum Func {
     Text(TextFunc),
     Time(TimeFunc),
     Dynamic(DynamicFunc),
+    Pattern(PatternFunc),
 }
 
 /// Sums, products and what belongs to them, of longs, timespans and datetimes.
@@ -176,13 +179,27 @@ pub enum DynamicFunc {
     SetHasElement,
 }
 
+/// A call of a pattern, `matches regex` or `extract`, over the text that is searched and the pattern.
+///
+/// Such a call is not a function of its arguments' values alone: what it finds is told by who made the pattern. Programs
+/// read its answers from columns that are made beforehand, and no expression is run that holds one.
+#[derive(Clone, Copy, Debug, PartialEq, Eq)]
+pub struct PatternFunc {
+    /// The group of `extract` whose text is the answer; none for `matches regex`, which answers whether anything is found.
+    pub group: Option<u32>,
+    /// Where `matches` or `extract` stands in the query.
+    pub word: Place,
+    /// Where the pattern stands in the query.
+    pub literal: Place,
+}
+
 impl Func {
     /// The name of a function, or the sign or word of an operator: of the minus before a value `neg`, of a path's step `at`.
     pub fn name(self) -> &'static str
         ensures name { result.now ≡ func_name self }
 
-        // No two have one name.
-        ensures own { (f : Func) → func_name f ≡ result.now → f ≡ self }
+        // No two have one name, but for the calls of patterns, which their places tell apart.
+        ensures own { is_pattern self ≡ false → (f : Func) → func_name f ≡ result.now → f ≡ self }
     {
         name_of(self)
     }
@@ -202,6 +219,16 @@ fn name_of(f: Func) -> &'static str
         Func::Text(f) => text_name(f),
         Func::Time(f) => time_name(f),
         Func::Dynamic(f) => dynamic_name(f),
+        Func::Pattern(f) => pattern_name(f.group),
+    }
+}
+
+fn pattern_name(group: Option<u32>) -> &'static str
+    ensures { result.now ≡ pattern_name group }
+{
+    match group {
+        Some(_) => "extract",
+        None => "matches regex",
     }
 }
 

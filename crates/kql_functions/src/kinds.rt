@@ -1,5 +1,5 @@
 ghost use Rattle.std.specs.Prelude.{◌≡◌};
-ghost use Rattle.kql_functions.specs.Kinds.{arithmetic_kind, choice_kind, comparison_kind, conversion_kind, dynamic_kind, logic_kind, result_kind, text_kind, time_kind};
+ghost use Rattle.kql_functions.specs.Kinds.{arithmetic_kind, choice_kind, comparison_kind, conversion_kind, dynamic_kind, logic_kind, pattern_kind, result_kind, text_kind, time_kind};
 
 use crate::func::{
     ArithmeticFunc, ChoiceFunc, ComparisonFunc, ConversionFunc, DynamicFunc, Func, LogicFunc,
@@ -30,6 +30,16 @@ pub fn result_kind(f: Func, kinds: &[Kind]) -> Option<Kind>
         Func::Text(f) => text_kind(f, kinds),
         Func::Time(f) => time_kind(f, kinds),
         Func::Dynamic(f) => dynamic_kind(f, kinds),
+        Func::Pattern(f) => row(kinds, &[Kind::Text, Kind::Text], pattern_kind(f.group)),
+    }
+}
+
+fn pattern_kind(group: Option<u32>) -> Kind
+    ensures { result ≡ pattern_kind group }
+{
+    match group {
+        Some(_) => Kind::Text,
+        None => Kind::Bool,
     }
 }
 

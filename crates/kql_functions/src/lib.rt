@@ -13,7 +13,7 @@ mod window;
 pub use aggregate::{Aggregate, aggregates};
 pub use func::{
     ArithmeticFunc, ChoiceFunc, ComparisonFunc, ConversionFunc, DynamicFunc, Func, LogicFunc,
-    SearchFunc, SearchPlace, TextFunc, TimeFunc,
+    PatternFunc, SearchFunc, SearchPlace, TextFunc, TimeFunc,
 };
 pub use kinds::result_kind;
 pub use names::{Found, find};

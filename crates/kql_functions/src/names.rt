@@ -1,9 +1,9 @@
-ghost use Rattle.std.specs.Prelude.{◌≡◌, ◌↔◌, Contains, false, true};
+ghost use Rattle.std.specs.Prelude.{◌≡◌, ◌↔◌, Contains, true};
 ghost use Rattle.kql_functions.specs.declared.aggregate.Aggregate.{Aggregate};
 ghost use Rattle.kql_functions.specs.declared.func.Func.{Func};
 ghost use Rattle.kql_functions.specs.declared.window.Window.{Window};
 ghost use Rattle.kql_functions.specs.Names.{aggregate_name, func_name, window_name};
-ghost use Rattle.kql_functions.specs.Find.{IsNoName, found_as, is_one_of, is_operator, is_refused, named_among, refused_aggregates, refused_conversions, refused_functions, refused_names};
+ghost use Rattle.kql_functions.specs.Find.{IsNoName, extract_name, found_apart, found_as, is_called, is_one_of, is_operator, is_refused, named_among, refused_aggregates, refused_conversions, refused_functions, refused_names};
 
 use crate::aggregate::{Aggregate, aggregate_among, aggregates};
 use crate::func::Func;
@@ -16,6 +16,8 @@ pub enum Found {
     Scalar(Func),
     Window(Window),
     Aggregate(Aggregate),
+    /// `extract`, whose calls are of a pattern and have rules of their own.
+    Pattern,
     /// A function of the reference that the language leaves out.
     Refused,
     Unknown,
@@ -25,12 +27,13 @@ pub enum Found {
 pub fn find(name: &str) -> Found
     ensures value { result ≡ found_as name.now }
 
-    // A function is found by its own name alone, so are a window function, an aggregate and a refused name, and an operator by
-    // none.
-    ensures scalar { (f : Func) → (result ≡ Found.Scalar f) ↔ ((is_operator f ≡ false) × (func_name f ≡ name.now)) }
+    // A function is found by its own name alone, so are a window function, an aggregate, a refused name and `extract`, and an
+    // operator by none.
+    ensures scalar { (f : Func) → (result ≡ Found.Scalar f) ↔ ((is_called f ≡ true) × (func_name f ≡ name.now)) }
     ensures window { (w : Window) → (result ≡ Found.Window w) ↔ (window_name w ≡ name.now) }
     ensures aggregate { (a : Aggregate) → (result ≡ Found.Aggregate a) ↔ (aggregate_name a ≡ name.now) }
     ensures refused { (result ≡ Found.Refused) ↔ Contains refused_names name.now }
+    ensures pattern { (result ≡ Found.Pattern) ↔ (name.now ≡ extract_name) }
     ensures operator { (f : Func) → is_operator f ≡ true → func_name f ≡ name.now → result ≡ Found.Unknown }
 
     // What is none of these is unknown.
@@ -52,10 +55,16 @@ fn find_in_tables(name: &str) -> Found
     if let Some(a) = aggregate_among(aggregates(), name) {
         return Found::Aggregate(a);
     }
-    if is_refused(name) {
-        Found::Refused
-    } else {
-        Found::Unknown
+    found_apart(is_refused(name), name == "extract")
+}
+
+fn found_apart(refused: bool, pattern: bool) -> Found
+    ensures { result ≡ found_apart refused pattern }
+{
+    match (refused, pattern) {
+        (true, _) => Found::Refused,
+        (false, true) => Found::Pattern,
+        (false, false) => Found::Unknown,
     }
 }
 

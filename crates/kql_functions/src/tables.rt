@@ -1,7 +1,7 @@
 //! The functions that calls name and the operators, each once.
-ghost use Rattle.std.specs.Prelude.{◌≡◌, ◌↔◌, false, true, Contains};
+ghost use Rattle.std.specs.Prelude.{◌≡◌, ◌↔◌, true, Contains};
 ghost use Rattle.kql_functions.specs.declared.func.Func.{Func};
-ghost use Rattle.kql_functions.specs.Find.{AreDistinct, functions, is_operator, operators};
+ghost use Rattle.kql_functions.specs.Find.{AreDistinct, functions, is_called, is_operator, operators};
 
 use crate::func::{
     ArithmeticFunc, ChoiceFunc, ComparisonFunc, ConversionFunc, DynamicFunc, Func, LogicFunc,
@@ -192,10 +192,10 @@ const OPERATORS: [Func; 39] = [
     Func::Dynamic(DynamicFunc::At),
 ];
 
-/// Every function that a call names.
+/// Every function that a call names, but for `extract`, whose calls are of a pattern.
 pub fn functions() -> &'static [Func]
     ensures table { result.now ≡ functions }
-    ensures every { (f : Func) → Contains result.now f ↔ (is_operator f ≡ false) }
+    ensures every { (f : Func) → Contains result.now f ↔ (is_called f ≡ true) }
     ensures once { AreDistinct result.now }
 {
     functions_table()

@@ -1,5 +1,6 @@
 use kql_cells::Kind;
 use kql_functions::*;
+use kql_lexer::Place;
 use kql_texts::Fold;
 use std::alloc::{AllocError, Global};
 use std::test::Fail;
@@ -22,7 +23,8 @@ refused avg avgif dcount dcountif percentile percentiles stdev stdevif variance 
 refused exp log log10 round toreal todouble todecimal toint toguid rand series_stats
 aggregate count countif count_distinct count_distinctif sum sumif min max minif maxif make_list make_list_if
 aggregate make_set make_set_if arg_max arg_min take_any binary_all_and binary_all_or binary_all_xor
-unknown extract count_if make_listif dcounts matches at and or neg has in between contains + == iif Abs abs_ row_rank avg_";
+pattern extract
+unknown extract_all matches_regex regex count_if make_listif dcounts matches at and or neg has in between contains + == iif Abs abs_ row_rank avg_";
 
 // Where each search looks (anywhere, at the start, at the end, for a term), whether case counts (`i` that it does not),
 // and whether it is turned round (`-`).
@@ -255,6 +257,7 @@ fn word_of(found: Found) -> &'static str {
         Found::Scalar(_) => "scalar",
         Found::Window(_) => "window",
         Found::Aggregate(_) => "aggregate",
+        Found::Pattern => "pattern",
         Found::Refused => "refused",
         Found::Unknown => "unknown",
     }
@@ -386,6 +389,31 @@ fn counts(rt: HostRuntime) -> Result<(), Fail> {
     assert_eq!(rt; miscounted(rt.alloc(), functions())?.as_str(), "");
     assert_eq!(rt; miscounted(rt.alloc(), operators())?.as_str(), "");
     Ok(())
+}
+
+// A call of a pattern that asks for this group.
+fn pattern(group: Option<u32>) -> Func {
+    let place = Place {
+        line: 1,
+        column: 1,
+        byte: 0,
+    };
+    Func::Pattern(PatternFunc {
+        group,
+        word: place,
+        literal: place,
+    })
+}
+
+#[test]
+fn patterns(rt: HostRuntime) {
+    let texts = [Kind::Text, Kind::Text];
+    assert_eq!(rt; pattern(None).name(), "matches regex");
+    assert_eq!(rt; pattern(Some(0)).name(), "extract");
+    assert_eq!(rt; result_kind(pattern(None), &texts), Some(Kind::Bool));
+    assert_eq!(rt; result_kind(pattern(Some(0)), &texts), Some(Kind::Text));
+    assert_eq!(rt; taken(pattern(None)), 1);
+    assert_eq!(rt; taken(pattern(Some(9))), 1);
 }
 
 fn kind_of(letter: u8) -> Option<Kind> {

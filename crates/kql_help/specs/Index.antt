@@ -51,7 +51,7 @@ of_queries =
     (codes "union" ∷ [], queries.UNION.now) ∷
     (codes "columns" ∷ codes "names" ∷ [], queries.COLUMNS.now) ∷
     (codes "tables" ∷ [], queries.TABLES.now) ∷
-    (codes "kusto" ∷ codes "iif" ∷ codes "notnull" ∷ codes "notempty" ∷ codes "int" ∷ codes "real" ∷ codes "double" ∷ codes "decimal" ∷ codes "guid" ∷ codes "toint" ∷ codes "toreal" ∷ codes "todouble" ∷ codes "todecimal" ∷ codes "toguid" ∷ codes "avg" ∷ codes "avgif" ∷ codes "dcount" ∷ codes "dcountif" ∷ codes "percentile" ∷ codes "percentiles" ∷ codes "stdev" ∷ codes "stdevif" ∷ codes "variance" ∷ codes "varianceif" ∷ codes "hll" ∷ codes "tdigest" ∷ codes "sqrt" ∷ codes "pow" ∷ codes "exp" ∷ codes "log" ∷ codes "log10" ∷ codes "round" ∷ codes "rand" ∷ codes "series_stats" ∷ codes "any" ∷ codes "makelist" ∷ codes "makeset" ∷ codes "pack" ∷ codes "matches" ∷ codes "regex" ∷ codes "extract" ∷ codes "has_any" ∷ codes "has_all" ∷ codes "hasprefix" ∷ codes "hassuffix" ∷ codes "trim" ∷ codes "countof" ∷ codes "format_datetime" ∷ codes "toscalar" ∷ codes "materialize" ∷ codes "as" ∷ codes "datatable" ∷ codes "externaldata" ∷ codes "search" ∷ codes "find" ∷ codes "filter" ∷ codes "sample" ∷ codes "mv-apply" ∷ codes "mvexpand" ∷ codes "project-reorder" ∷ codes "parse-where" ∷ codes "render" ∷ codes "evaluate" ∷ codes "invoke" ∷ codes "facet" ∷ codes "fork" ∷ codes "reduce" ∷ codes "getschema" ∷ codes "consume" ∷ codes "top-nested" ∷ codes "top-hitters" ∷ codes "row_rank_min" ∷ codes "row_rank_dense" ∷ codes "row_window_session" ∷ codes "extract_json" ∷ codes "leftantisemi" ∷ codes "anti" ∷ codes "pivot" ∷ codes "bag_unpack" ∷ codes "database" ∷ codes "sample-distinct" ∷ [], queries.KUSTO.now) ∷
+    (codes "kusto" ∷ codes "iif" ∷ codes "notnull" ∷ codes "notempty" ∷ codes "int" ∷ codes "real" ∷ codes "double" ∷ codes "decimal" ∷ codes "guid" ∷ codes "toint" ∷ codes "toreal" ∷ codes "todouble" ∷ codes "todecimal" ∷ codes "toguid" ∷ codes "avg" ∷ codes "avgif" ∷ codes "dcount" ∷ codes "dcountif" ∷ codes "percentile" ∷ codes "percentiles" ∷ codes "stdev" ∷ codes "stdevif" ∷ codes "variance" ∷ codes "varianceif" ∷ codes "hll" ∷ codes "tdigest" ∷ codes "sqrt" ∷ codes "pow" ∷ codes "exp" ∷ codes "log" ∷ codes "log10" ∷ codes "round" ∷ codes "rand" ∷ codes "series_stats" ∷ codes "any" ∷ codes "makelist" ∷ codes "makeset" ∷ codes "pack" ∷ codes "extract_all" ∷ codes "replace_regex" ∷ codes "has_any" ∷ codes "has_all" ∷ codes "hasprefix" ∷ codes "hassuffix" ∷ codes "trim" ∷ codes "countof" ∷ codes "format_datetime" ∷ codes "toscalar" ∷ codes "materialize" ∷ codes "as" ∷ codes "datatable" ∷ codes "externaldata" ∷ codes "search" ∷ codes "find" ∷ codes "filter" ∷ codes "sample" ∷ codes "mv-apply" ∷ codes "mvexpand" ∷ codes "project-reorder" ∷ codes "parse-where" ∷ codes "render" ∷ codes "evaluate" ∷ codes "invoke" ∷ codes "facet" ∷ codes "fork" ∷ codes "reduce" ∷ codes "getschema" ∷ codes "consume" ∷ codes "top-nested" ∷ codes "top-hitters" ∷ codes "row_rank_min" ∷ codes "row_rank_dense" ∷ codes "row_window_session" ∷ codes "extract_json" ∷ codes "leftantisemi" ∷ codes "anti" ∷ codes "pivot" ∷ codes "bag_unpack" ∷ codes "database" ∷ codes "sample-distinct" ∷ [], queries.KUSTO.now) ∷
     []
 
 -- the operators of tables
@@ -94,6 +94,7 @@ unfoldable pub of_values : List Told
 of_values =
     (codes "operators" ∷ codes "and" ∷ codes "or" ∷ codes "in" ∷ codes "in~" ∷ codes "between" ∷ codes "==" ∷ codes "!=" ∷ codes "<" ∷ codes "<=" ∷ codes ">" ∷ codes ">=" ∷ codes "=~" ∷ codes "!~" ∷ codes "+" ∷ codes "-" ∷ codes "*" ∷ codes "/" ∷ codes "%" ∷ codes "!in" ∷ codes "!in~" ∷ codes "!between" ∷ [], values.OPERATORS.now) ∷
     (codes "searches" ∷ codes "contains" ∷ codes "contains_cs" ∷ codes "startswith" ∷ codes "startswith_cs" ∷ codes "endswith" ∷ codes "endswith_cs" ∷ codes "has" ∷ codes "has_cs" ∷ codes "!contains" ∷ codes "!contains_cs" ∷ codes "!startswith" ∷ codes "!startswith_cs" ∷ codes "!endswith" ∷ codes "!endswith_cs" ∷ codes "!has" ∷ codes "!has_cs" ∷ [], values.SEARCHES.now) ∷
+    (codes "patterns" ∷ codes "matches" ∷ codes "regex" ∷ codes "extract" ∷ [], values.PATTERNS.now) ∷
     (codes "datetimes" ∷ codes "now" ∷ codes "ago" ∷ codes "startofday" ∷ codes "startofweek" ∷ codes "startofmonth" ∷ codes "startofyear" ∷ codes "endofday" ∷ codes "endofweek" ∷ codes "endofmonth" ∷ codes "endofyear" ∷ codes "dayofweek" ∷ codes "dayofmonth" ∷ codes "dayofyear" ∷ codes "getyear" ∷ codes "getmonth" ∷ codes "monthofyear" ∷ codes "hourofday" ∷ codes "datetime_add" ∷ codes "datetime_diff" ∷ codes "datetime_part" ∷ codes "make_datetime" ∷ codes "unixtime_seconds_todatetime" ∷ codes "unixtime_milliseconds_todatetime" ∷ [], values.DATETIMES.now) ∷
     (codes "dynamic" ∷ codes "parse_json" ∷ codes "todynamic" ∷ codes "array_length" ∷ codes "array_concat" ∷ codes "array_slice" ∷ codes "array_reverse" ∷ codes "array_index_of" ∷ codes "bag_keys" ∷ codes "bag_has_key" ∷ codes "bag_merge" ∷ codes "pack_array" ∷ codes "bag_pack" ∷ codes "set_union" ∷ codes "set_intersect" ∷ codes "set_difference" ∷ codes "set_has_element" ∷ [], values.DYNAMIC.now) ∷
     []
@@ -157,7 +158,9 @@ of_name_codes =
     (codes "417" ∷ [], name_codes.NAME_TWICE.now) ∷
     (codes "418" ∷ [], name_codes.BAD_LITERAL.now) ∷
     (codes "419" ∷ [], name_codes.NO_COLUMNS.now) ∷
+    (codes "420" ∷ [], name_codes.PATTERN_HERE.now) ∷
     (codes "421" ∷ [], name_codes.NOT_A_VIEW.now) ∷
+    (codes "501" ∷ [], name_codes.BAD_PATTERN.now) ∷
     []
 
 -- the codes of files

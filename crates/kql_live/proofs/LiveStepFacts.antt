@@ -3,12 +3,9 @@ use Rattle.std.proofs.Common.{◌≡◌, ◌<◌, ◌∙◌, ◌+◌, ◌-◌, �
 use Rattle.std.specs.Prelude.{Bool, false, if◌then◌else◌, ℤ, Option, Some, None, IfSome, IsErrAnd, Result, Ok, Err, String, string_bytes}
 use Rattle.std.specs.Global.{Global}
 use Rattle.std.proofs.lemmas.List.{get_or-map}
-use Rattle.bind_expr.specs.Outcome.{Outcome}
-use Rattle.bind_expr.specs.declared.fault.BindFault.TheVariants as bind
-use Rattle.bind_query.specs.Bound.{bound}
 use Rattle.catalogue_tables.specs.Files.{Files}
 use Rattle.kql_bound.specs.declared.plan.Program.{Program}
-use Rattle.kql_cells.specs.Catalogues.{Named, schemas_of}
+use Rattle.kql_cells.specs.Catalogues.{Named}
 use Rattle.kql_lexer.specs.declared.token.Token.{Token}
 use Rattle.kql_parser.specs.Parsing.{Parsed, Parses}
 use Rattle.kql_syntax.specs.declared.parse.SyntaxFault.{SyntaxFault}
@@ -16,12 +13,12 @@ use Rattle.kql_syntax.specs.declared.parse.SyntaxFault.TheVariants as syntax
 use Rattle.kql_syntax.specs.declared.query.Query.{Query}
 use Rattle.kql_program.specs.Files.{file_tokens, named_as}
 use Rattle.kql_program.specs.Outcomes.{RefusesNoWord}
-use Rattle.kql_program.specs.Queries.{bound_as, program_of, start_place}
+use Rattle.kql_program.specs.Queries.{program_of, start_place}
 use Rattle.kql_program.specs.Refusals.{Computes, Gives, Reaches}
 use Rattle.kql_program.specs.Stops.{syntax_stop}
 use Rattle.kql_program.specs.declared.refusal.Stop.{Stop}
 use Rattle.kql_program.specs.declared.refusal.Stop.TheVariants as stop
-use Rattle.kql_program.proofs.WordFacts.{KeepsWords}
+use Rattle.kql_program.proofs.WordFacts.{KeepsWords, program-no_word}
 use Rattle.kql_program.proofs.AnswerFacts.{computes, goes_on, raised, raised-gives, raised-reaches, stops}
 use Rattle.kql_words.proofs.AskedLaws.{rest-of, texts-rest}
 use Rattle.kql_words.specs.Command.{name_in, names_table, path_in, texts}
@@ -65,14 +62,20 @@ bound-stop query moment name tables seen r s e g i =
     raised-gives (live_bound_over query moment name tables) r s i (unbound query moment name tables s (subst (λ (ts : List Named). Gives (program_of query moment ts) (Err s)) e g))
 
 -- no word is refused by it
-no-word-of : (o : Outcome Program) (query : Query) (moment : Option ℤ) (name : List ℕ) (tables : LiveTables) (word code : ℕ) → (bound_as o >>= λ p. Ok (over name tables p)) ≡ Err (refusal.Usage word code) → ⊥
-no-word-of (Ok program) query moment name tables word code e = cc e
-no-word-of (Err (bind.Refused c place)) query moment name tables word code e = cc e
-no-word-of (Err bind.OutOfMemory) query moment name tables word code e = cc e
+abbrev bound_none : Refusal → Answer LiveBound
+bound_none q = Err q
+
+same-refusal : (q r : Refusal) → bound_none q ≡ bound_none r → q ≡ r
+same-refusal q r e = cc
+
+no-word-of : (a : Answer Program) (name : List ℕ) (tables : LiveTables) (word code : ℕ) → ((w c : ℕ) → a ≡ Err (refusal.Usage w c) → ⊥) → (a >>= λ p. Ok (over name tables p)) ≡ Err (refusal.Usage word code) → ⊥
+no-word-of (Ok program) name tables word code n e = cc e
+no-word-of (Err q) name tables word code n e = n word code (ap Err (same-refusal q (refusal.Usage word code) e))
 
 no-word : (query : Query) (moment : Option ℤ) (name : List ℕ) (tables : LiveTables) (word code : ℕ) → live_bound_over query moment name tables ≡ Err (refusal.Usage word code) → ⊥
-unfolding live_bound_over program_of
-no-word query moment name tables word code e = no-word-of (bound query (schemas_of (named_as name tables.opening ∷ [])) moment) query moment name tables word code e
+unfolding live_bound_over
+no-word query moment name tables word code e =
+    no-word-of (program_of query moment (named_as name tables.opening ∷ [])) name tables word code (program-no_word query moment (named_as name tables.opening ∷ [])) e
 
 pub bound-words : (query : Query) (moment : Option ℤ) (name : List ℕ) (tables : LiveTables) (r : Result LiveBound Stop) → Gives (live_bound_over query moment name tables) r → RefusesNoWord r
 bound-words query moment name tables (Ok x) g word code e = cc e

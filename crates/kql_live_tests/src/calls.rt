@@ -16,6 +16,7 @@ const FILES: &[(&str, &str)] = &[
     ("now", "T | count | extend t=now()"),
     ("unbound", "T | where z > 1"),
     ("cut", "T |"),
+    ("pattern", r#"T | where x matches regex "a""#),
     (
         "groups",
         "T | summarize c=count(), s=sum(x), l=make_list(x) by g",

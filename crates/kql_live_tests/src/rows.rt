@@ -187,6 +187,11 @@ const REFUSED: &[Refused] = &[
         1,
         "kql: 1:11: 401 UnknownColumn\n",
     ),
+    (
+        "live pattern T=text text",
+        1,
+        "kql: 1:13: 420 PatternHere\n",
+    ),
 ];
 
 // Queries that a view cannot keep, and what is told before that.

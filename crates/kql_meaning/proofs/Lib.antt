@@ -9,6 +9,7 @@ pub mod ListLaws
 pub mod LiteralLaws
 pub mod MemberLaws
 pub mod NameLaws
+pub mod NamedCells
 pub mod NothingLaws
 pub mod NumberLaws
 pub mod OperatorFitLaws

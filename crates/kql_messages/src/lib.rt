@@ -11,6 +11,7 @@ mod literals;
 mod mistakes;
 mod names;
 mod operands;
+mod patterns;
 mod pieces;
 mod query;
 mod records;

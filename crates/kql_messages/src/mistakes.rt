@@ -135,8 +135,12 @@ const WORDS: &[Mistake] = &[
         told: "Write the new name first: project t = time",
     },
     Mistake {
-        words: &["like", "ilike", "rlike", "regexp", "matches", "match"],
+        words: &["like", "ilike"],
         told: "Search a text by contains, startswith, endswith or has: where path contains \"cart\"",
+    },
+    Mistake {
+        words: &["rlike", "regexp", "matches", "match"],
+        told: "Search a text for a pattern by matches regex: where path matches regex \"c[a-z]+t\"",
     },
     Mistake {
         words: &["is"],
@@ -337,8 +341,8 @@ const TEXT_CALLS: &[Mistake] = &[
         told: "Write indexof(s, \"a\"), which counts from 0 and is -1 where there is none",
     },
     Mistake {
-        words: &["extract", "regexp_extract", "extract_all"],
-        told: "Take a text apart by the operator parse: T | parse message with \"took \" ms:long \" ms\" *",
+        words: &["regexp_extract", "extract_all"],
+        told: "Write extract(\"took ([0-9]+)\", 1, message), which gives the text of one group",
     },
     Mistake {
         words: &[

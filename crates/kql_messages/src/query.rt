@@ -5,6 +5,7 @@ use crate::literals::bad_literal;
 use crate::names::{
     unknown_column, unknown_function, unknown_table, write_alike, write_columns, write_tables,
 };
+use crate::patterns::pattern_here;
 use crate::pieces::pieces_of;
 use crate::seen::Seen;
 use crate::sentence::{Advice, Sentence};
@@ -56,6 +57,7 @@ fn advice_for<'a>(alloc: Global, seen: &Seen<'a>) -> Result<Advice<'a>, AllocErr
         409 => Some(Sentence::plain(NO_MOMENT)),
         410 => return unknown_table(alloc, seen),
         418 => bad_literal(seen),
+        420 => Some(pattern_here(seen)),
         _ => None,
     };
     Ok(Advice::of(told))

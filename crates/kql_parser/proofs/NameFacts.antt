@@ -17,7 +17,8 @@ use Rattle.kql_syntax.specs.declared.tree.Term.TheVariants as term
 use Rattle.kql_syntax.specs.declared.query.LetBody.TheVariants as letbody
 use Rattle.kql_syntax.specs.declared.query.Pipe.{roll-Pipe}
 use Rattle.kql_syntax.specs.declared.query.Source.TheVariants as source
-use Rattle.kql_syntax.specs.Alone.{name_alone, name_of_and, name_of_cmp, name_of_post, name_of_prod, name_of_sign, name_of_sum, name_of_term, only}
+use Rattle.kql_syntax.specs.Alone.{only}
+use Rattle.kql_parser.specs.Alone.{name_alone, name_of_and, name_of_cmp, name_of_post, name_of_prod, name_of_sign, name_of_sum, name_of_term}
 use Rattle.kql_syntax.proofs.NameLaws.{name_and, name_cmp, name_expr, name_post, name_prod, name_sign, name_sum}
 use Rattle.kql_parser.specs.Query.{body_of, table_or}
 

@@ -1,3 +1,4 @@
+pub mod Alone
 pub mod Limits
 pub mod Operators
 pub mod Parsing

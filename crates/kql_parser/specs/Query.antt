@@ -10,7 +10,7 @@ use Rattle.kql_syntax.specs.declared.query.LetBody.{LetBody}
 use Rattle.kql_syntax.specs.declared.query.LetBody.TheVariants as letbody
 use Rattle.kql_syntax.specs.declared.query.Pipe.{Pipe, roll-Pipe}
 use Rattle.kql_syntax.specs.declared.query.Source.TheVariants as source
-use Rattle.kql_syntax.specs.Alone.{name_alone}
+use Rattle.kql_parser.specs.Alone.{name_alone}
 use Rattle.kql_syntax.specs.Levels.{Level}
 use Rattle.kql_syntax.specs.Forms.{Form, level, pair, either, option, many, makes, mark, before}
 

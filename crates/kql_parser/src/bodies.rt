@@ -1,7 +1,7 @@
 //! What the body of a let statement is.
 
 ghost use Rattle.std.specs.Prelude.{◌≡◌, IfOk};
-ghost use Rattle.kql_syntax.specs.Alone.{name_of_post, name_of_sum, name_alone};
+ghost use Rattle.kql_parser.specs.Alone.{name_of_post, name_of_sum, name_alone};
 ghost use Rattle.kql_parser.specs.Query.{table_body, table_or, body_of};
 
 use kql_items::Items;
@@ -53,7 +53,7 @@ fn name_of_sum(alloc: Global, sum: &Sum) -> Result<Option<Name>, AllocError>
 }
 
 /// The name that an expression is, if it is a name alone.
-#[tactic(auto, unfolding(kql_syntax::specs::Alone::name_alone))]
+#[tactic(auto, unfolding(crate::specs::Alone::name_alone))]
 fn name_alone(alloc: Global, value: &Expr) -> Result<Option<Name>, AllocError>
     ensures name { IfOk result (λ n. n ≡ name_alone value.now) }
 {

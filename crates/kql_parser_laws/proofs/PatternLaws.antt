@@ -18,7 +18,7 @@ use Rattle.kql_syntax.specs.declared.query.TableOp.{TableOp}
 use Rattle.kql_syntax.specs.declared.query.Union.{Union}
 use Rattle.kql_syntax.specs.declared.tree.Expr.{Expr}
 use Rattle.kql_syntax.specs.declared.tree.Name.{Name}
-use Rattle.kql_syntax.specs.Alone.{name_alone}
+use Rattle.kql_parser.specs.Alone.{name_alone}
 use Rattle.kql_syntax.specs.Levels.{Level}
 use Rattle.kql_syntax.specs.Trees.{Tree}
 use Rattle.kql_syntax.specs.Forms.{Form, level, pair, either, many, makes, mark, after, before, listed}

@@ -27,7 +27,7 @@ use Rattle.kql_syntax.specs.declared.query.TableArg.TheVariants as tablearg
 use Rattle.kql_syntax.specs.declared.query.TableOp.{TableOp, fold-roll-TableOp}
 use Rattle.kql_syntax.specs.declared.query.TableOp.TheVariants as table
 use Rattle.kql_syntax.specs.declared.query.Union.{Union, roll-Union, fold-roll-Union}
-use Rattle.kql_syntax.specs.Alone.{name_alone}
+use Rattle.kql_parser.specs.Alone.{name_alone}
 use Rattle.kql_parser.specs.Query.{body_of, table_or}
 use Rattle.kql_parser_laws.specs.OfTree.{Places, joined, column_place, row_place, group_place, in_join, in_op, in_partition, in_pipe, in_source, in_table_arg, in_table_op, in_union, of_join, of_op, of_partition, of_pipe, of_source, of_table_arg, of_table_op, of_union, of_body}
 

@@ -73,6 +73,13 @@ pub given-stops : {X : Type 0} (a : Answer X) (b n : Option CallCounts) (r : Res
 given-stops a b n (Ok x) g h = h
 given-stops a b n (Err s) g h = given-by a b n s g h
 
+-- a step that reads no file
+pub found-stops : {X : Type 0} (Is : Answer X → Type 0) (b n : Option CallCounts) (r : Result X Stop) → Finds Is r → NoneFailed b n → StopsAtRead b n r
+found-stops Is b n (Ok x) g h = h
+found-stops Is b n (Err (stop.Refused q)) g h = h
+found-stops Is b n (Err stop.ReadFault) g h = absurd g
+found-stops Is b n (Err stop.OutOfMemory) g h = h
+
 pub given-raised : {X Y : Type 0} (a : Answer X) (b n : Option CallCounts) (r : Result Y Stop) (s : Stop) → Gives a (Err s) → IsErrAnd r (λ e. e ≡ s) → NoneFailed b n → StopsAtRead b n r
 given-raised a b n r s g i h = raised-stops b n r s i (given-by a b n s g h)
 

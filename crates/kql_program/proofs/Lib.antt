@@ -2,8 +2,11 @@ pub mod AnswerFacts
 pub mod BoundFacts
 pub mod CallFacts
 pub mod FileFacts
+pub mod JudgedFacts
+pub mod LexFacts
 pub mod MemoryFacts
 pub mod OutcomeFacts
+pub mod PatternFacts
 pub mod PlanFacts
 pub mod StartFacts
 pub mod StepFacts

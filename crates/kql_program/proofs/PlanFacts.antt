@@ -1,5 +1,5 @@
 -- A plan answers for its program.
-use Rattle.std.proofs.Common.{◌≡◌, ◌∙◌, Bool, true, false, List, [], ◌∷◌, length, subst, sym}
+use Rattle.std.proofs.Common.{◌≡◌, ◌∙◌, true, List, ◌∷◌, length, subst, sym}
 use Rattle.std.specs.Prelude.{All, IsSome, IsTrue, Option, Some, None, is_some}
 use Rattle.std.proofs.lemmas.Bool.{and_parts}
 use Rattle.std.proofs.lemmas.List.{nil_from_length}

@@ -17,101 +17,110 @@ use Rattle.kql_words.specs.declared.refusal.Refusal.TheVariants as refusal
 use Rattle.kql_words.proofs.AskedLaws.{texts-rest}
 use Rattle.catalogue_tables.specs.Files.{Files}
 use Rattle.kql_program.specs.Files.{file_tokens, query_tokens, tables_of}
-use Rattle.kql_program.specs.Queries.{AreRows, IsBound, IsBoundAsked, bound_over, bound_with, query_bound, rows_of, rows_over, tables_asked}
+use Rattle.pattern_run.specs.Patterned.{Found}
+use Rattle.kql_program.specs.Queries.{AreRows, IsBound, IsBoundAsked, IsBoundOver, IsBoundWith, bound_with, query_bound, query_rows, rows_over, tables_asked}
 use Rattle.kql_program.specs.Refusals.{Computes, Finds, Gives, Reaches}
 use Rattle.kql_program.specs.Stops.{syntax_stop}
 use Rattle.kql_program.specs.declared.bound.BoundQuery.{BoundQuery}
 use Rattle.kql_program.specs.declared.refusal.Stop.{Stop}
 use Rattle.kql_program.specs.declared.refusal.Stop.TheVariants as stop
-use Rattle.kql_program.proofs.AnswerFacts.{computes, goes_on, raised, raised-finds, raised-reaches, stops}
+use Rattle.kql_program.proofs.AnswerFacts.{raised-finds, raised-reaches}
 
 -- A query, and the tables of words.
 
 -- the tables can't be had
-pub asked-stop : (told : Option Files) (query : Query) (limit : ℕ) (catalogue : Option (List ℕ)) (moment : Option ℤ) (words : List (List ℕ)) (r : Result BoundQuery Stop) (s : Stop)
-    → IfSome told (λ files. Computes (tables_of files limit catalogue words) (Err s)) → IsErrAnd r (λ e. e ≡ s)
-    → IfSome told (λ files. Computes (bound_with (tables_of files limit catalogue words) moment query) r)
+with-stop : (found : Found) (tokens : List Token) (tables : Answer (List Named)) (moment : Option ℤ) (query : Query) (s : Stop) → Computes tables (Err s) → Reaches (IsBoundWith found tokens tables moment query) (Err s)
 unfolding bound_with
-asked-stop None query limit catalogue moment words r s h i = tt
-asked-stop (Some files) query limit catalogue moment words r s h i =
-    raised (bound_with (tables_of files limit catalogue words) moment query) r s i (stops (tables_of files limit catalogue words) (λ tables. bound_over query moment tables) s h)
+with-stop found tokens tables moment query (stop.Refused q) h = rw h refl
+with-stop found tokens tables moment query stop.ReadFault h = tt
+with-stop found tokens tables moment query stop.OutOfMemory h = tt
+
+pub asked-stop : (told : Option Files) (found : Found) (tokens : List Token) (query : Query) (limit : ℕ) (catalogue : Option (List ℕ)) (moment : Option ℤ) (words : List (List ℕ)) (r : Result BoundQuery Stop) (s : Stop)
+    → IfSome told (λ files. Computes (tables_of files limit catalogue words) (Err s)) → IsErrAnd r (λ e. e ≡ s)
+    → IfSome told (λ files. Reaches (IsBoundWith found tokens (tables_of files limit catalogue words) moment query) r)
+asked-stop None found tokens query limit catalogue moment words r s h i = tt
+asked-stop (Some files) found tokens query limit catalogue moment words r s h i =
+    raised-reaches (IsBoundWith found tokens (tables_of files limit catalogue words) moment query) r s i (with-stop found tokens (tables_of files limit catalogue words) moment query s h)
 
 -- the query bound to the tables
-pub asked-bound : (told : Option Files) (query : Query) (limit : ℕ) (catalogue : Option (List ℕ)) (moment : Option ℤ) (words : List (List ℕ)) (tables : List Named) (r : Result BoundQuery Stop)
-    → IfSome told (λ files. tables_of files limit catalogue words ≡ Ok tables) → Gives (bound_over query moment tables) r
-    → IfSome told (λ files. Computes (bound_with (tables_of files limit catalogue words) moment query) r)
+with-tables : (found : Found) (tokens : List Token) (answer : Answer (List Named)) (moment : Option ℤ) (query : Query) (tables : List Named) (r : Result BoundQuery Stop) → answer ≡ Ok tables
+    → Finds (IsBoundOver found tokens query moment tables) r → Reaches (IsBoundWith found tokens answer moment query) r
 unfolding bound_with
-asked-bound None query limit catalogue moment words tables r h g = tt
-asked-bound (Some files) query limit catalogue moment words tables r h g =
-    goes_on (tables_of files limit catalogue words) (λ tables. bound_over query moment tables) tables r h (computes (bound_over query moment tables) r g)
+with-tables found tokens answer moment query tables (Ok b) e h = rw e h
+with-tables found tokens answer moment query tables (Err (stop.Refused q)) e h = rw e h
+with-tables found tokens answer moment query tables (Err stop.ReadFault) e h = tt
+with-tables found tokens answer moment query tables (Err stop.OutOfMemory) e h = tt
+
+pub asked-bound : (told : Option Files) (found : Found) (tokens : List Token) (query : Query) (limit : ℕ) (catalogue : Option (List ℕ)) (moment : Option ℤ) (words : List (List ℕ)) (tables : List Named) (r : Result BoundQuery Stop)
+    → IfSome told (λ files. tables_of files limit catalogue words ≡ Ok tables) → Finds (IsBoundOver found tokens query moment tables) r
+    → IfSome told (λ files. Reaches (IsBoundWith found tokens (tables_of files limit catalogue words) moment query) r)
+asked-bound None found tokens query limit catalogue moment words tables r h g = tt
+asked-bound (Some files) found tokens query limit catalogue moment words tables r h g = with-tables found tokens (tables_of files limit catalogue words) moment query tables r h g
 
 -- Tokens, and the query that they are.
 
 -- the syntax is refused
-fault-bound : (tables : Answer (List Named)) (tokens : List Token) (moment : Option ℤ) (fault : SyntaxFault) → Parses tokens (Err fault) → Finds (IsBound (Ok tokens) tables moment) (Err (syntax_stop fault))
+fault-reaches : (found : Found) (tables : Answer (List Named)) (tokens : List Token) (moment : Option ℤ) (fault : SyntaxFault) → Parses tokens (Err fault) → Reaches (IsBound found (Ok tokens) tables moment) (Err (syntax_stop fault))
 unfolding query_bound
-fault-bound tables tokens moment (syntax.Refused code place) h = record { verdict = Err (refusal.Query code place); judged = h; is = refl }
-fault-bound tables tokens moment syntax.OutOfMemory h = tt
+fault-reaches found tables tokens moment (syntax.Refused code place) h = record { verdict = Err (refusal.Query code place); judged = h; is = refl }
+fault-reaches found tables tokens moment syntax.OutOfMemory h = tt
 
-fault-reaches : (tables : Answer (List Named)) (tokens : List Token) (moment : Option ℤ) (fault : SyntaxFault) → Parses tokens (Err fault) → Reaches (IsBound (Ok tokens) tables moment) (Err (syntax_stop fault))
-fault-reaches tables tokens moment (syntax.Refused code place) h = fault-bound tables tokens moment (syntax.Refused code place) h
-fault-reaches tables tokens moment syntax.OutOfMemory h = tt
-
-pub parsed-fault : (told : Option Files) (tokens : List Token) (limit : ℕ) (catalogue : Option (List ℕ)) (moment : Option ℤ) (words : List (List ℕ)) (fault : SyntaxFault) (r : Result BoundQuery Stop) → Parses tokens (Err fault) → IsErrAnd r (λ e. e ≡ syntax_stop fault)
-    → IfSome told (λ files. Reaches (IsBound (Ok tokens) (tables_of files limit catalogue words) moment) r)
-parsed-fault None tokens limit catalogue moment words fault r h i = tt
-parsed-fault (Some files) tokens limit catalogue moment words fault r h i =
-    raised-reaches (IsBound (Ok tokens) (tables_of files limit catalogue words) moment) r (syntax_stop fault) i (fault-reaches (tables_of files limit catalogue words) tokens moment fault h)
+pub parsed-fault : (told : Option Files) (found : Found) (tokens : List Token) (limit : ℕ) (catalogue : Option (List ℕ)) (moment : Option ℤ) (words : List (List ℕ)) (fault : SyntaxFault) (r : Result BoundQuery Stop) → Parses tokens (Err fault) → IsErrAnd r (λ e. e ≡ syntax_stop fault)
+    → IfSome told (λ files. Reaches (IsBound found (Ok tokens) (tables_of files limit catalogue words) moment) r)
+parsed-fault None found tokens limit catalogue moment words fault r h i = tt
+parsed-fault (Some files) found tokens limit catalogue moment words fault r h i =
+    raised-reaches (IsBound found (Ok tokens) (tables_of files limit catalogue words) moment) r (syntax_stop fault) i (fault-reaches found (tables_of files limit catalogue words) tokens moment fault h)
 
 -- they are a query
-query-reaches : (tables : Answer (List Named)) (tokens : List Token) (moment : Option ℤ) (query : Query) (r : Result BoundQuery Stop) → Parsed tokens query → Computes (bound_with tables moment query) r → Reaches (IsBound (Ok tokens) tables moment) r
+query-reaches : (found : Found) (tables : Answer (List Named)) (tokens : List Token) (moment : Option ℤ) (query : Query) (r : Result BoundQuery Stop) → Parsed tokens query → Reaches (IsBoundWith found tokens tables moment query) r
+    → Reaches (IsBound found (Ok tokens) tables moment) r
 unfolding query_bound
-query-reaches tables tokens moment query (Ok bound) p h = record { verdict = Ok query; judged = p; is = sym h }
-query-reaches tables tokens moment query (Err (stop.Refused q)) p h = record { verdict = Ok query; judged = p; is = sym h }
-query-reaches tables tokens moment query (Err stop.ReadFault) p h = tt
-query-reaches tables tokens moment query (Err stop.OutOfMemory) p h = tt
+query-reaches found tables tokens moment query (Ok bound) p h = record { verdict = Ok query; judged = p; is = h }
+query-reaches found tables tokens moment query (Err (stop.Refused q)) p h = record { verdict = Ok query; judged = p; is = h }
+query-reaches found tables tokens moment query (Err stop.ReadFault) p h = tt
+query-reaches found tables tokens moment query (Err stop.OutOfMemory) p h = tt
 
-pub parsed-bound : (told : Option Files) (tokens : List Token) (limit : ℕ) (catalogue : Option (List ℕ)) (moment : Option ℤ) (words : List (List ℕ)) (query : Query) (r : Result BoundQuery Stop) → Parsed tokens query
-    → IfSome told (λ files. Computes (bound_with (tables_of files limit catalogue words) moment query) r)
-    → IfSome told (λ files. Reaches (IsBound (Ok tokens) (tables_of files limit catalogue words) moment) r)
-parsed-bound None tokens limit catalogue moment words query r p h = tt
-parsed-bound (Some files) tokens limit catalogue moment words query r p h = query-reaches (tables_of files limit catalogue words) tokens moment query r p h
+pub parsed-bound : (told : Option Files) (found : Found) (tokens : List Token) (limit : ℕ) (catalogue : Option (List ℕ)) (moment : Option ℤ) (words : List (List ℕ)) (query : Query) (r : Result BoundQuery Stop) → Parsed tokens query
+    → IfSome told (λ files. Reaches (IsBoundWith found tokens (tables_of files limit catalogue words) moment query) r)
+    → IfSome told (λ files. Reaches (IsBound found (Ok tokens) (tables_of files limit catalogue words) moment) r)
+parsed-bound None found tokens limit catalogue moment words query r p h = tt
+parsed-bound (Some files) found tokens limit catalogue moment words query r p h = query-reaches found (tables_of files limit catalogue words) tokens moment query r p h
 
 -- The tokens of the query that a command asks for.
 
 -- tokens can't be had
-tokens-reach : (tokens : Answer (List Token)) (tables : Answer (List Named)) (moment : Option ℤ) (s : Stop) → Computes tokens (Err s) → Reaches (IsBound tokens tables moment) (Err s)
+tokens-reach : (found : Found) (tokens : Answer (List Token)) (tables : Answer (List Named)) (moment : Option ℤ) (s : Stop) → Computes tokens (Err s) → Reaches (IsBound found tokens tables moment) (Err s)
 unfolding query_bound
-tokens-reach tokens tables moment (stop.Refused q) h = record { verdict = Err q; judged = rw h tt; is = rw h refl }
-tokens-reach tokens tables moment stop.ReadFault h = tt
-tokens-reach tokens tables moment stop.OutOfMemory h = tt
+tokens-reach found tokens tables moment (stop.Refused q) h = record { verdict = Err q; judged = rw h tt; is = rw h refl }
+tokens-reach found tokens tables moment stop.ReadFault h = tt
+tokens-reach found tokens tables moment stop.OutOfMemory h = tt
 
 pub path-asked : (words : List (String Global)) (asked : Asked) (d : String Global) (path : List ℕ) → asked.query < length words → path ≡ string_bytes (get_or words asked.query d) → query_path (texts words) asked ≡ path
 path-asked words asked d path lt p = get_or-map string_bytes words asked.query d [] lt ∙ sym p
 
-pub asked-tokens : (told : Option Files) (words : List (String Global)) (asked : Asked) (d : String Global) (path : List ℕ) (r : Result BoundQuery Stop) (s : Stop) → asked.query < length words
+pub asked-tokens : (told : Option Files) (found : Found) (words : List (String Global)) (asked : Asked) (d : String Global) (path : List ℕ) (r : Result BoundQuery Stop) (s : Stop) → asked.query < length words
     → path ≡ string_bytes (get_or words asked.query d) → IfSome told (λ files. Computes (file_tokens files path) (Err s)) → IsErrAnd r (λ e. e ≡ s)
-    → IfSome told (λ files. Reaches (IsBoundAsked (texts words) files asked) r)
-asked-tokens None words asked d path r s lt p h i = tt
-asked-tokens (Some files) words asked d path r s lt p h i =
+    → IfSome told (λ files. Reaches (IsBoundAsked found (texts words) files asked) r)
+asked-tokens None found words asked d path r s lt p h i = tt
+asked-tokens (Some files) found words asked d path r s lt p h i =
     let there : Computes (file_tokens files (query_path (texts words) asked)) (Err s) = subst (λ (at : List ℕ). Computes (file_tokens files at) (Err s)) (sym (path-asked words asked d path lt p)) h in
-    raised-reaches (IsBoundAsked (texts words) files asked) r s i
-    (tokens-reach (file_tokens files (query_path (texts words) asked)) (tables_asked (texts words) files asked) asked.options.moment s there)
+    raised-reaches (IsBoundAsked found (texts words) files asked) r s i
+    (tokens-reach found (file_tokens files (query_path (texts words) asked)) (tables_asked (texts words) files asked) asked.options.moment s there)
 
 -- the query that the tokens are
-pub asked-parsed : (told now-told : Option Files) (words rest : List (String Global)) (asked : Asked) (d : String Global) (path : List ℕ) (catalogue : Option (List ℕ)) (tokens : List Token) (r : Result BoundQuery Stop)
+pub asked-parsed : (told now-told : Option Files) (found : Found) (words rest : List (String Global)) (asked : Asked) (d : String Global) (path : List ℕ) (catalogue : Option (List ℕ)) (tokens : List Token) (r : Result BoundQuery Stop)
     → asked.query < length words → path ≡ string_bytes (get_or words asked.query d) → rest ≡ take (length words - (asked.query + 1)) (drop (asked.query + 1) words) → catalogue ≡ catalogue_path (texts words) asked
-    → IfSome told (λ files. file_tokens files path ≡ Ok tokens) → now-told ≡ told → IfSome now-told (λ files. Reaches (IsBound (Ok tokens) (tables_of files asked.options.limit catalogue (texts rest)) asked.options.moment) r)
-    → IfSome told (λ files. Reaches (IsBoundAsked (texts words) files asked) r)
-asked-parsed None now-told words rest asked d path catalogue tokens r lt p w c t n h = tt
-asked-parsed (Some files) now-told words rest asked d path catalogue tokens r lt p w c t n h =
+    → IfSome told (λ files. file_tokens files path ≡ Ok tokens) → now-told ≡ told → IfSome now-told (λ files. Reaches (IsBound found (Ok tokens) (tables_of files asked.options.limit catalogue (texts rest)) asked.options.moment) r)
+    → IfSome told (λ files. Reaches (IsBoundAsked found (texts words) files asked) r)
+asked-parsed None now-told found words rest asked d path catalogue tokens r lt p w c t n h = tt
+asked-parsed (Some files) now-told found words rest asked d path catalogue tokens r lt p w c t n h =
     let tables : table_words (texts words) asked ≡ texts rest = sym (texts-rest words rest (asked.query + 1) w) in
     let read : file_tokens files (query_path (texts words) asked) ≡ Ok tokens = ap (file_tokens files) (path-asked words asked d path lt p) ∙ t in
-    let there : Reaches (IsBound (Ok tokens) (tables_of files asked.options.limit catalogue (texts rest)) asked.options.moment) r = rw n at h in
+    let there : Reaches (IsBound found (Ok tokens) (tables_of files asked.options.limit catalogue (texts rest)) asked.options.moment) r = rw n at h in
     let all : tables_of files asked.options.limit catalogue (texts rest) ≡ tables_asked (texts words) files asked = ap₂ (λ at ws. tables_of files asked.options.limit at ws) c (sym tables) in
-    let over : Reaches (IsBound (Ok tokens) (tables_asked (texts words) files asked) asked.options.moment) r =
-    subst (λ (ts : Answer (List Named)). Reaches (IsBound (Ok tokens) ts asked.options.moment) r) all there in
-    subst (λ (ts : Answer (List Token)). Reaches (IsBound ts (tables_asked (texts words) files asked) asked.options.moment) r) (sym read) over
+    let over : Reaches (IsBound found (Ok tokens) (tables_asked (texts words) files asked) asked.options.moment) r =
+    subst (λ (ts : Answer (List Named)). Reaches (IsBound found (Ok tokens) ts asked.options.moment) r) all there in
+    subst (λ (ts : Answer (List Token)). Reaches (IsBound found ts (tables_asked (texts words) files asked) asked.options.moment) r) (sym read) over
 
 -- the path of its catalogue file
 pub catalogue-at : (words : List (String Global)) (asked : Asked) (k : ℕ) (d : String Global) (path : List ℕ) → asked.options.catalogue ≡ Some k → k < length words → path ≡ string_bytes (get_or words k d)
@@ -122,8 +131,8 @@ catalogue-at words asked k d path e lt p = rw e (ap Some (p ∙ sym (get_or-map 
 
 -- its tokens can't be had
 tokens-find : (tokens : Answer (List Token)) (tables : Answer (List Named)) (moment : Option ℤ) (s : Stop) → Gives tokens (Err s) → Finds (AreRows tokens tables moment) (Err s)
-unfolding query_bound
-tokens-find tokens tables moment (stop.Refused q) h = record { bound = Err q; is_bound = record { verdict = Err q; judged = rw h tt; is = rw h refl }; is = refl }
+unfolding query_rows
+tokens-find tokens tables moment (stop.Refused q) h = record { verdict = Err q; judged = rw h tt; is = rw h refl }
 tokens-find tokens tables moment stop.ReadFault h = absurd h
 tokens-find tokens tables moment stop.OutOfMemory h = tt
 
@@ -134,9 +143,9 @@ stored-tokens text bytes tables r s b h i =
 
 -- its syntax is refused
 fault-finds : (tables : Answer (List Named)) (tokens : List Token) (moment : Option ℤ) (fault : SyntaxFault) → Parses tokens (Err fault) → Finds (AreRows (Ok tokens) tables moment) (Err (syntax_stop fault))
-unfolding query_bound
+unfolding query_rows
 fault-finds tables tokens moment (syntax.Refused code place) h =
-    record { bound = Err (refusal.Query code place); is_bound = record { verdict = Err (refusal.Query code place); judged = h; is = refl }; is = refl }
+    record { verdict = Err (refusal.Query code place); judged = h; is = refl }
 fault-finds tables tokens moment syntax.OutOfMemory h = tt
 
 pub stored-fault : (text bytes : List ℕ) (tokens : List Token) (tables : List Named) (fault : SyntaxFault) (r : Result Grid Stop) → bytes ≡ text → query_tokens bytes ≡ Ok tokens → Parses tokens (Err fault) → IsErrAnd r (λ e. e ≡ syntax_stop fault)
@@ -146,8 +155,8 @@ stored-fault text bytes tokens tables fault r b e h i =
     (subst (λ (ts : Answer (List Token)). Finds (AreRows ts (Ok tables) None) (Err (syntax_stop fault))) (sym (sym (ap query_tokens b) ∙ e)) (fault-finds (Ok tables) tokens None fault h))
 
 rows-are : (tables : List Named) (tokens : List Token) (query : Query) (a : Answer Grid) → Parsed tokens query → rows_over query None tables ≡ a → AreRows (Ok tokens) (Ok tables) None a
-unfolding query_bound bound_with rows_over
-rows-are tables tokens query a p h = record { bound = bound_over query None tables; is_bound = record { verdict = Ok query; judged = p; is = refl }; is = sym h }
+unfolding query_rows
+rows-are tables tokens query a p h = record { verdict = Ok query; judged = p; is = sym h }
 
 query-finds : (tables : List Named) (tokens : List Token) (query : Query) (r : Result Grid Stop) → Parsed tokens query → Gives (rows_over query None tables) r → Finds (AreRows (Ok tokens) (Ok tables) None) r
 query-finds tables tokens query (Ok rows) p h = rows-are tables tokens query (Ok rows) p h

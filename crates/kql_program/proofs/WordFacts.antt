@@ -1,6 +1,6 @@
 -- Nothing behind the words refuses a word.
 use Rattle.std.proofs.Common.{◌≡◌, ◌∙◌, ℕ, List, ap, sym}
-use Rattle.std.specs.Prelude.{ℤ, Option, Result, Ok, Err, IsErrAnd}
+use Rattle.std.specs.Prelude.{ℤ, Option, Some, None, Result, Ok, Err, IsErrAnd}
 use Rattle.bind_expr.specs.Outcome.{Outcome}
 use Rattle.bind_expr.specs.declared.fault.BindFault.TheVariants as bind
 use Rattle.bind_query.specs.Bound.{bound}
@@ -8,19 +8,22 @@ use Rattle.kql_bound.specs.declared.plan.Program.{Program}
 use Rattle.kql_cells.specs.Table.{Grid}
 use Rattle.kql_cells.specs.Catalogues.{Named, schemas_of}
 use Rattle.kql_lexer.specs.Lexing as lexing
+use Rattle.kql_lexer.specs.declared.place.Place.{Place}
 use Rattle.kql_lexer.specs.Lexing.{lexed}
 use Rattle.kql_lexer.specs.declared.token.Token.{Token}
 use Rattle.kql_meaning.specs.Plans.{means}
 use Rattle.kql_syntax.specs.declared.parse.SyntaxFault.{SyntaxFault}
 use Rattle.kql_syntax.specs.declared.parse.SyntaxFault.TheVariants as syntax
 use Rattle.kql_syntax.specs.declared.query.Query.{Query}
-use Rattle.kql_program.specs.Queries.{bound_as, bound_over, over, program_of, rows_over}
+use Rattle.pattern_run.specs.Patterned.{first_call}
+use Rattle.pattern_run.specs.declared.fault.PatternFault.{PatternFault}
+use Rattle.pattern_run.specs.declared.fault.PatternFault.TheVariants as pattern
+use Rattle.kql_program.specs.Queries.{bound_as, bound_program_of, program_of, rows_over, unless_called}
 use Rattle.kql_program.specs.Files.{lexed_as, query_tokens}
 use Rattle.kql_program.specs.Outcomes.{RefusesNoWord}
 use Rattle.kql_program.specs.Refusals.{Gives}
 use Rattle.kql_words.specs.Refusals.{Answer, ◌>>=◌}
-use Rattle.kql_program.specs.Stops.{syntax_stop}
-use Rattle.kql_program.specs.declared.bound.BoundQuery.{BoundQuery}
+use Rattle.kql_program.specs.Stops.{pattern_stop, syntax_stop}
 use Rattle.kql_words.specs.declared.refusal.Refusal.{Refusal}
 use Rattle.kql_words.specs.declared.refusal.Refusal.TheVariants as refusal
 use Rattle.kql_program.specs.declared.refusal.Stop.{Stop}
@@ -97,15 +100,37 @@ unfolding NoWord
 value-words x word code e = cc e
 
 -- nor binding
-bound-none : (query : Query) (moment : Option ℤ) (tables : List Named) → NoWord (bound_over query moment tables)
-unfolding bound_over program_of
-bound-none query moment tables = then-words (program_of query moment tables) _ (bound-words (bound query (schemas_of tables) moment)) (λ program. value-words (over program tables))
+bound-none : (query : Query) (moment : Option ℤ) (tables : List Named) → NoWord (bound_program_of query moment tables)
+unfolding bound_program_of
+bound-none query moment tables = bound-words (bound query (schemas_of tables) moment)
 
-pub bound-no_words : (query : Query) (moment : Option ℤ) (tables : List Named) (r : Result BoundQuery Stop) → Gives (bound_over query moment tables) r → RefusesNoWord r
-bound-no_words query moment tables r g = gives-words (bound_over query moment tables) r (bound-none query moment tables) g
+pub bound-no_words : (query : Query) (moment : Option ℤ) (tables : List Named) (r : Result Program Stop) → Gives (bound_program_of query moment tables) r → RefusesNoWord r
+bound-no_words query moment tables r g = gives-words (bound_program_of query moment tables) r (bound-none query moment tables) g
+
+-- nor a pattern call
+called-words : (word : Option Place) (program : Program) → NoWord (unless_called word program)
+unfolding NoWord
+called-words None program = value-words program
+called-words (Some place) program = λ word code e. cc e
+
+program-none : (query : Query) (moment : Option ℤ) (tables : List Named) → NoWord (program_of query moment tables)
+unfolding program_of
+program-none query moment tables = then-words (bound_program_of query moment tables) _ (bound-none query moment tables) (λ program. called-words (first_call program) program)
+
+pub program-words : (query : Query) (moment : Option ℤ) (tables : List Named) (r : Result Program Stop) → Gives (program_of query moment tables) r → RefusesNoWord r
+program-words query moment tables r g = gives-words (program_of query moment tables) r (program-none query moment tables) g
+
+pub pattern-words : (fault : PatternFault) → KeepsWords (pattern_stop fault)
+pattern-words (pattern.PatternHere place) word code e = cc e
+pattern-words (pattern.BadPattern place) word code e = cc e
+pattern-words pattern.OutOfMemory word code e = cc e
+
+pub program-no_word : (query : Query) (moment : Option ℤ) (tables : List Named) (word code : ℕ) → program_of query moment tables ≡ Err (refusal.Usage word code) → ⊥
+unfolding NoWord
+program-no_word query moment tables word code e = program-none query moment tables word code e
 
 -- nor the rows
 pub row-words : (query : Query) (moment : Option ℤ) (tables : List Named) (r : Result Grid Stop) → Gives (rows_over query moment tables) r → RefusesNoWord r
 unfolding rows_over
 row-words query moment tables r g =
-    gives-words (rows_over query moment tables) r (then-words (bound_over query moment tables) _ (bound-none query moment tables) (λ b. value-words (means b.program b.catalogue))) g
+    gives-words (rows_over query moment tables) r (then-words (program_of query moment tables) _ (program-none query moment tables) (λ program. value-words (means program tables))) g

@@ -1,12 +1,11 @@
 -- By how many workers a query is answered.
-use Rattle.std.proofs.Common.{◌≡◌, ◌≤◌, ◌<◌, ◌+◌, ◌∙◌, ℕ, List, [], ◌∷◌, ◌++◌, length, ap, arith, refl, subst, sym, inl, inr}
-use Rattle.std.specs.Prelude.{All, Option, Result, IfOk, Ok, Err}
+use Rattle.std.proofs.Common.{◌≡◌, ◌≤◌, ◌+◌, ◌∙◌, ℕ, List, [], ◌∷◌, ◌++◌, length, arith, refl, subst, sym, inl, inr}
+use Rattle.std.specs.Prelude.{Option, Result, IfOk, Ok, Err}
 use Rattle.std.proofs.lemmas.List.{length-append}
 use Rattle.std.proofs.lemmas.List.Elements.{All-nil, All-push}
 use Rattle.kql_trial.specs.Queries.{stored_queries}
 use Rattle.kql_words.specs.Command.{command_of, workers_of}
 use Rattle.kql_words.specs.Options.{AreWorkers}
-use Rattle.kql_words.specs.Refusals.{Answer}
 use Rattle.kql_words.specs.declared.command.Asked.{Asked}
 use Rattle.kql_words.specs.declared.command.Command.{Command}
 use Rattle.kql_words.specs.declared.command.Command.TheVariants as command
@@ -14,6 +13,7 @@ use Rattle.kql_words.specs.declared.refusal.Refusal.{Refusal}
 use Rattle.kql_words.specs.declared.refusal.Refusal.TheVariants as refusal
 use Rattle.kql_words.specs.declared.trial.Trial.{Trial}
 use Rattle.catalogue_tables.specs.Files.{Files}
+use Rattle.pattern_run.specs.Patterned.{Found}
 use Rattle.phase_run.specs.Reports.{AreToldBy}
 use Rattle.phase_run.specs.declared.report.PhaseReport.{PhaseReport}
 use Rattle.kql_program.specs.Endings.{EndsAs, refused_as}
@@ -69,18 +69,18 @@ explain-by n a ended.ReadFault h = absurd h
 explain-by n a ended.WriteFault h = absurd h
 explain-by n a ended.OutOfMemory h = absurd h
 
-pub plain-told : (n : ℕ) (words : List (List ℕ)) (told : Option Files) (a : Asked) (r : Result Done Stop) → IfOk r (λ done. IsDone words told (command.Plain a) done.text done.ended) → IfOk r (λ done. IsBy n done.ended)
-plain-told n words told a (Ok done) h = plain-by n a done.ended h.ends
-plain-told n words told a (Err s) h = tt
+pub plain-told : (n : ℕ) (found : Found) (words : List (List ℕ)) (told : Option Files) (a : Asked) (r : Result Done Stop) → IfOk r (λ done. IsDone found words told (command.Plain a) done.text done.ended) → IfOk r (λ done. IsBy n done.ended)
+plain-told n found words told a (Ok done) h = plain-by n a done.ended h.ends
+plain-told n found words told a (Err s) h = tt
 
-pub explain-told : (n : ℕ) (words : List (List ℕ)) (told : Option Files) (a : Asked) (r : Result Done Stop) → IfOk r (λ done. IsDone words told (command.Explain a) done.text done.ended) → IfOk r (λ done. IsBy n done.ended)
-explain-told n words told a (Ok done) h = explain-by n a done.ended h.ends
-explain-told n words told a (Err s) h = tt
+pub explain-told : (n : ℕ) (found : Found) (words : List (List ℕ)) (told : Option Files) (a : Asked) (r : Result Done Stop) → IfOk r (λ done. IsDone found words told (command.Explain a) done.text done.ended) → IfOk r (λ done. IsBy n done.ended)
+explain-told n found words told a (Ok done) h = explain-by n a done.ended h.ends
+explain-told n found words told a (Err s) h = tt
 
 -- `trial` ends as it should
-pub trial-told_done : (words : List (List ℕ)) (told : Option Files) (trial : Trial) (r : Result Done Stop) → IfOk r (λ done. EndsAs (command.Trial trial) done.ended) → IfOk r (λ done. IsDone words told (command.Trial trial) done.text done.ended)
-trial-told_done words told trial (Ok done) h = trial-done told words trial done.text done.ended h
-trial-told_done words told trial (Err s) h = tt
+pub trial-told_done : (found : Found) (words : List (List ℕ)) (told : Option Files) (trial : Trial) (r : Result Done Stop) → IfOk r (λ done. EndsAs (command.Trial trial) done.ended) → IfOk r (λ done. IsDone found words told (command.Trial trial) done.text done.ended)
+trial-told_done found words told trial (Ok done) h = trial-done told found words trial done.text done.ended h
+trial-told_done found words told trial (Err s) h = tt
 
 -- what is written tells of the phases that were there, or of none
 pub written-by : (n : ℕ) (before now : SinkNow) (text : List ℕ) (done e : Ended) → IsBy n done → Writes before now text done e → IsBy n e

@@ -1,5 +1,6 @@
 -- The top call over sinks in memory.
 use Rattle.std.specs.Prelude.{◌≡◌, ◌≤◌, ◌⊎◌, ℕ, List, [], ◌++◌, length, Some, Ok, Err}
+use Rattle.pattern_run.specs.Patterned.{Found}
 use Rattle.kql_outside.specs.Memory.{SinkState, room_left}
 use Rattle.kql_program.specs.Answer.{Answers}
 use Rattle.kql_program.specs.declared.ended.Ended.{Ended}
@@ -41,9 +42,9 @@ pub record HadNoRoom (a : Answer (List ℕ)) (out err : SinkState) (e : Ended) :
   pub full : HaveRoom a out err → ⊥
 
 -- the answer to the words and files was given, or there was no room for it
-pub record Answered (words : List (List ℕ)) (files : Files) (out out_new err err_new : SinkState) (e : Ended) : Type 0 where
+pub record Answered (found : Found) (words : List (List ℕ)) (files : Files) (out out_new err err_new : SinkState) (e : Ended) : Type 0 where
   pub to : Answer (List ℕ)
-  pub is : Answers words files to
+  pub is : Answers found words files to
   pub given : IsGiven words to out out_new err err_new e ⊎ HadNoRoom to out err e
 
 -- there is room for the line of want of memory

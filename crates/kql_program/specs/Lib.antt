@@ -3,6 +3,7 @@ pub mod Calls
 pub mod Endings
 pub mod Files
 pub mod InMemory
+pub mod Judged
 pub mod Lines
 pub mod Outcomes
 pub mod Plans

@@ -32,7 +32,7 @@ bind_name code =
     else if code == 410 then codes "UnknownTable"
     else []
 
--- and 411 to 419, and of a query that a view cannot keep
+-- and 411 to 420, of a query that a view cannot keep, and of a pattern that the maker refused
 abbrev pub operator_name : ℕ → List ℕ
 operator_name code =
     if code == 411 then codes "ColumnTwice"
@@ -44,7 +44,9 @@ operator_name code =
     else if code == 417 then codes "NameTwice"
     else if code == 418 then codes "BadLiteral"
     else if code == 419 then codes "NoColumns"
+    else if code == 420 then codes "PatternHere"
     else if code == 421 then codes "NotAView"
+    else if code == 501 then codes "BadPattern"
     else []
 
 -- the name of a code of a refused query: of its tokens and syntax, or of binding

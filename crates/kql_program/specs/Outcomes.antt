@@ -7,6 +7,7 @@ use Rattle.kql_outside.specs.Causes.{Rose}
 use Rattle.kql_outside.specs.Told.{IsCutShort, appended}
 use Rattle.kql_program.specs.declared.ended.Ended.{Ended}
 use Rattle.kql_program.specs.declared.ended.Ended.TheVariants as ended
+use Rattle.kql_lexer.specs.declared.place.Place.{Place}
 use Rattle.kql_words.specs.declared.refusal.Refusal.{Refusal}
 use Rattle.kql_words.specs.declared.refusal.Refusal.TheVariants as refusal
 use Rattle.kql_program.specs.declared.refusal.Stop.{Stop}
@@ -20,9 +21,10 @@ use Rattle.kql_program.specs.Trials.{AnswersTrial}
 use Rattle.kql_words.specs.Command.{command_of}
 use Rattle.kql_program.specs.Endings.{EndsAs, EndsAsAsked, IfExplained, IfPlan, IsEndingOf, IsQuiet, refused_as}
 use Rattle.catalogue_tables.specs.Files.{Files}
+use Rattle.pattern_run.specs.Patterned.{Found}
 use Rattle.kql_program.specs.Lines.{line_of, memory_line, read_fault_line}
 use Rattle.kql_program.specs.Plans.{IsPlanAsked}
-use Rattle.kql_program.specs.Refusals.{Finds}
+use Rattle.kql_program.specs.Refusals.{Finds, IsBadPattern, bad_pattern_code}
 use Rattle.kql_program.specs.declared.bound.Done.{Done}
 use Rattle.kql_words.specs.Refusals.{Answer}
 
@@ -45,13 +47,21 @@ abbrev pub OfAnswers : Type 1
 OfAnswers = Answer (List ℕ) → Type 0
 
 -- this is what the program answers to the words, where the shelf tells its files or not
-abbrev pub IsAnswer : List (List ℕ) → Option Files → OfAnswers
-IsAnswer words None a = IsUntold words a
-IsAnswer words (Some files) a = Answers words files a
+abbrev pub IsAnswer : Found → List (List ℕ) → Option Files → OfAnswers
+IsAnswer found words None a = IsUntold words a
+IsAnswer found words (Some files) a = Answers found words files a
 
 -- no word is refused
 abbrev pub RefusesNoWord : {X : Type 0} → Result X Stop → Type 0
 RefusesNoWord result = (word code : ℕ) → result ≡ Err (stop.Refused (refusal.Usage word code)) → ⊥
+
+-- a pattern is refused only where this holds
+abbrev pub IfBadPattern : {X : Type 0} → Type 0 → Result X Stop → Type 0
+IfBadPattern Cause result = (place : Place) → result ≡ Err (stop.Refused (refusal.Query bad_pattern_code place)) → Cause
+
+-- no pattern is refused
+abbrev pub RefusesNoPattern : {X : Type 0} → Result X Stop → Type 0
+RefusesNoPattern result = IfBadPattern ⊥ result
 
 -- what a query's command asks for
 abbrev pub asked_in : Answer Command → Option Asked
@@ -77,9 +87,9 @@ abbrev pub ReadsFiles : List (List ℕ) → Type 0
 ReadsFiles words = IsSome (asked_in (command_of words))
 
 -- This is a plan of the query's program, where files are told; else it is one in which no rule fires.
-abbrev pub IsPlanFor : List (List ℕ) → Option Files → Answer Command → Program → Type 0
-IsPlanFor words None c plan = settled plan ≡ true
-IsPlanFor words (Some files) c plan = IsSomeAnd (asked_in c) (λ asked. IsPlanAsked words files asked plan)
+abbrev pub IsPlanFor : Found → List (List ℕ) → Option Files → Answer Command → Program → Type 0
+IsPlanFor found words None c plan = settled plan ≡ true
+IsPlanFor found words (Some files) c plan = IsSomeAnd (asked_in c) (λ asked. IsPlanAsked found words files asked plan)
 
 -- the text in a call's result
 abbrev pub text_in : Result Done Stop → Result (List ℕ) Stop
@@ -88,9 +98,9 @@ text_in (Err stop) = Err stop
 
 -- A text and the ending after it, as a command makes them: the ending is that of the command, the plan in it is one of the query's program,
 -- and where it is explained, this is its text.
-pub record IsDone (words : List (List ℕ)) (files : Option Files) (c : Command) (text : List ℕ) (e : Ended) : Type 0 where
+pub record IsDone (found : Found) (words : List (List ℕ)) (files : Option Files) (c : Command) (text : List ℕ) (e : Ended) : Type 0 where
   pub ends : EndsAs c e
-  pub plan : IfPlan (IsPlanFor words files (Ok c)) e
+  pub plan : IfPlan (IsPlanFor found words files (Ok c)) e
   pub explained : IfExplained (λ plan. text ≡ plan_text plan) e
 
 -- a sink at one moment: what it holds and how much more it takes, where that is told, and its count of faults
@@ -105,11 +115,16 @@ sink_now written room faults = record { written = written; room = room; faults =
 -- the outside at one moment
 pub record Outside : Type 0 where
   pub shelf_faults : ℕ
+  pub pattern_faults : ℕ
   pub out : SinkNow
   pub err : SinkNow
 
+abbrev pub outside_with : ℕ → ℕ → SinkNow → SinkNow → Outside
+outside_with pattern_faults shelf_faults out err = record { shelf_faults = shelf_faults; pattern_faults = pattern_faults; out = out; err = err }
+
+-- of a call that makes no patterns
 abbrev pub outside : ℕ → SinkNow → SinkNow → Outside
-outside shelf_faults out err = record { shelf_faults = shelf_faults; out = out; err = err }
+outside shelf_faults out err = outside_with 0 shelf_faults out err
 
 -- all of a text was added
 abbrev pub Adds : SinkNow → SinkNow → List ℕ → Type 0
@@ -206,28 +221,37 @@ pub record WritesStop (before now : SinkNow) (s : Stop) (e : Ended) : Type 0 whe
 -- no count of faults rose
 pub record IsFaultless (before now : Outside) : Type 0 where
   pub shelf : Rose before.shelf_faults now.shelf_faults → ⊥
+  pub patterns : Rose before.pattern_faults now.pattern_faults → ⊥
   pub out : Rose before.out.faults now.out.faults → ⊥
   pub err : Rose before.err.faults now.err.faults → ⊥
 
--- the ending is that of the answer
-pub record EndsAsAnswered (words : List (List ℕ)) (files : Files) (e : Ended) : Type 0 where
+-- the ending is that of the answer, which where files are read is not that the maker refused a pattern
+pub record EndsAsAnswered (found : Found) (words : List (List ℕ)) (files : Files) (e : Ended) : Type 0 where
   pub to : Answer (List ℕ)
-  pub is : Answers words files to
+  pub is : Answers found words files to
+  pub good : ReadsFiles words → IsBadPattern to → ⊥
   pub ending : IsEndingOf words to e
 
+-- this is the answer, and where files are read and it is that the maker refused a pattern, the maker counted that
+pub record IsCaused (found : Found) (words : List (List ℕ)) (files : Option Files) (before now : Outside) (a : Answer (List ℕ)) : Type 0 where
+  pub is : IsAnswer found words files a
+  pub cause : ReadsFiles words → IsBadPattern a → Rose before.pattern_faults now.pattern_faults
+
 -- The outcome of a call: what its ending says of the answer and of what was written, and what follows from it.
-pub record HasOutcome (words : List (List ℕ)) (files : Option Files) (before now : Outside) (e : Ended) : Type 0 where
-  pub ends : Ends words (IsAnswer words files) before now e
+pub record HasOutcome (found : Found) (words : List (List ℕ)) (files : Option Files) (before now : Outside) (e : Ended) : Type 0 where
+  pub ends : Ends words (IsCaused found words files before now) before now e
   -- the plan in the ending is one of the program that the query is bound to
-  pub plan : IfPlan (IsPlanFor words files (command_of words)) e
+  pub plan : IfPlan (IsPlanFor found words files (command_of words)) e
   -- and where it is explained, its text was written
   pub explained : IfExplained (λ plan. Adds before.out now.out (plan_text plan)) e
   -- a read or write fault is answered only where the count of an object that was handed in rose in this call
   pub read : e ≡ ended.ReadFault → Rose before.shelf_faults now.shelf_faults
   -- and a read fault only of a command that reads files, whose words have no fault
   pub turn : e ≡ ended.ReadFault → ReadsFiles words
+  -- and a pattern of a command that reads files is refused only where the count of the maker rose
+  pub pattern : ReadsFiles words → (place : Place) → e ≡ ended.QueryRefused bad_pattern_code place → Rose before.pattern_faults now.pattern_faults
   pub write : e ≡ ended.WriteFault → Rose before.out.faults now.out.faults ⊎ Rose before.err.faults now.err.faults
   -- after a refusal, a read fault or want of memory nothing was written to the output
   pub quiet : IsQuiet e → IsSame before.out now.out
   -- where no count rose the ending is that of the answer, or want of memory
-  pub complete : IsFaultless before now → IfSome files (λ told. EndsAsAnswered words told e ⊎ (e ≡ ended.OutOfMemory))
+  pub complete : IsFaultless before now → IfSome files (λ told. EndsAsAnswered found words told e ⊎ (e ≡ ended.OutOfMemory))

@@ -1,4 +1,5 @@
--- What `explain` asks for: the text of a plan of the query's program, or the first refusal, which is that of the answer.
+-- What `explain` asks for: the text of a plan of the query's program, or the first refusal, which is that of the answer. Of a query with pattern calls
+-- it is a plan of the program that reads their answers in the columns of derived tables.
 use Rattle.std.specs.Prelude.{◌≡◌, ℕ, Bool, true, List, Ok, Err}
 use Rattle.kql_bound.specs.declared.plan.Program.{Program}
 use Rattle.kql_cells.specs.Catalogues.{Named}
@@ -10,6 +11,7 @@ use Rattle.plan_push.specs.Settled.{settled}
 use Rattle.plan_rules.specs.Becomes.{ProgramBecomes}
 use Rattle.plan_rules.specs.Improves.{IsNoLonger}
 use Rattle.catalogue_tables.specs.Files.{Files}
+use Rattle.pattern_run.specs.Patterned.{Found}
 use Rattle.kql_program.specs.Queries.{IsBoundAsked, text_as}
 use Rattle.kql_program.specs.declared.bound.BoundQuery.{BoundQuery}
 use Rattle.kql_program.specs.declared.ended.Ended.{Ended}
@@ -28,21 +30,21 @@ Explains (Err refusal) a = a ≡ Err refusal
 Explains (Ok b) a = (plan : Program) × IsPlanOf b.program plan × (a ≡ Ok (plan_text plan))
 
 -- this is the text that `explain` asks for, or the first refusal
-pub record AnswersExplain (words : List (List ℕ)) (files : Files) (asked : Asked) (a : Answer (List ℕ)) : Type 0 where
+pub record AnswersExplain (found : Found) (words : List (List ℕ)) (files : Files) (asked : Asked) (a : Answer (List ℕ)) : Type 0 where
   pub bound : Answer BoundQuery
-  pub is_bound : IsBoundAsked words files asked bound
+  pub is_bound : IsBoundAsked found words files asked bound
   pub is : Explains bound a
 
 -- this is a plan of the program that the query of a command is bound to
-pub record IsPlanAsked (words : List (List ℕ)) (files : Files) (asked : Asked) (plan : Program) : Type 0 where
+pub record IsPlanAsked (found : Found) (words : List (List ℕ)) (files : Files) (asked : Asked) (plan : Program) : Type 0 where
   pub bound : BoundQuery
-  pub is_bound : IsBoundAsked words files asked (Ok bound)
+  pub is_bound : IsBoundAsked found words files asked (Ok bound)
   pub is : IsPlanOf bound.program plan
 
 -- two texts of plans of the program that the query of a command is bound to
-pub record ExplainOne (words : List (List ℕ)) (files : Files) (asked : Asked) (s t : List ℕ) : Type 0 where
+pub record ExplainOne (found : Found) (words : List (List ℕ)) (files : Files) (asked : Asked) (s t : List ℕ) : Type 0 where
   pub bound : BoundQuery
-  pub is_bound : IsBoundAsked words files asked (Ok bound)
+  pub is_bound : IsBoundAsked found words files asked (Ok bound)
   pub first : Explains (Ok bound) (Ok s)
   pub second : Explains (Ok bound) (Ok t)
 

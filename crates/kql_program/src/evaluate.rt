@@ -8,11 +8,15 @@ ghost use Rattle.kql_meaning.specs.Fits.{fits, program_columns};
 ghost use Rattle.kql_meaning.specs.Plans.{means};
 ghost use Rattle.kql_parser_laws.specs.Patterns.{has_patterns};
 ghost use Rattle.kql_values.specs.Kept.{all_named};
+ghost use Rattle.kql_words.specs.Options.{AreWorkers};
 ghost use Rattle.bind_query_laws.specs.Sound.{AreColumns};
 ghost use Rattle.kql_program.specs.Plans.{IsPlanOf};
-ghost use Rattle.kql_program.specs.Queries.{bound_over, program_of, rows_over};
+ghost use Rattle.kql_outside.specs.Causes.{Rose};
+ghost use Rattle.kql_program.specs.Judged.{IsProgramOver, Judges};
+ghost use Rattle.kql_program.specs.Outcomes.{IfBadPattern, RefusesNoPattern, RefusesNoWord};
+ghost use Rattle.kql_program.specs.Queries.{IsBoundOver, bound_program_of, program_of, rows_over};
 ghost use Rattle.kql_program.specs.Workers.{AddsReport, IsCrew, IsReportOf};
-ghost use Rattle.kql_program.specs.Refusals.{Gives};
+ghost use Rattle.kql_program.specs.Refusals.{Finds, Gives};
 
 use crate::bound::BoundQuery;
 use crate::crew::Crew;
@@ -23,33 +27,47 @@ use bind_query_laws::law_of_binding_queries;
 use kql_bound::Program;
 use kql_cells::NamedSchema;
 use kql_items::Boxed;
+use kql_lexer::Tokens;
 use kql_outside::Gate;
 use kql_syntax::Query;
 use kql_values::{Catalogue, Named, Table};
+use kql_words::Refusal;
+use pattern_ops::PatternMaker;
+use pattern_run::{Lifted, first_call, run_patterns};
 use phase_run::{Answer, run_plan};
 use plan_push::settle;
 use std::alloc::{AllocError, Global};
 use std::thread::Threads;
 
-/// A query bound to the tables of a catalogue, at a moment.
-#[tactic(auto, unfolding(crate::specs::Queries::bound_over))]
-pub(crate) fn bound_over(
+/// The query that tokens are, bound to the tables of a catalogue, at a moment: what its pattern calls answer stands in further tables.
+pub(crate) fn bound_over<R: Threads + Sync, P: PatternMaker>(
+    rt: &R,
     alloc: Global,
+    tokens: &Tokens,
     query: &Query,
     moment: Option<i64>,
     catalogue: Catalogue,
+    workers: u32,
+    patterns: &mut P,
 ) -> Result<BoundQuery, Stop>
+    requires workers { AreWorkers workers }
     requires moment { IfSome moment IsMoment }
     requires patterns { has_patterns query.now ≡ true }
-    ensures bound { Gives (bound_over query.now moment catalogue) result }
+    ensures found { P.found patterns.new ≡ P.found patterns.old }
+    ensures bound { Finds (IsBoundOver (P.found patterns.old) tokens.now query.now moment catalogue) result }
     ensures fits { IfOk result (λ b. IsTrue (fits b.program (schemas_of b.catalogue))) }
+    ensures pattern { IfBadPattern (Rose (P.faults patterns.old) (P.faults patterns.new)) result }
+    ensures words { RefusesNoWord result }
+    ensures judged { Judges (IsProgramOver query.now moment catalogue) P.makes P.refuses result }
 {
-    let program = program_of(alloc, query, moment, &catalogue)?;
+    let program = bound_program_of(alloc, query, moment, &catalogue)?;
+    let lifted = run_patterns(rt, alloc, workers, patterns, tokens, program, catalogue)?;
+    let Lifted { program, catalogue } = lifted;
     Ok(BoundQuery { program, catalogue })
 }
 
 /// The rows of a stored query over the tables of a catalogue; the phases that made them are added to the reports.
-#[tactic(auto, unfolding(crate::specs::Queries::rows_over, crate::specs::Queries::bound_over))]
+#[tactic(auto, unfolding(crate::specs::Queries::rows_over))]
 pub(crate) fn rows_over<R: Threads + Sync, G: Gate + Sync>(
     rt: &R,
     alloc: Global,
@@ -134,8 +152,8 @@ fn columns_differ(schemas: &[NamedSchema])
     }
 }
 
-/// The program that a query is bound to, which fits the tables, or binding's first refusal. `moment` is what `now()` stands for.
-#[tactic(auto, using(crate::proofs::BoundFacts::bound_facts), unfolding(crate::specs::Queries::program_of))]
+/// The program that a query is bound to, which fits the tables, or binding's first refusal; a pattern call may not stand in it. `moment` is what
+/// `now()` stands for.
 pub fn program_of(
     alloc: Global,
     query: &Query,
@@ -146,6 +164,29 @@ pub fn program_of(
     requires patterns { has_patterns query.now ≡ true }
     ensures program { Gives (program_of query.now moment catalogue.now) result }
     ensures fits { IfOk result (λ p. IsTrue (fits p (schemas_of catalogue.now))) }
+    ensures words { RefusesNoWord result }
+{
+    let program = bound_program_of(alloc, query, moment, catalogue)?;
+    match first_call(alloc, program.get())? {
+        None => Ok(program),
+        Some(place) => Err(Stop::Refused(Refusal::Query { code: 420, place })),
+    }
+}
+
+// The program that a query is bound to, which may have pattern calls.
+#[tactic(auto, using(crate::proofs::BoundFacts::bound_facts), unfolding(crate::specs::Queries::bound_program_of))]
+fn bound_program_of(
+    alloc: Global,
+    query: &Query,
+    moment: Option<i64>,
+    catalogue: &Catalogue,
+) -> Result<Boxed<Program>, Stop>
+    requires moment { IfSome moment IsMoment }
+    requires patterns { has_patterns query.now ≡ true }
+    ensures program { Gives (bound_program_of query.now moment catalogue.now) result }
+    ensures fits { IfOk result (λ p. IsTrue (fits p (schemas_of catalogue.now))) }
+    ensures patterns { RefusesNoPattern result }
+    ensures words { RefusesNoWord result }
 {
     let schemas = catalogue.schemas(alloc)?;
     columns_differ(schemas.schemas());

@@ -9,7 +9,7 @@ ghost use Rattle.kql_words.specs.Sizes.{size_top};
 ghost use Rattle.kql_program.specs.Calls.{StartsTables, StopsAtRead};
 ghost use Rattle.catalogue_tables.specs.Files.{file_bytes};
 ghost use Rattle.kql_program.specs.Files.{AddsTable, ReadsFront, ReadsTable, file_tokens, loaded_as, query_tokens, tables_of};
-ghost use Rattle.kql_program.specs.Outcomes.{RefusesNoWord};
+ghost use Rattle.kql_program.specs.Outcomes.{RefusesNoPattern, RefusesNoWord};
 ghost use Rattle.kql_program.specs.Refusals.{Computes, Gives};
 ghost use Rattle.csv_io.specs.Load.{loaded};
 ghost use Rattle.kql_program.specs.declared.refusal.Stop.TheVariants as stop;
@@ -43,6 +43,7 @@ fn read_file<F: Shelf>(
     ensures within { IfOk result (λ bytes. length bytes ≤ limit) }
     ensures front { IfSome (F.files shelf.old) (λ files. ReadsFront limit (file_bytes number files path.now) result) }
     ensures words { RefusesNoWord result }
+    ensures patterns { RefusesNoPattern result }
 {
     if shelf.start(path)? {
         Ok(Items::from_vec(read_up_to(alloc, shelf, limit)?))
@@ -66,6 +67,7 @@ pub fn read_query<F: Shelf>(alloc: Global, shelf: &mut F, path: &str) -> Result<
     ensures starts { F.starts shelf.new ≡ one_more (F.starts shelf.old) }
     ensures tokens { IfSome (F.files shelf.old) (λ files. Computes (file_tokens files path.now) result) }
     ensures words { RefusesNoWord result }
+    ensures patterns { RefusesNoPattern result }
 {
     let bytes = read_file(alloc, shelf, path, 0, MAX_BYTES + 1)?;
     read_tokens(alloc, bytes.as_slice())
@@ -99,6 +101,7 @@ pub(crate) fn read_tables<R: Threads + Sync, F: Shelf>(
     ensures starts { IfSome (F.files shelf.old) (λ files. StartsTables files limit (option_map (λ path. path.now) catalogue.entry) (texts words.now) (F.starts shelf.old) (F.starts shelf.new)) }
     ensures tables { IfSome (F.files shelf.old) (λ files. Computes (tables_of files limit (option_map (λ path. path.now) catalogue.entry) (texts words.now)) result) }
     ensures words { RefusesNoWord result }
+    ensures patterns { RefusesNoPattern result }
 {
     let mut tables = Catalogue::new(alloc);
     let mut room = limit as usize;
@@ -145,6 +148,7 @@ fn add_table<R: Threads + Sync, F: Shelf>(
     ensures names { OnOk result (map table_name catalogue.new ≡ map table_name catalogue.old ++ name_in word.now ∷ []) }
     ensures table { IfSome (F.files shelf.old) (λ files. AddsTable files number room word.now catalogue.old catalogue.new result) }
     ensures words { RefusesNoWord result }
+    ensures patterns { RefusesNoPattern result }
 {
     let (name, path) = table_parts(word).unwrap();
     let (table, left) = read_table(rt, alloc, shelf, path, number, room, workers)?;
@@ -175,6 +179,7 @@ pub fn read_table<R: Threads + Sync, F: Shelf>(
     ensures few { IfOk result (λ read. read.1 ≤ size_top) }
     ensures table { IfSome (F.files shelf.old) (λ files. ReadsTable files number room path.now result) }
     ensures words { RefusesNoWord result }
+    ensures patterns { RefusesNoPattern result }
 {
     let bytes = read_file(alloc, shelf, path, number, room + 1)?;
     if bytes.len() > room {

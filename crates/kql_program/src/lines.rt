@@ -107,7 +107,9 @@ fn operator_name(code: u32) -> &'static str
         417 => "NameTwice",
         418 => "BadLiteral",
         419 => "NoColumns",
+        420 => "PatternHere",
         421 => "NotAView",
+        501 => "BadPattern",
         _ => "",
     }
 }

@@ -4,6 +4,7 @@ use kql_lexer::LexFault;
 use kql_outside::{Failed, ReadError};
 use kql_syntax::SyntaxFault;
 use kql_words::Refusal;
+use pattern_run::PatternFault;
 use std::alloc::AllocError;
 
 /// Why the work stops before there is a text.
@@ -127,6 +128,21 @@ impl From<BindFault> for Stop {
         match fault {
             BindFault::Refused { code, place } => Stop::Refused(Refusal::Query { code, place }),
             BindFault::OutOfMemory => Stop::OutOfMemory,
+        }
+    }
+}
+
+impl From<PatternFault> for Stop {
+    ghost use Rattle.std.specs.Prelude.{◌≡◌};
+    ghost use Rattle.kql_program.specs.Stops.{pattern_stop};
+
+    ghost from_gives = { λ fault e. e ≡ pattern_stop fault };
+
+    fn from(fault: PatternFault) -> Stop {
+        match fault {
+            PatternFault::PatternHere(place) => Stop::Refused(Refusal::Query { code: 420, place }),
+            PatternFault::BadPattern(place) => Stop::Refused(Refusal::Query { code: 501, place }),
+            PatternFault::OutOfMemory => Stop::OutOfMemory,
         }
     }
 }

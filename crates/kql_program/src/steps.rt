@@ -12,10 +12,11 @@ ghost use Rattle.kql_plan_text.specs.Plans.{plan_text};
 ghost use Rattle.kql_program.specs.Answer.{AnswersCommand};
 ghost use Rattle.kql_program.specs.Calls.{StartsFor, StartsOf, StartsTables, StopsAtRead};
 ghost use Rattle.kql_program.specs.Files.{tables_of};
-ghost use Rattle.kql_program.specs.Outcomes.{IsDone, ReadsFor, RefusesNoWord, TriesFor, asked_in, text_in};
+ghost use Rattle.kql_program.specs.Judged.{IsProgramAsked, IsProgramOf, IsProgramWith, Judges, JudgesFor};
+ghost use Rattle.kql_program.specs.Outcomes.{IfBadPattern, IsDone, ReadsFor, RefusesNoWord, TriesFor, asked_in, text_in};
 ghost use Rattle.kql_program.specs.Plans.{AnswersExplain, IsExplainedBy, IsRunBy};
-ghost use Rattle.kql_program.specs.Queries.{AnswersQuery, IsBound, IsBoundAsked, bound_with, text_as};
-ghost use Rattle.kql_program.specs.Refusals.{Computes, Finds, Reaches};
+ghost use Rattle.kql_program.specs.Queries.{AnswersQuery, IsBound, IsBoundAsked, IsBoundWith, text_as};
+ghost use Rattle.kql_program.specs.Refusals.{Finds, Reaches};
 ghost use Rattle.kql_program.specs.Endings.{EndsAs};
 ghost use Rattle.kql_program.specs.Trials.{AnswersTrial};
 ghost use Rattle.kql_program.specs.Workers.{IsBy, IsCrew};
@@ -46,12 +47,13 @@ use kql_plan_text::plan_text;
 use kql_syntax::Query;
 use kql_values::Table;
 use kql_words::{Asked, Command, Options, Trial};
+use pattern_ops::PatternMaker;
 use phase_run::Answer;
 use std::alloc::{AllocError, Global};
 use std::thread::Threads;
 
 /// The text that a command asks for, which these words are, and the ending after it.
-pub(crate) fn command_text<R: Threads + Sync, F: Shelf, G: Gate + Sync>(
+pub(crate) fn command_text<R: Threads + Sync, F: Shelf, G: Gate + Sync, P: PatternMaker>(
     rt: &R,
     alloc: Global,
     words: &[String],
@@ -59,6 +61,7 @@ pub(crate) fn command_text<R: Threads + Sync, F: Shelf, G: Gate + Sync>(
     shelf: &mut F,
     crew: Crew,
     gate: &G,
+    patterns: &mut P,
 ) -> Result<Done, Stop>
     requires crew { IsCrew crew }
     requires within { IfAsks (λ a. a.query < length words.now) command }
@@ -67,26 +70,31 @@ pub(crate) fn command_text<R: Threads + Sync, F: Shelf, G: Gate + Sync>(
     requires limit { IfAsks (λ a. a.options.limit ≤ size_top) command }
     requires catalogue { IfAsks (λ a. IfSome a.options.catalogue (λ k. k < length words.now)) command }
     ensures files { F.files shelf.new ≡ F.files shelf.old }
+    ensures found { P.found patterns.new ≡ P.found patterns.old }
     ensures failed { result ≡ Err stop.ReadFault → Rose (F.faults shelf.old) (F.faults shelf.new) }
     ensures stops { StopsAtRead (F.calls shelf.old) (F.calls shelf.new) result }
     ensures starts { StartsFor (texts words.now) (F.files shelf.old) (asked_in (Ok command)) (F.starts shelf.old) (F.starts shelf.new) }
     ensures turn { result ≡ Err stop.ReadFault → ReadsFor command }
-    ensures text { IfSome (F.files shelf.old) (λ files. Reaches (AnswersCommand (texts words.now) files (Ok command)) (text_in result)) }
-    ensures done { IfOk result (λ done. IsDone (texts words.now) (F.files shelf.old) command done.text done.ended) }
+    ensures text { IfSome (F.files shelf.old) (λ files. Reaches (AnswersCommand (P.found patterns.old) (texts words.now) files (Ok command)) (text_in result)) }
+    ensures done { IfOk result (λ done. IsDone (P.found patterns.old) (texts words.now) (F.files shelf.old) command done.text done.ended) }
     ensures by { IfOk result (λ done. IsBy crew.workers done.ended) }
     ensures trial { TriesFor command (text_in result) }
     ensures words { RefusesNoWord result }
+    ensures pattern { ReadsFor command → IfBadPattern (Rose (P.faults patterns.old) (P.faults patterns.new)) result }
+    ensures judged { JudgesFor P.makes P.refuses (texts words.now) (F.files shelf.old) (asked_in (Ok command)) result }
 {
     match command {
-        Command::Run(asked) => query_run(rt, alloc, words, asked, shelf, crew, gate),
-        Command::Plain(asked) => query_plain(rt, alloc, words, asked, shelf),
-        Command::Explain(asked) => query_explained(rt, alloc, words, asked, shelf, crew.workers),
+        Command::Run(asked) => query_run(rt, alloc, words, asked, shelf, crew, gate, patterns),
+        Command::Plain(asked) => query_plain(rt, alloc, words, asked, shelf, patterns),
+        Command::Explain(asked) => {
+            query_explained(rt, alloc, words, asked, shelf, crew.workers, patterns)
+        }
         Command::Trial(trial) => trial_done(rt, alloc, trial, crew, gate),
     }
 }
 
 // The text of the table that a query's command asks for, answered by a plan.
-fn query_run<R: Threads + Sync, F: Shelf, G: Gate + Sync>(
+fn query_run<R: Threads + Sync, F: Shelf, G: Gate + Sync, P: PatternMaker>(
     rt: &R,
     alloc: Global,
     words: &[String],
@@ -94,6 +102,7 @@ fn query_run<R: Threads + Sync, F: Shelf, G: Gate + Sync>(
     shelf: &mut F,
     crew: Crew,
     gate: &G,
+    patterns: &mut P,
 ) -> Result<Done, Stop>
     requires crew { IsCrew crew }
     requires within { asked.query < length words.now }
@@ -102,26 +111,30 @@ fn query_run<R: Threads + Sync, F: Shelf, G: Gate + Sync>(
     requires limit { asked.options.limit ≤ size_top }
     requires catalogue { IfSome asked.options.catalogue (λ k. k < length words.now) }
     ensures files { F.files shelf.new ≡ F.files shelf.old }
+    ensures found { P.found patterns.new ≡ P.found patterns.old }
     ensures failed { result ≡ Err stop.ReadFault → Rose (F.faults shelf.old) (F.faults shelf.new) }
     ensures stops { StopsAtRead (F.calls shelf.old) (F.calls shelf.new) result }
     ensures starts { IfSome (F.files shelf.old) (λ files. StartsOf (texts words.now) files asked (F.starts shelf.old) (F.starts shelf.new)) }
-    ensures text { IfSome (F.files shelf.old) (λ files. Reaches (AnswersQuery (texts words.now) files asked) (text_in result)) }
-    ensures done { IfOk result (λ done. IsDone (texts words.now) (F.files shelf.old) (command.Run asked) done.text done.ended) }
+    ensures text { IfSome (F.files shelf.old) (λ files. Reaches (AnswersQuery (P.found patterns.old) (texts words.now) files asked) (text_in result)) }
+    ensures done { IfOk result (λ done. IsDone (P.found patterns.old) (texts words.now) (F.files shelf.old) (command.Run asked) done.text done.ended) }
     ensures by { IfOk result (λ done. IsBy crew.workers done.ended) }
     ensures words { RefusesNoWord result }
+    ensures pattern { IfBadPattern (Rose (P.faults patterns.old) (P.faults patterns.new)) result }
+    ensures judged { IfSome (F.files shelf.old) (λ files. Judges (IsProgramAsked (texts words.now) files asked) P.makes P.refuses result) }
 {
-    let bound = query_bound(rt, alloc, words, asked, shelf, crew.workers)?;
+    let bound = query_bound(rt, alloc, words, asked, shelf, crew.workers, patterns)?;
     let types = asked.options.types;
     Ok(bound_run(rt, alloc, &bound, types, crew, gate)?)
 }
 
 // The same, answered operator by operator, as the query is written, by one worker.
-fn query_plain<R: Threads + Sync, F: Shelf>(
+fn query_plain<R: Threads + Sync, F: Shelf, P: PatternMaker>(
     rt: &R,
     alloc: Global,
     words: &[String],
     asked: Asked,
     shelf: &mut F,
+    patterns: &mut P,
 ) -> Result<Done, Stop>
     requires within { asked.query < length words.now }
     requires tables { AreTables (texts (drop (asked.query + 1) words.now)) }
@@ -129,25 +142,29 @@ fn query_plain<R: Threads + Sync, F: Shelf>(
     requires limit { asked.options.limit ≤ size_top }
     requires catalogue { IfSome asked.options.catalogue (λ k. k < length words.now) }
     ensures files { F.files shelf.new ≡ F.files shelf.old }
+    ensures found { P.found patterns.new ≡ P.found patterns.old }
     ensures failed { result ≡ Err stop.ReadFault → Rose (F.faults shelf.old) (F.faults shelf.new) }
     ensures stops { StopsAtRead (F.calls shelf.old) (F.calls shelf.new) result }
     ensures starts { IfSome (F.files shelf.old) (λ files. StartsOf (texts words.now) files asked (F.starts shelf.old) (F.starts shelf.new)) }
-    ensures text { IfSome (F.files shelf.old) (λ files. Reaches (AnswersQuery (texts words.now) files asked) (text_in result)) }
-    ensures done { IfOk result (λ done. IsDone (texts words.now) (F.files shelf.old) (command.Plain asked) done.text done.ended) }
+    ensures text { IfSome (F.files shelf.old) (λ files. Reaches (AnswersQuery (P.found patterns.old) (texts words.now) files asked) (text_in result)) }
+    ensures done { IfOk result (λ done. IsDone (P.found patterns.old) (texts words.now) (F.files shelf.old) (command.Plain asked) done.text done.ended) }
     ensures words { RefusesNoWord result }
+    ensures pattern { IfBadPattern (Rose (P.faults patterns.old) (P.faults patterns.new)) result }
+    ensures judged { IfSome (F.files shelf.old) (λ files. Judges (IsProgramAsked (texts words.now) files asked) P.makes P.refuses result) }
 {
-    let bound = query_bound(rt, alloc, words, asked, shelf, 1)?;
+    let bound = query_bound(rt, alloc, words, asked, shelf, 1, patterns)?;
     Ok(bound_plain(rt, alloc, &bound, asked.options.types)?)
 }
 
 // The text of a plan of the query.
-fn query_explained<R: Threads + Sync, F: Shelf>(
+fn query_explained<R: Threads + Sync, F: Shelf, P: PatternMaker>(
     rt: &R,
     alloc: Global,
     words: &[String],
     asked: Asked,
     shelf: &mut F,
     workers: u32,
+    patterns: &mut P,
 ) -> Result<Done, Stop>
     requires workers { AreWorkers workers }
     requires within { asked.query < length words.now }
@@ -156,14 +173,17 @@ fn query_explained<R: Threads + Sync, F: Shelf>(
     requires limit { asked.options.limit ≤ size_top }
     requires catalogue { IfSome asked.options.catalogue (λ k. k < length words.now) }
     ensures files { F.files shelf.new ≡ F.files shelf.old }
+    ensures found { P.found patterns.new ≡ P.found patterns.old }
     ensures failed { result ≡ Err stop.ReadFault → Rose (F.faults shelf.old) (F.faults shelf.new) }
     ensures stops { StopsAtRead (F.calls shelf.old) (F.calls shelf.new) result }
     ensures starts { IfSome (F.files shelf.old) (λ files. StartsOf (texts words.now) files asked (F.starts shelf.old) (F.starts shelf.new)) }
-    ensures text { IfSome (F.files shelf.old) (λ files. Reaches (AnswersExplain (texts words.now) files asked) (text_in result)) }
-    ensures done { IfOk result (λ done. IsDone (texts words.now) (F.files shelf.old) (command.Explain asked) done.text done.ended) }
+    ensures text { IfSome (F.files shelf.old) (λ files. Reaches (AnswersExplain (P.found patterns.old) (texts words.now) files asked) (text_in result)) }
+    ensures done { IfOk result (λ done. IsDone (P.found patterns.old) (texts words.now) (F.files shelf.old) (command.Explain asked) done.text done.ended) }
     ensures words { RefusesNoWord result }
+    ensures pattern { IfBadPattern (Rose (P.faults patterns.old) (P.faults patterns.new)) result }
+    ensures judged { IfSome (F.files shelf.old) (λ files. Judges (IsProgramAsked (texts words.now) files asked) P.makes P.refuses result) }
 {
-    let bound = query_bound(rt, alloc, words, asked, shelf, workers)?;
+    let bound = query_bound(rt, alloc, words, asked, shelf, workers, patterns)?;
     Ok(bound_explained(alloc, &bound)?)
 }
 
@@ -275,13 +295,14 @@ fn text_of(alloc: Global, plan: &Program) -> Result<Bytes, AllocError>
 }
 
 // The query of a command, bound.
-fn query_bound<R: Threads + Sync, F: Shelf>(
+fn query_bound<R: Threads + Sync, F: Shelf, P: PatternMaker>(
     rt: &R,
     alloc: Global,
     words: &[String],
     asked: Asked,
     shelf: &mut F,
     workers: u32,
+    patterns: &mut P,
 ) -> Result<BoundQuery, Stop>
     requires workers { AreWorkers workers }
     requires within { asked.query < length words.now }
@@ -290,13 +311,16 @@ fn query_bound<R: Threads + Sync, F: Shelf>(
     requires limit { asked.options.limit ≤ size_top }
     requires catalogue { IfSome asked.options.catalogue (λ k. k < length words.now) }
     ensures files { F.files shelf.new ≡ F.files shelf.old }
+    ensures found { P.found patterns.new ≡ P.found patterns.old }
     ensures later { F.faults shelf.old ≤ F.faults shelf.new }
     ensures failed { result ≡ Err stop.ReadFault → Rose (F.faults shelf.old) (F.faults shelf.new) }
     ensures stops { StopsAtRead (F.calls shelf.old) (F.calls shelf.new) result }
     ensures starts { IfSome (F.files shelf.old) (λ files. StartsOf (texts words.now) files asked (F.starts shelf.old) (F.starts shelf.new)) }
-    ensures bound { IfSome (F.files shelf.old) (λ files. Reaches (IsBoundAsked (texts words.now) files asked) result) }
+    ensures bound { IfSome (F.files shelf.old) (λ files. Reaches (IsBoundAsked (P.found patterns.old) (texts words.now) files asked) result) }
     ensures fits { IfOk result (λ b. IsTrue (fits b.program (schemas_of b.catalogue))) }
     ensures words { RefusesNoWord result }
+    ensures pattern { IfBadPattern (Rose (P.faults patterns.old) (P.faults patterns.new)) result }
+    ensures judged { IfSome (F.files shelf.old) (λ files. Judges (IsProgramAsked (texts words.now) files asked) P.makes P.refuses result) }
 {
     let tokens = read_query(alloc, shelf, words[asked.query].as_str())?;
     let tables = &words[asked.query + 1..];
@@ -310,6 +334,7 @@ fn query_bound<R: Threads + Sync, F: Shelf>(
         catalogue,
         tables,
         workers,
+        patterns,
     )
 }
 
@@ -325,7 +350,7 @@ fn catalogue_path(words: &[String], asked: Asked) -> Option<&str>
 }
 
 // The query that tokens are, bound to the tables that words and a catalogue file name.
-fn parsed_bound<R: Threads + Sync, F: Shelf>(
+fn parsed_bound<R: Threads + Sync, F: Shelf, P: PatternMaker>(
     rt: &R,
     alloc: Global,
     shelf: &mut F,
@@ -334,38 +359,46 @@ fn parsed_bound<R: Threads + Sync, F: Shelf>(
     catalogue: Option<&str>,
     words: &[String],
     workers: u32,
+    patterns: &mut P,
 ) -> Result<BoundQuery, Stop>
     requires workers { AreWorkers workers }
     requires moment { IfSome options.moment IsMoment }
     requires limit { options.limit ≤ size_top }
     requires tables { AreTables (texts words.now) }
     ensures files { F.files shelf.new ≡ F.files shelf.old }
+    ensures found { P.found patterns.new ≡ P.found patterns.old }
     ensures later { F.faults shelf.old ≤ F.faults shelf.new }
     ensures failed { result ≡ Err stop.ReadFault → Rose (F.faults shelf.old) (F.faults shelf.new) }
     ensures stops { StopsAtRead (F.calls shelf.old) (F.calls shelf.new) result }
     ensures alone { (code : ℕ) (place : Place) → Refuses tokens.now code place → F.starts shelf.new ≡ F.starts shelf.old }
     ensures starts { IfSome (F.files shelf.old) (λ files. StartsTables files options.limit (option_map (λ path. path.now) catalogue.entry) (texts words.now) (F.starts shelf.old) (F.starts shelf.new)) }
-    ensures bound { IfSome (F.files shelf.old) (λ files. Reaches (IsBound (Ok tokens.now) (tables_of files options.limit (option_map (λ path. path.now) catalogue.entry) (texts words.now)) options.moment) result) }
+    ensures bound { IfSome (F.files shelf.old) (λ files. Reaches (IsBound (P.found patterns.old) (Ok tokens.now) (tables_of files options.limit (option_map (λ path. path.now) catalogue.entry) (texts words.now)) options.moment) result) }
     ensures fits { IfOk result (λ b. IsTrue (fits b.program (schemas_of b.catalogue))) }
     ensures words { RefusesNoWord result }
+    ensures pattern { IfBadPattern (Rose (P.faults patterns.old) (P.faults patterns.new)) result }
+    ensures judged { IfSome (F.files shelf.old) (λ files. Judges (IsProgramOf (Ok tokens.now) (tables_of files options.limit (option_map (λ path. path.now) catalogue.entry) (texts words.now)) options.moment) P.makes P.refuses result) }
 {
     let query = parse(alloc, tokens)?;
     law_of_patterns();
-    let bound = asked_bound(rt, alloc, shelf, &query, options, catalogue, words, workers);
+    let bound = asked_bound(
+        rt, alloc, shelf, tokens, &query, options, catalogue, words, workers, patterns,
+    );
     drop(query);
     bound
 }
 
 // A query bound to the tables that words and a catalogue file name.
-fn asked_bound<R: Threads + Sync, F: Shelf>(
+fn asked_bound<R: Threads + Sync, F: Shelf, P: PatternMaker>(
     rt: &R,
     alloc: Global,
     shelf: &mut F,
+    tokens: &Tokens,
     query: &Query,
     options: Options,
     catalogue: Option<&str>,
     words: &[String],
     workers: u32,
+    patterns: &mut P,
 ) -> Result<BoundQuery, Stop>
     requires workers { AreWorkers workers }
     requires moment { IfSome options.moment IsMoment }
@@ -373,14 +406,26 @@ fn asked_bound<R: Threads + Sync, F: Shelf>(
     requires patterns { has_patterns query.now ≡ true }
     requires tables { AreTables (texts words.now) }
     ensures files { F.files shelf.new ≡ F.files shelf.old }
+    ensures found { P.found patterns.new ≡ P.found patterns.old }
     ensures later { F.faults shelf.old ≤ F.faults shelf.new }
     ensures failed { result ≡ Err stop.ReadFault → Rose (F.faults shelf.old) (F.faults shelf.new) }
     ensures stops { StopsAtRead (F.calls shelf.old) (F.calls shelf.new) result }
     ensures starts { IfSome (F.files shelf.old) (λ files. StartsTables files options.limit (option_map (λ path. path.now) catalogue.entry) (texts words.now) (F.starts shelf.old) (F.starts shelf.new)) }
-    ensures bound { IfSome (F.files shelf.old) (λ files. Computes (bound_with (tables_of files options.limit (option_map (λ path. path.now) catalogue.entry) (texts words.now)) options.moment query.now) result) }
+    ensures bound { IfSome (F.files shelf.old) (λ files. Reaches (IsBoundWith (P.found patterns.old) tokens.now (tables_of files options.limit (option_map (λ path. path.now) catalogue.entry) (texts words.now)) options.moment query.now) result) }
     ensures fits { IfOk result (λ b. IsTrue (fits b.program (schemas_of b.catalogue))) }
     ensures words { RefusesNoWord result }
+    ensures pattern { IfBadPattern (Rose (P.faults patterns.old) (P.faults patterns.new)) result }
+    ensures judged { IfSome (F.files shelf.old) (λ files. Judges (IsProgramWith (tables_of files options.limit (option_map (λ path. path.now) catalogue.entry) (texts words.now)) options.moment query.now) P.makes P.refuses result) }
 {
     let tables = read_tables(rt, alloc, shelf, words, catalogue, options.limit, workers)?;
-    bound_over(alloc, query, options.moment, tables)
+    bound_over(
+        rt,
+        alloc,
+        tokens,
+        query,
+        options.moment,
+        tables,
+        workers,
+        patterns,
+    )
 }

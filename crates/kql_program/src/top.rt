@@ -3,9 +3,10 @@ ghost use Rattle.kql_cells.specs.Values.{IsMoment};
 ghost use Rattle.kql_program.specs.Answer.{HasOneAnswer};
 ghost use Rattle.kql_program.specs.Calls.{EndsAtWrite, HeedsFaults, LineEndsAtWrite, StartsFor, calls_now};
 ghost use Rattle.kql_program.specs.Workers.{IsBy, IsByWorkers, IsCrew};
+ghost use Rattle.kql_program.specs.Judged.{IsJudged};
 ghost use Rattle.kql_words.specs.Command.{AreTables, IfAsks, command_of, texts};
 ghost use Rattle.kql_words.specs.Sizes.{size_top};
-ghost use Rattle.kql_program.specs.Outcomes.{HasOutcome, SinkNow, Writes, WritesStop, asked_in, outside, sink_now};
+ghost use Rattle.kql_program.specs.Outcomes.{HasOutcome, SinkNow, Writes, WritesStop, asked_in, outside_with, sink_now};
 ghost use Rattle.kql_program.specs.declared.refusal.Stop.TheVariants as stop;
 
 use crate::bound::Done;
@@ -16,6 +17,7 @@ use crate::refusal::Stop;
 use crate::steps::command_text;
 use kql_outside::{Gate, Shelf, Sink, write_all};
 use kql_words::{Command, Refusal, read_command};
+use pattern_ops::PatternMaker;
 use phase_run::Sizes;
 use std::alloc::Global;
 use std::thread::Threads;
@@ -42,7 +44,11 @@ const MEMORY_LINE: &str = "kql: out of memory\n";
 /// takes pieces of the rows, and enters `gate` with each. A worker that wants memory stops the others, and the answer is want of memory. The
 /// text is made whole before its first byte is written. What is answered depends neither on the runtime, on N or on `gate`, nor on who takes which
 /// piece and when.
-pub fn kql<R: Threads + Sync, F: Shelf, O: Sink, E: Sink, G: Gate + Sync>(
+///
+/// What the patterns of `matches regex` and `extract` find is told by `patterns`, which makes them before the rows are made, for `explain` too: a query
+/// whose pattern it refuses is refused with 501 at the first such pattern, which is promised where the files are told, and then its count of faults rose.
+/// The columns of what they find are made by the same workers, which do not enter `gate` for them. `trial` makes no pattern.
+pub fn kql<R: Threads + Sync, F: Shelf, O: Sink, E: Sink, G: Gate + Sync, P: PatternMaker>(
     rt: &R,
     alloc: Global,
     words: &[String],
@@ -50,13 +56,15 @@ pub fn kql<R: Threads + Sync, F: Shelf, O: Sink, E: Sink, G: Gate + Sync>(
     out: &mut O,
     err: &mut E,
     gate: &G,
+    patterns: &mut P,
 ) -> Ended
     ensures files { F.files shelf.new ≡ F.files shelf.old }
+    ensures patterns { P.found patterns.new ≡ P.found patterns.old }
 
     // What the ending says of the answer to these words and files, and of what was written.
     ensures outcome { let out_at : O → SinkNow = λ o. sink_now (O.written o) (O.room o) (O.faults o) in
         let err_at : E → SinkNow = λ e. sink_now (E.written e) (E.room e) (E.faults e) in
-        HasOutcome (texts words.now) (F.files shelf.old) (outside (F.faults shelf.old) (out_at out.old) (err_at err.old)) (outside (F.faults shelf.new) (out_at out.new) (err_at err.new)) result }
+        HasOutcome (P.found patterns.old) (texts words.now) (F.files shelf.old) (outside_with (P.faults patterns.old) (F.faults shelf.old) (out_at out.old) (err_at err.old)) (outside_with (P.faults patterns.new) (F.faults shelf.new) (out_at out.new) (err_at err.new)) result }
 
     // After a call of the shelf or of a sink that failed there is no other, where these tell their calls, and the ending is that fault. But for the line
     // that tells a read fault.
@@ -69,14 +77,36 @@ pub fn kql<R: Threads + Sync, F: Shelf, O: Sink, E: Sink, G: Gate + Sync>(
     // The phases that the ending tells of ran by as many workers as the words ask for, each of their pieces once.
     ensures workers { IsByWorkers (texts words.now) result }
 
-    // Where the files are told there is one answer; of `explain` one refusal, or texts of plans of the one program that the query is bound to.
-    ensures one { IfSome (F.files shelf.old) (λ files. HasOneAnswer (texts words.now) files) }
+    // Where the files are told there is one answer but for refused patterns, which the maker chooses; of `explain` one refusal, or texts of plans of the one
+    // program that the query is bound to.
+    ensures one { IfSome (F.files shelf.old) (λ files. HasOneAnswer (P.found patterns.old) (texts words.now) files) }
+
+    // A table, or the text of a plan, is answered only where the text of each pattern of the query may be made. 501 stands at the first whose text may be
+    // refused, and all before it may be made.
+    ensures judged { IsJudged P.makes P.refuses (texts words.now) (F.files shelf.old) (asked_in (command_of (texts words.now))) result }
 {
-    kql_in_pieces(rt, alloc, words, shelf, out, err, gate, Sizes::usual())
+    kql_in_pieces(
+        rt,
+        alloc,
+        words,
+        shelf,
+        out,
+        err,
+        gate,
+        patterns,
+        Sizes::usual(),
+    )
 }
 
 /// `kql` where the pieces of rows that a worker takes have other sizes. What is answered does not depend on them.
-pub fn kql_in_pieces<R: Threads + Sync, F: Shelf, O: Sink, E: Sink, G: Gate + Sync>(
+pub fn kql_in_pieces<
+    R: Threads + Sync,
+    F: Shelf,
+    O: Sink,
+    E: Sink,
+    G: Gate + Sync,
+    P: PatternMaker,
+>(
     rt: &R,
     alloc: Global,
     words: &[String],
@@ -84,30 +114,35 @@ pub fn kql_in_pieces<R: Threads + Sync, F: Shelf, O: Sink, E: Sink, G: Gate + Sy
     out: &mut O,
     err: &mut E,
     gate: &G,
+    patterns: &mut P,
     sizes: Sizes,
 ) -> Ended
     requires sizes { 0 < sizes.piece_rows }
     ensures files { F.files shelf.new ≡ F.files shelf.old }
+    ensures patterns { P.found patterns.new ≡ P.found patterns.old }
     ensures outcome { let out_at : O → SinkNow = λ o. sink_now (O.written o) (O.room o) (O.faults o) in
         let err_at : E → SinkNow = λ e. sink_now (E.written e) (E.room e) (E.faults e) in
-        HasOutcome (texts words.now) (F.files shelf.old) (outside (F.faults shelf.old) (out_at out.old) (err_at err.old)) (outside (F.faults shelf.new) (out_at out.new) (err_at err.new)) result }
+        HasOutcome (P.found patterns.old) (texts words.now) (F.files shelf.old) (outside_with (P.faults patterns.old) (F.faults shelf.old) (out_at out.old) (err_at err.old)) (outside_with (P.faults patterns.new) (F.faults shelf.new) (out_at out.new) (err_at err.new)) result }
     ensures heeds { HeedsFaults (calls_now (F.calls shelf.old) (O.calls out.old) (E.calls err.old)) (calls_now (F.calls shelf.new) (O.calls out.new) (E.calls err.new)) result }
     ensures starts { StartsFor (texts words.now) (F.files shelf.old) (asked_in (command_of (texts words.now))) (F.starts shelf.old) (F.starts shelf.new) }
     ensures workers { IsByWorkers (texts words.now) result }
-    ensures one { IfSome (F.files shelf.old) (λ files. HasOneAnswer (texts words.now) files) }
+    ensures one { IfSome (F.files shelf.old) (λ files. HasOneAnswer (P.found patterns.old) (texts words.now) files) }
+    ensures judged { IsJudged P.makes P.refuses (texts words.now) (F.files shelf.old) (asked_in (command_of (texts words.now))) result }
 {
     match read_command(words) {
         Ok(command) => {
             let workers = workers_for(rt, &command);
             let crew = Crew { workers, sizes };
-            answer_command(rt, alloc, words, command, shelf, out, err, crew, gate)
+            answer_command(
+                rt, alloc, words, command, shelf, out, err, crew, gate, patterns,
+            )
         }
         Err(refusal) => write_refusal(alloc, err, refusal),
     }
 }
 
 // Answers a command, which these words are.
-fn answer_command<R: Threads + Sync, F: Shelf, O: Sink, E: Sink, G: Gate + Sync>(
+fn answer_command<R: Threads + Sync, F: Shelf, O: Sink, E: Sink, G: Gate + Sync, P: PatternMaker>(
     rt: &R,
     alloc: Global,
     words: &[String],
@@ -117,6 +152,7 @@ fn answer_command<R: Threads + Sync, F: Shelf, O: Sink, E: Sink, G: Gate + Sync>
     err: &mut E,
     crew: Crew,
     gate: &G,
+    patterns: &mut P,
 ) -> Ended
     requires crew { IsCrew crew }
     requires read { Ok command ≡ command_of (texts words.now) }
@@ -126,14 +162,16 @@ fn answer_command<R: Threads + Sync, F: Shelf, O: Sink, E: Sink, G: Gate + Sync>
     requires limit { IfAsks (λ a. a.options.limit ≤ size_top) command }
     requires catalogue { IfAsks (λ a. IfSome a.options.catalogue (λ k. k < length words.now)) command }
     ensures files { F.files shelf.new ≡ F.files shelf.old }
+    ensures patterns { P.found patterns.new ≡ P.found patterns.old }
     ensures outcome { let out_at : O → SinkNow = λ o. sink_now (O.written o) (O.room o) (O.faults o) in
         let err_at : E → SinkNow = λ e. sink_now (E.written e) (E.room e) (E.faults e) in
-        HasOutcome (texts words.now) (F.files shelf.old) (outside (F.faults shelf.old) (out_at out.old) (err_at err.old)) (outside (F.faults shelf.new) (out_at out.new) (err_at err.new)) result }
+        HasOutcome (P.found patterns.old) (texts words.now) (F.files shelf.old) (outside_with (P.faults patterns.old) (F.faults shelf.old) (out_at out.old) (err_at err.old)) (outside_with (P.faults patterns.new) (F.faults shelf.new) (out_at out.new) (err_at err.new)) result }
     ensures heeds { HeedsFaults (calls_now (F.calls shelf.old) (O.calls out.old) (E.calls err.old)) (calls_now (F.calls shelf.new) (O.calls out.new) (E.calls err.new)) result }
     ensures starts { StartsFor (texts words.now) (F.files shelf.old) (asked_in (command_of (texts words.now))) (F.starts shelf.old) (F.starts shelf.new) }
     ensures by { IsBy crew.workers result }
+    ensures judged { IsJudged P.makes P.refuses (texts words.now) (F.files shelf.old) (asked_in (command_of (texts words.now))) result }
 {
-    match command_text(rt, alloc, words, command, shelf, crew, gate) {
+    match command_text(rt, alloc, words, command, shelf, crew, gate, patterns) {
         Ok(Done { text, ended }) => write_ending(out, text.as_slice(), ended),
         Err(stop) => write_stop(alloc, err, stop),
     }

@@ -1,6 +1,7 @@
 //! Calls of the program over files in memory, and what they leave.
 use kql_outside::{MemShelf, MemSink, OpenGate};
 use kql_program::{Ended, kql, status};
+use pattern_ops::LiteralMaker;
 use std::alloc::{AllocError, Global};
 use std::str;
 use std::thread::Threads;
@@ -108,7 +109,8 @@ pub(crate) fn call_over(
     out: &mut MemSink,
     err: &mut MemSink,
 ) -> Result<Left, AllocError> {
-    let ended = kql(rt, alloc, words, shelf, out, err, &OpenGate);
+    let mut patterns = LiteralMaker::new(alloc, Vec::new(alloc));
+    let ended = kql(rt, alloc, words, shelf, out, err, &OpenGate, &mut patterns);
     let left = left_in(&ended, alloc, out, err);
     drop(ended);
     left

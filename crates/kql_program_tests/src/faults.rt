@@ -1,7 +1,8 @@
 //! Calls of the outside that fail, and files and sinks in memory.
 use crate::calls::{NUMBERS, QUERY, call, files, name_of, no_faults, words_of};
 use kql_outside::{CleanShelf, CleanSink, MemShelf, MemSink, OpenGate, Shelf};
-use kql_program::{kql, kql_in_memory};
+use kql_program::{Ended, kql, kql_in_memory};
+use pattern_ops::LiteralMaker;
 use std::alloc::{AllocError, Global};
 use std::process::Abort;
 use std::test::Fail;
@@ -14,8 +15,16 @@ fn answers_in_memory(rt: HostRuntime) -> Result<(), Fail> {
     let mut out = CleanSink::new(alloc, 4, 4096)?;
     let mut err = CleanSink::new(alloc, 4, 4096)?;
     let words = words_of(alloc, "run q T=t")?;
+    let mut patterns = LiteralMaker::new(alloc, Vec::new(alloc));
     let ended = kql_in_memory(
-        &rt, alloc, &words, &mut shelf, &mut out, &mut err, &OpenGate,
+        &rt,
+        alloc,
+        &words,
+        &mut shelf,
+        &mut out,
+        &mut err,
+        &OpenGate,
+        &mut patterns,
     );
     assert_eq!(rt; name_of(&ended), "Table");
     assert_eq!(rt; out.bytes(), b"x\n5\n5\n".as_slice());
@@ -72,6 +81,52 @@ fn ends_as_the_command(rt: HostRuntime) -> Result<(), Fail> {
     Ok(())
 }
 
+// How a query of two patterns ends whose maker refuses the one of this number, and the line for errors.
+fn ended_by_maker(
+    rt: &(impl Threads + Sync),
+    alloc: Global,
+    refused: u64,
+) -> Result<(Ended, String), AllocError> {
+    let mut failing = Vec::new(alloc);
+    failing.push(refused)?;
+    let mut patterns = LiteralMaker::new(alloc, failing);
+    let query = r#"T | where s matches regex "(" | extend n = extract("b", 0, s)"#;
+    let mut shelf = CleanShelf::new(files(alloc, query, b"s\na(b\nab\n")?);
+    let mut out = CleanSink::new(alloc, 4096, 4096)?;
+    let mut err = CleanSink::new(alloc, 4096, 4096)?;
+    let words = words_of(alloc, "run q T=t")?;
+    let ended = kql_in_memory(
+        rt,
+        alloc,
+        &words,
+        &mut shelf,
+        &mut out,
+        &mut err,
+        &OpenGate,
+        &mut patterns,
+    );
+    let mut written = String::from_utf8_lossy(alloc, out.bytes())?;
+    let line = String::from_utf8_lossy(alloc, err.bytes())?;
+    written.push_str(line.as_str())?;
+    Ok((ended, written))
+}
+
+// The maker tells what patterns find, and which it refuses: the literal of that is the place of the refusal.
+#[test]
+fn asks_the_maker(rt: HostRuntime) -> Result<(), Fail> {
+    let alloc = rt.alloc();
+    let (ended, written) = ended_by_maker(&rt, alloc, 0)?;
+    assert_eq!(rt; name_of(&ended), "QueryRefused");
+    assert_eq!(rt; written.as_str(), "kql: 1:27: 501 BadPattern\n");
+    let (ended, written) = ended_by_maker(&rt, alloc, 1)?;
+    assert_eq!(rt; name_of(&ended), "QueryRefused");
+    assert_eq!(rt; written.as_str(), "kql: 1:52: 501 BadPattern\n");
+    let (ended, written) = ended_by_maker(&rt, alloc, 2)?;
+    assert_eq!(rt; name_of(&ended), "Table");
+    assert_eq!(rt; written.as_str(), "s,n\na(b,b\n");
+    Ok(())
+}
+
 // An output with room for four bytes.
 #[test]
 fn fills_an_output(rt: HostRuntime) -> Result<(), Fail> {
@@ -80,8 +135,16 @@ fn fills_an_output(rt: HostRuntime) -> Result<(), Fail> {
     let mut out = CleanSink::new(alloc, 10, 4)?;
     let mut err = CleanSink::new(alloc, 10, 4096)?;
     let words = words_of(alloc, "run q")?;
+    let mut patterns = LiteralMaker::new(alloc, Vec::new(alloc));
     let ended = kql_in_memory(
-        &rt, alloc, &words, &mut shelf, &mut out, &mut err, &OpenGate,
+        &rt,
+        alloc,
+        &words,
+        &mut shelf,
+        &mut out,
+        &mut err,
+        &OpenGate,
+        &mut patterns,
     );
     assert_eq!(rt; name_of(&ended), "WriteFault");
     assert_eq!(rt; out.bytes(), b"a,b,".as_slice());
@@ -217,7 +280,17 @@ fn ending_and_next(
     let mut shelf = MemShelf::new(files(alloc, query, NUMBERS.as_bytes())?, failing);
     let mut out = MemSink::new(alloc, 4096, 4096, out)?;
     let mut err = MemSink::new(alloc, 4096, 4096, err)?;
-    let ended = kql(rt, alloc, &words, &mut shelf, &mut out, &mut err, &OpenGate);
+    let mut patterns = LiteralMaker::new(alloc, Vec::new(alloc));
+    let ended = kql(
+        rt,
+        alloc,
+        &words,
+        &mut shelf,
+        &mut out,
+        &mut err,
+        &OpenGate,
+        &mut patterns,
+    );
     let name = name_of(&ended);
     drop(ended);
     Ok((name, shelf.start("q").is_err()))

@@ -2,6 +2,7 @@
 use crate::calls::{file, files, name_of, words_of};
 use kql_outside::{Gate, HoldGate, MemShelf, MemSink, OpenGate};
 use kql_program::{Ended, PhaseReport, Report, Sizes, kql, kql_in_pieces};
+use pattern_ops::LiteralMaker;
 use std::alloc::{AllocError, Global};
 use std::test::Fail;
 use std::thread::Threads;
@@ -54,8 +55,17 @@ fn output_of(
     let sizes = Sizes {
         piece_rows: piece_rows.max(1),
     };
+    let mut patterns = LiteralMaker::new(alloc, Vec::new(alloc));
     let ended = kql_in_pieces(
-        rt, alloc, &words, &mut shelf, &mut out, &mut err, &OpenGate, sizes,
+        rt,
+        alloc,
+        &words,
+        &mut shelf,
+        &mut out,
+        &mut err,
+        &OpenGate,
+        &mut patterns,
+        sizes,
     );
     drop(ended);
     Ok(out)
@@ -129,7 +139,17 @@ fn ended_behind<G: Gate + Sync>(
     let mut shelf = MemShelf::new(given, Vec::new(alloc));
     let mut out = MemSink::new(alloc, 4096, 1_048_576, Vec::new(alloc))?;
     let mut err = MemSink::new(alloc, 4096, 1_048_576, Vec::new(alloc))?;
-    Ok(kql(rt, alloc, &words, &mut shelf, &mut out, &mut err, gate))
+    let mut patterns = LiteralMaker::new(alloc, Vec::new(alloc));
+    Ok(kql(
+        rt,
+        alloc,
+        &words,
+        &mut shelf,
+        &mut out,
+        &mut err,
+        gate,
+        &mut patterns,
+    ))
 }
 
 // Whether a report is that of one phase of three pieces by so many workers.

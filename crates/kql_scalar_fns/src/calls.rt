@@ -2,7 +2,7 @@ ghost use Rattle.std.specs.Prelude.{◌≡◌, IfOk, IfSome, List, map};
 ghost use Rattle.kql_cells.specs.Seen.{seen};
 ghost use Rattle.kql_cells.specs.Values.{IsOfKind, IsWellFormed};
 ghost use Rattle.kql_cells.specs.declared.value.Kind.{Kind};
-ghost use Rattle.kql_scalar_fns.specs.Applied.{applied};
+ghost use Rattle.kql_scalar_fns.specs.Applied.{applied, untold};
 ghost use Rattle.kql_scalar_fns.specs.Arguments.{AreWellFormed};
 ghost use Rattle.kql_functions.specs.Kinds.{AreOfKinds, result_kind};
 
@@ -15,14 +15,15 @@ use crate::logic::apply_logic;
 use crate::search::apply_search;
 use crate::text::apply_text;
 use crate::time::apply_time;
-use kql_cells::{CellRef, Value};
+use kql_cells::{CellRef, KText, Value};
 use kql_functions::Func;
 use std::alloc::{AllocError, Global};
 
 /// What a function or operator gives for these arguments, which are lent: no text of theirs is copied to be read.
 ///
 /// It is null in each undefined case, also where `result_kind` has no row for the types of the arguments. `now` and
-/// `ago` have no moment here and give null.
+/// `ago` have no moment here and give null. A call of a pattern has no made pattern here: `matches regex` gives null,
+/// `extract` the empty text.
 pub fn apply_cells(alloc: Global, f: Func, args: &[CellRef<'_>]) -> Result<Value, AllocError>
     requires { AreWellFormed (map seen args.now) }
     ensures value { IfOk result (λ v. v ≡ applied f (map seen args.now)) }
@@ -73,5 +74,17 @@ fn dispatch(alloc: Global, f: Func, args: &[CellRef<'_>]) -> Result<Value, Alloc
         Func::Text(f) => apply_text(alloc, f, args),
         Func::Time(f) => Ok(apply_time(f, args)),
         Func::Dynamic(f) => apply_dynamic(alloc, f, args),
+        Func::Pattern(f) => Ok(untold(alloc, f.group)),
+    }
+}
+
+// What a call of a pattern gives without the made pattern.
+fn untold(alloc: Global, group: Option<u32>) -> Value
+    ensures value { result ≡ untold group }
+    ensures form { IsWellFormed result }
+{
+    match group {
+        Some(_) => Value::Text(KText::new(alloc)),
+        None => Value::Null,
     }
 }

@@ -6,6 +6,7 @@ use Rattle.kql_syntax.specs.declared.class.Class.{Class}
 use Rattle.kql_syntax.specs.declared.class.Class.TheVariants as class
 use Rattle.kql_syntax.specs.declared.tree.Word.{Word}
 use Rattle.kql_syntax.specs.declared.tree.CompareSign.{CompareSign}
+use Rattle.kql_syntax.specs.declared.tree.CompareOp.TheVariants as compare
 use Rattle.kql_syntax.specs.declared.tree.InSign.{InSign}
 use Rattle.kql_syntax.specs.declared.tree.BetweenSign.{BetweenSign}
 use Rattle.kql_syntax.specs.declared.tree.SumSign.{SumSign}
@@ -122,6 +123,16 @@ comparison = makes compare_sign (token comparisons)
 
 abbrev pub compares : Form (Sum → Cmp)
 compares = makes (λ p a. cmp.Compared a p.0 p.1) (pair comparison (level Level.Sum))
+
+-- `regex` and what is searched for, behind a `matches`
+abbrev pub regex_sum : Form Sum
+regex_sum = after (class.Key word.Regex ∷ []) (level Level.Sum)
+
+abbrev pub matches_sign : Place → CompareSign
+matches_sign p = record { place = p; op = compare.MatchesRegex }
+
+abbrev pub searches : Form (Sum → Cmp)
+searches = makes (λ p a. cmp.Compared a (matches_sign p.0) p.1) (pair (mark (class.Key word.Matches ∷ [])) regex_sum)
 
 abbrev pub membership : Form InSign
 membership = makes in_sign (token memberships)
@@ -384,7 +395,7 @@ table_op =
 abbrev pub body : (l : Level) → Form (Tree l)
 body Level.Expr = makes (λ p. roll-Expr (record { first = p.0; more = p.1 })) (pair (level Level.And) (many or_more))
 body Level.And = makes (λ p. roll-And (record { first = p.0; more = p.1 })) (pair (level Level.Cmp) (many and_more))
-body Level.Cmp = makes (λ p. compared p.0 p.1) (pair (level Level.Sum) (option (either compares (either within_list within_bounds))))
+body Level.Cmp = makes (λ p. compared p.0 p.1) (pair (level Level.Sum) (option (either compares (either searches (either within_list within_bounds)))))
 body Level.Sum = makes (λ p. roll-Sum (record { first = p.0; more = p.1 })) (pair (level Level.Prod) (many sum_more))
 body Level.Prod = makes (λ p. roll-Prod (record { first = p.0; more = p.1 })) (pair (level Level.Sign) (many prod_more))
 body Level.Sign =

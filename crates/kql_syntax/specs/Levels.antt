@@ -108,7 +108,7 @@ abbrev pub after_sum : List Class
 after_sum = class.Plus ∷ class.Minus ∷ after_prod
 
 abbrev pub after_cmp : List Class
-after_cmp = class.ExprSign ∷ class.CompareWord ∷ class.Negated ∷ []
+after_cmp = class.ExprSign ∷ class.CompareWord ∷ class.Negated ∷ class.Key word.Matches ∷ []
 
 abbrev pub after_expr : List Class
 after_expr = class.Key word.Or ∷ class.Key word.And ∷ after_cmp

@@ -11,7 +11,7 @@ ghost use Rattle.kql_syntax.specs.Leaves.{word_of};
 ghost use Rattle.kql_syntax.specs.Levels.{Level, comparisons, memberships, betweens};
 ghost use Rattle.kql_syntax.specs.Forms.{token, level, many, makes, mark};
 ghost use Rattle.kql_syntax.specs.Derives.{Found, Missing};
-ghost use Rattle.kql_syntax.specs.Grammar.{or_more, and_more, sum_more, prod_more, comparison, membership, betweenness, plus_or_minus, times_or_over, low_sum, two_sums, bounds, arguments, commas, round, string};
+ghost use Rattle.kql_syntax.specs.Grammar.{or_more, and_more, sum_more, prod_more, comparison, membership, betweenness, plus_or_minus, times_or_over, low_sum, two_sums, bounds, regex_sum, arguments, commas, round, string};
 ghost use Rattle.kql_syntax.specs.Reading.{Reads};
 
 use crate::class::{Class, has};
@@ -19,8 +19,8 @@ use crate::leaf::{
     between_sign, compare_sign, in_sign, literal_of, prod_sign, sum_sign, text_in, word_of,
 };
 use crate::tree::{
-    Access, And, Arg, BetweenSign, Cmp, CompareSign, Expr, InSign, Name, Post, Prod, ProdSign,
-    Sign, Sum, SumSign, Term, Word,
+    Access, And, Arg, BetweenSign, Cmp, CompareOp, CompareSign, Expr, InSign, Name, Post, Prod,
+    ProdSign, Sign, Sum, SumSign, Term, Word,
 };
 use kql_cells::KText;
 use kql_items::{Boxed, Items};
@@ -302,6 +302,19 @@ fn cmp(alloc: Global, ts: &[Token], at: usize) -> Result<(Cmp, usize), Fault>
             }
         };
     }
+    if let Some(place) = take(ts, start, &[Class::Key(Keyword::Matches)]) {
+        let op = CompareOp::MatchesRegex;
+        return match regex_sum(alloc, ts, start + 1) {
+            Ok((pattern, end)) => Ok((
+                Cmp::Compared(left, CompareSign { place, op }, pattern),
+                end,
+            )),
+            Err(fault) => {
+                drop(left);
+                Err(fault)
+            }
+        };
+    }
     if let Some(sign) = membership(ts, start) {
         return match round_exprs(alloc, ts, start + 1) {
             Ok((list, end)) => Ok((Cmp::In(left, sign, list), end)),
@@ -321,6 +334,18 @@ fn cmp(alloc: Global, ts: &[Token], at: usize) -> Result<(Cmp, usize), Fault>
         };
     }
     Ok((Cmp::Plain(left), start))
+}
+
+/// Reads `regex` and a sum.
+#[cycle(read)]
+fn regex_sum(alloc: Global, ts: &[Token], at: usize) -> Result<(Boxed<Sum>, usize), Fault>
+    requires { at ≤ length ts.now }
+    ensures within { IfOk result (λ r. (at < r.1) × (r.1 ≤ length ts.now)) }
+    ensures read { Reads regex_sum ts.now at result }
+{
+    let (_regex, start) = expect(ts, at, &[Class::Key(Keyword::Regex)])?;
+    let (pattern, end) = boxed_sum(alloc, ts, start)?;
+    Ok((pattern, end))
 }
 
 /// Reads a list of expressions in brackets.

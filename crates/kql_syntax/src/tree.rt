@@ -162,6 +162,8 @@ pub enum CompareOp {
     NotEndswithCs,
     NotHas,
     NotHasCs,
+    /// `matches regex`, at the place of `matches`.
+    MatchesRegex,
 }
 
 /// `in`, `in~`, `!in` or `!in~` with its place; that of a negated word is its `!`.

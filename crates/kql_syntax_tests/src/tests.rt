@@ -173,6 +173,11 @@ fn refusals(rt: HostRuntime) {
         ("f ( * + a )", 4),
         ("( a ]", 3),
         ("a between ( b == c .. d )", 5),
+        ("a matches", 3),
+        ("a matches b", 3),
+        ("a matches regex", 4),
+        ("a matches regex ( 'b", 6),
+        ("matches regex 'b", 1),
     ];
     for (text, column) in rows {
         assert_eq!(rt; end_of(rt.alloc(), text), (201, column), "at {text}");
@@ -185,7 +190,11 @@ fn ends(rt: HostRuntime) {
         ("a b", 1),
         ("a = b", 1),
         ("a == b == c", 3),
-        ("a matches b", 1),
+        ("a matches regex 'b", 4),
+        ("regex matches regex regex", 4),
+        ("a matches regex b + c and d", 8),
+        ("a matches regex 'b matches regex 'c", 4),
+        ("a !matches regex 'b", 1),
         ("true ( )", 1),
         ("f ( a ) ( b )", 4),
         ("( a or b ) [ #1 ] )", 8),

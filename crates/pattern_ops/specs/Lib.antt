@@ -1,3 +1,4 @@
 pub mod Answers
 pub mod Makers
 pub mod Ranges
+pub mod Refused

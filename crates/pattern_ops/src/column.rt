@@ -22,15 +22,15 @@ pub fn answers_by<S: Search>(
     ensures values { IfOk result (AreAnswers (S.finds search.old) group (slice_range cells.now from to)) }
     ensures fits { IfOk result (FitAnswers group (slice_range cells.now from to)) }
 {
-    let mut answers = Vector::new(alloc, kind_of(group));
+    let mut answers = Vector::new(alloc, answer_kind(group));
     for i in from..to {
         answers.push_cell(answer(search, text_of(cells.cell(i)), group))?;
     }
     Ok(answers)
 }
 
-// The type of what a call answers.
-fn kind_of(group: Option<u32>) -> Kind
+/// The type of what a call answers.
+pub fn answer_kind(group: Option<u32>) -> Kind
     ensures kind { result ≡ answer_kind group }
 {
     match group {

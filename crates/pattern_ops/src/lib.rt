@@ -7,7 +7,7 @@ mod literal_maker;
 mod pattern;
 mod regex_maker;
 
-pub use column::answers_by;
+pub use column::{answer_kind, answers_by};
 pub use laws::law_of_ranges;
 pub use literal_maker::{LiteralMaker, LiteralPattern};
 pub use pattern::{MakeFault, Pattern, PatternMaker};

@@ -17,9 +17,7 @@ pub struct LiteralPattern {
 }
 
 impl Pattern for LiteralPattern {
-    ghost use Rattle.std.specs.Prelude.{Some};
-
-    ghost finds = { λ p. Some (literal_found p.text) };
+    ghost finds = { λ p. literal_found p.text };
 
     fn answers(
         &self,
@@ -80,11 +78,13 @@ impl LiteralMaker {
 impl PatternMaker for LiteralMaker {
     type Made = LiteralPattern;
 
-    ghost use Rattle.std.specs.Prelude.{Some};
-
-    ghost found = { λ _. Some literal_found };
+    ghost found = { λ _. literal_found };
 
     ghost faults = { λ m. m.faults };
+
+    ghost makes = { λ _. Unit {0} };
+
+    ghost refuses = { λ _. Unit {0} };
 
     fn make(&mut self, text: &str) -> Result<LiteralPattern, MakeFault>
         ensures counted { self.new ≡ record self.old {

@@ -1,6 +1,8 @@
-ghost use Rattle.std.specs.Prelude.{◌≡◌, IfOk};
+ghost use Rattle.std.specs.Prelude.{◌≡◌, ◌≢◌, Err, IfOk, IsSomeAnd, None};
 ghost use Rattle.pattern_search.specs.Regexes.{IsExpression, regex_found};
 ghost use Rattle.pattern_ops.specs.Makers.{count_after};
+ghost use Rattle.pattern_ops.specs.Refused.{IsFault, IsRefusedExpression};
+ghost use Rattle.pattern_ops.specs.declared.pattern.MakeFault.TheVariants.{Failed};
 
 use crate::column::answers_by;
 use crate::pattern::{MakeFault, Pattern, PatternMaker};
@@ -11,9 +13,7 @@ use std::alloc::{AllocError, Global};
 use std::marker::Model;
 
 impl Pattern for RegexPattern {
-    ghost use Rattle.std.specs.Prelude.{Some};
-
-    ghost finds = { λ p. Some (regex_found p) };
+    ghost finds = { λ p. regex_found p };
 
     fn answers(
         &self,
@@ -29,7 +29,7 @@ impl Pattern for RegexPattern {
 }
 
 /// Makes regular expressions, by the syntax of the crate `regex` and its default options. Contracts see it as its
-/// count of faults.
+/// count of faults and what was said against the last text that it refused.
 #[derive(Drop)]
 pub struct RegexMaker {
     alloc: Global,
@@ -38,16 +38,16 @@ pub struct RegexMaker {
 }
 
 impl Model for RegexMaker {
-    ghost use Rattle.std.specs.Prelude.{ℕ};
+    ghost use Rattle.pattern_ops.specs.Refused.{RegexMakerState};
 
-    ghost Value = { ℕ };
+    ghost Value = { RegexMakerState };
 
-    ghost view = { λ m. m.faults };
+    ghost view = { λ m. record { faults = m.faults; last = m.last } };
 }
 
 impl RegexMaker {
     pub fn new(alloc: Global) -> RegexMaker
-        ensures none { result ≡ 0 }
+        ensures none { result ≡ record { faults = 0; last = None } }
     {
         RegexMaker {
             alloc,
@@ -57,7 +57,9 @@ impl RegexMaker {
     }
 
     /// What `regex` said against the last text that was refused, to be shown to people.
-    pub fn last_error(&self) -> Option<Error> {
+    pub fn last_error(&self) -> Option<Error>
+        ensures last { result ≡ self.now.last }
+    {
         self.last
     }
 }
@@ -65,16 +67,20 @@ impl RegexMaker {
 impl PatternMaker for RegexMaker {
     type Made = RegexPattern;
 
-    ghost use Rattle.std.specs.Prelude.{Some};
+    ghost found = { λ _. regex_found };
 
-    ghost found = { λ _. Some regex_found };
+    ghost faults = { λ m. m.faults };
 
-    ghost faults = { λ m. m };
+    ghost makes = { IsExpression };
+
+    ghost refuses = { IsRefusedExpression };
 
     fn make(&mut self, text: &str) -> Result<RegexPattern, MakeFault>
-        ensures counted { self.new ≡ count_after result self.old }
+        ensures counted { self.new.faults ≡ count_after result self.old.faults }
         ensures pattern { IfOk result (λ p. p ≡ text.now) }
         ensures expression { IfOk result (λ _. IsExpression text.now) }
+        ensures told { result ≡ Err Failed → IsSomeAnd self.new.last (IsFault text.now) }
+        ensures kept { result ≢ Err Failed → self.new.last ≡ self.old.last }
     {
         match RegexPattern::new(self.alloc, text) {
             Ok(pattern) => Ok(pattern),

@@ -1,4 +1,5 @@
 ghost use Rattle.std.specs.Prelude.{◌≡◌, ◌<◌, ◌≤◌, None, length, option_map, is_some, IfErr, IfOk, IfSome};
+ghost use Rattle.pattern_search.specs.Failures.{IsOfGrammar};
 ghost use Rattle.regex.specs.Strings.{match_span, match_haystack, captures_names, captures_span, captures_haystack, IsDefaultFailure};
 ghost use Rattle.pattern_search.specs.Found.{group_in, IsSpanOf};
 ghost use Rattle.pattern_search.specs.Regexes.{IsExpression, regex_found, span_of};
@@ -35,6 +36,7 @@ impl RegexPattern {
         ensures pattern { IfOk result (λ p. p ≡ text.now) }
         ensures expression { IfOk result (λ _. IsExpression text.now) }
         ensures refused { IfErr result (IsDefaultFailure text.now) }
+        ensures grammar { IfErr result (IsOfGrammar text.now) }
     {
         match Regex::new(alloc, text) {
             Ok(regex) => Ok(RegexPattern { regex }),

@@ -31,7 +31,7 @@ use Rattle.kql_meaning.proofs.RowByRowLaws.{alone, cells-alone, results-plain, r
 use Rattle.kql_meaning.proofs.ValueLaws.{val-Column}
 use Rattle.kql_fit_laws.proofs.RowFacts.{column-found, columns-some, different, names-pairwise, pairwise-names, place-below, row-fits}
 use Rattle.kql_fit_laws.specs.LawsOfRows.{IsTable}
-use Rattle.plan_rules.proofs.NamedCells.{cell-named, named}
+use Rattle.kql_meaning.proofs.NamedCells.{cell-named, named}
 use Rattle.plan_rules.proofs.PushProject.{column-is}
 use Rattle.plan_rules.proofs.RuleViews.{one-along, project-is, when-some}
 use Rattle.plan_rules.proofs.ShortRules.{project-means}

@@ -16,7 +16,6 @@ pub mod FoldingLaws
 pub mod IdleProjection
 pub mod LargerPlans
 pub mod MergeFilters
-pub mod NamedCells
 pub mod Programs
 pub mod PushExpand
 pub mod PushExtend

@@ -31,7 +31,7 @@ use Rattle.kql_meaning.proofs.PartRowLaws.{expand-of-each, rows_of_row}
 use Rattle.kql_meaning.proofs.PlainFitLaws.{plain_where_fits}
 use Rattle.kql_meaning.proofs.RowByRowLaws.{alone, passes}
 use Rattle.kql_fit_laws.proofs.RowFacts.{answer-some}
-use Rattle.plan_rules.proofs.NamedCells.{cell-named, has-cons, has-none, kind-cons, named, named-absent}
+use Rattle.kql_meaning.proofs.NamedCells.{cell-named, has-cons, has-none, kind-cons, named, named-absent}
 use Rattle.plan_rules.proofs.ReadFits.{SameColumns, fits-as-alike}
 use Rattle.plan_rules.proofs.ReadValues.{id_names, plain-of, same-names, val-agrees}
 use Rattle.plan_rules.proofs.ReplacedColumns.{chosen, front-same, not-among}

@@ -24,7 +24,7 @@ use Rattle.kql_meaning.specs.Where.{where_table}
 use Rattle.kql_meaning.proofs.MemberLaws.{Member}
 use Rattle.kql_meaning.proofs.OperatorFitLaws.{op-Extend, op-Take, op-Where}
 use Rattle.kql_fit_laws.proofs.RowFacts.{columns-some}
-use Rattle.plan_rules.proofs.NamedCells.{items-not}
+use Rattle.kql_meaning.proofs.NamedCells.{items-not}
 use Rattle.plan_rules.proofs.ReadFits.{SameColumns, fits-as-alike}
 use Rattle.plan_rules.proofs.ReadValues.{id_names, plain-of, same-names, val-agrees}
 use Rattle.plan_rules.proofs.RowWise.{extend-wise, take-below, where-below}

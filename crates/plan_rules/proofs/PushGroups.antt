@@ -35,7 +35,7 @@ use Rattle.kql_meaning.proofs.PlainFitLaws.{plain_where_fits}
 use Rattle.kql_meaning.proofs.RowByRowLaws.{alone, cell-alone, items-alone, passes, results-plain, where-rows}
 use Rattle.kql_fit_laws.proofs.RowFacts.{answer-some}
 use Rattle.plan_rules.proofs.IdleProjection.{map-members}
-use Rattle.plan_rules.proofs.NamedCells.{cell-named, has-append, has-cons, has-none, kind-append, named}
+use Rattle.kql_meaning.proofs.NamedCells.{cell-named, has-append, has-cons, has-none, kind-append, named}
 use Rattle.plan_rules.proofs.PushProject.{Inner, inner-item, item-columns, one-name, some-inner}
 use Rattle.plan_rules.proofs.PushRight.{filter-swap}
 use Rattle.plan_rules.proofs.ReadFits.{SameColumns, fits-as-alike}

@@ -26,7 +26,7 @@ use Rattle.kql_fit_laws.proofs.RowFacts.{columns-some}
 use Rattle.kql_fit_laws.specs.LawsOfOperators.{EachPlanKeeps}
 use Rattle.kql_fit_laws.specs.LawsOfRows.{IsTableOf}
 use Rattle.plan_rules.proofs.Context.{columns-append}
-use Rattle.plan_rules.proofs.NamedCells.{has-append, has-cons, has-none, kind-append, kind-cons}
+use Rattle.kql_meaning.proofs.NamedCells.{has-append, has-cons, has-none, kind-append, kind-cons}
 use Rattle.plan_rules.proofs.PushExtend.{kept-if, made-some}
 use Rattle.plan_rules.proofs.PushRight.{not-false, own, right_alone_names}
 use Rattle.plan_rules.proofs.PushJoin.{outside-some}

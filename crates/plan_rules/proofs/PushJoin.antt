@@ -29,7 +29,7 @@ use Rattle.kql_meaning.proofs.MemberLaws.{Member, member-of-map}
 use Rattle.kql_meaning.proofs.OperatorFitLaws.{join-out, op-Where}
 use Rattle.kql_fit_laws.proofs.RowFacts.{columns-some, of-all}
 use Rattle.kql_fit_laws.specs.LawsOfRows.{IsTable}
-use Rattle.plan_rules.proofs.NamedCells.{cell-named, has-append, kind-append, named-append}
+use Rattle.kql_meaning.proofs.NamedCells.{cell-named, has-append, kind-append, named-append}
 use Rattle.plan_rules.proofs.PushExtend.{kept-if, made-some}
 use Rattle.plan_rules.proofs.ReadFits.{SameColumns, fits-as-alike}
 use Rattle.plan_rules.proofs.ReadValues.{id_names, plain-of, same-names, val-agrees}

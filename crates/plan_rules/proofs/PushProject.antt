@@ -34,7 +34,7 @@ use Rattle.kql_meaning.proofs.ValueLaws.{val-Column}
 use Rattle.kql_meaning.proofs.ExpressionFitLaws.{fits-Column}
 use Rattle.kql_meaning.proofs.OperatorFitLaws.{op-Project, op-Where}
 use Rattle.kql_fit_laws.proofs.RowFacts.{answer-some, columns-some}
-use Rattle.plan_rules.proofs.NamedCells.{cell-named, has-cons, has-none, kind-cons, named}
+use Rattle.kql_meaning.proofs.NamedCells.{cell-named, has-cons, has-none, kind-cons, named}
 use Rattle.plan_rules.proofs.PushExtend.{kept-if}
 use Rattle.plan_rules.proofs.ReadFits.{SameColumns, fits-as-alike}
 use Rattle.kql_meaning.proofs.PlainLaws.{plain-Aggregate}

@@ -18,7 +18,7 @@ use Rattle.kql_meaning.specs.Where.{where_table}
 use Rattle.kql_meaning.proofs.MemberLaws.{Member}
 use Rattle.kql_fit_laws.proofs.RowFacts.{place-below, row-fits}
 use Rattle.kql_fit_laws.specs.LawsOfRows.{IsTable}
-use Rattle.plan_rules.proofs.NamedCells.{cell-named, has-cons, has-none, named}
+use Rattle.kql_meaning.proofs.NamedCells.{cell-named, has-cons, has-none, named}
 use Rattle.plan_rules.proofs.ReadValues.{agrees}
 use Rattle.plan_rules.proofs.RowWise.{filter-map, filter-same}
 use Rattle.plan_rules.specs.OwnNames.{own_name}

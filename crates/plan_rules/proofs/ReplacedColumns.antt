@@ -8,7 +8,7 @@ use Rattle.kql_meaning.specs.Expressions.{column_kind}
 use Rattle.kql_meaning.specs.Items.{cells_in, without}
 use Rattle.kql_meaning.specs.Tables.{cell, has_column, is_name_among}
 use Rattle.kql_meaning.proofs.RowByRowLaws.{alone}
-use Rattle.plan_rules.proofs.NamedCells.{cell-named, has-append, kind-append, named, named-absent, named-made, without-alike}
+use Rattle.kql_meaning.proofs.NamedCells.{cell-named, has-append, kind-append, named, named-absent, named-made, without-alike}
 
 pub not-among : (names : List (List ℕ)) (n : List ℕ) → not (is_name_among names n) ≡ true → is_name_among names n ≡ false
 not-among names n h = elim (cases_Bool (is_name_among names n)) [

@@ -37,7 +37,7 @@ use Rattle.kql_meaning.proofs.RowByRowLaws.{cell-alone, results-plain}
 use Rattle.kql_meaning.proofs.ValueLaws.{val-Column}
 use Rattle.kql_fit_laws.proofs.RowFacts.{answer-some, place-below}
 use Rattle.plan_rules.proofs.IdleProjection.{map-members}
-use Rattle.plan_rules.proofs.NamedCells.{cell-named, kind-cons, named}
+use Rattle.kql_meaning.proofs.NamedCells.{cell-named, kind-cons, named}
 use Rattle.plan_rules.proofs.PushProject.{column-is, one-long}
 use Rattle.plan_rules.proofs.RuleViews.{both-some, pair-along, pair-becomes, project-is}
 use Rattle.plan_rules.proofs.ShortRules.{project-means}

@@ -9,7 +9,7 @@ use Rattle.kql_bound.specs.declared.parts.JoinPlan.{JoinPlan}
 use Rattle.kql_meaning.specs.Join.{free_name, renamed, shown_columns}
 use Rattle.kql_meaning.specs.RowByRow.{is_plain}
 use Rattle.kql_meaning.specs.Tables.{has_column, names_of}
-use Rattle.plan_rules.proofs.NamedCells.{has-cons, has-none}
+use Rattle.kql_meaning.proofs.NamedCells.{has-cons, has-none}
 use Rattle.plan_rules.specs.OwnNames.{own_name}
 use Rattle.plan_rules.specs.Reads.{reads_only, with_names}
 use Rattle.plan_rules.specs.Rules.{is_right_name, right_name, shows_right}

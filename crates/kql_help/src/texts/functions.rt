@@ -9,6 +9,7 @@ The functions of the language; kql help has each, as kql help strlen, and each l
                    !between d.n d[i]
     searches       contains, startswith, endswith, has; with _cs by case; with !
                    turned round
+    patterns       matches regex, extract: regular expressions
     nulls          not isnull isnotnull isempty isnotempty iff case coalesce
                    min_of max_of
     numbers        abs sign bin floor bin_at binary_and binary_or binary_xor

@@ -221,6 +221,32 @@ The operator gives a result without columns.
 Keep a column.
 ";
 
+pub(crate) const PATTERN_HERE: &str = "\
+420 PatternHere
+
+A pattern call, matches regex or extract, may not stand here, or not as it is. It
+stands in the where and extend that directly follow the name of a file's table.
+Its pattern is a text in quotes, its group a number from 0 on, and its column a
+string column of that table which no extend before it sets. 256 stand in a query.
+
+    T | take 1 | where s matches regex \"a\"    at matches
+    T | where x matches regex \"a\"             at matches
+    T | extend y = extract(\"a\", -1, s)        at extract
+
+Move it in front; kql live takes none. kql help patterns has more.
+";
+
+pub(crate) const BAD_PATTERN: &str = "\
+501 BadPattern
+
+The pattern is no regular expression, or one that is too large.
+
+    T | where s matches regex \"(\"             at \"(\"
+
+A terminal is told what is wrong. A backslash is written twice in \"..\", and once
+in @\"..\"; there is no look-around and no \\1.
+";
+
 pub(crate) const NOT_A_VIEW: &str = "\
 421 NotAView
 
@@ -312,7 +338,15 @@ pub(crate) const TOPICS: &[Topic] = &[
         text: NO_COLUMNS,
     },
     Topic {
+        names: &["420"],
+        text: PATTERN_HERE,
+    },
+    Topic {
         names: &["421"],
         text: NOT_A_VIEW,
+    },
+    Topic {
+        names: &["501"],
+        text: BAD_PATTERN,
     },
 ];

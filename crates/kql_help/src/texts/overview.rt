@@ -13,9 +13,9 @@ kql help TOPIC tells of one of these; kql --help has the words of the command.
                  project-rename, take, limit, count, sort, order, top, distinct,
                  summarize, make-series, mv-expand, parse, join, lookup, union,
                  serialize, scan, partition
-    Values:      functions names them all, and of them operators, searches, nulls,
-                 numbers, conversions, strings, datetimes, dynamic, window and
-                 aggregates
+    Values:      functions names them all, and of them operators, searches,
+                 patterns, nulls, numbers, conversions, strings, datetimes, dynamic,
+                 window and aggregates
     Files:       tables, catalogue
     Refusals:    codes names them all, and each code, as kql help 404
 ";
@@ -44,7 +44,8 @@ Refusals, told in one line on standard error; kql help CODE has each
     410 UnknownTable         411 ColumnTwice          412 TooManyColumns
     413 BadStep              414 BadRange             415 TypeClash
     416 NotInPartition       417 NameTwice            418 BadLiteral
-    419 NoColumns            421 NotAView
+    419 NoColumns            420 PatternHere          421 NotAView
+    501 BadPattern
     601 NoCommand            602 UnknownCommand       603 UnknownOption
     604 OptionTwice          605 OptionValue          606 NoQuery
     607 BadTable             608 TableTwice           609 BadCount

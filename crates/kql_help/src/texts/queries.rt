@@ -188,7 +188,8 @@ What differs from Kusto, and what to write instead
     round, sqrt, pow, exp, log, log10, rand, stdev, stdevif, variance, varianceif,
     hll, tdigest, series_stats   nothing
     makelist, makeset, pack      make_list, make_set, bag_pack
-    matches regex, extract       contains, startswith, has, parse
+    extract(p, n, s, typeof(t))  tolong(x) and the like, of extract(p, n, s) as x
+    extract_all, replace_regex   extract with each group, replace_string
     s has_any (a, b), has_all    s has a or s has b; s has a and s has b
     hasprefix, hassuffix         startswith, endswith, contains
     trim, countof                replace_string, array_length(split(..)) - 1
@@ -339,9 +340,8 @@ pub(crate) const TOPICS: &[Topic] = &[
             "makelist",
             "makeset",
             "pack",
-            "matches",
-            "regex",
-            "extract",
+            "extract_all",
+            "replace_regex",
             "has_any",
             "has_all",
             "hasprefix",

@@ -62,11 +62,11 @@ it, and leaves its rows as they are.
 pub(crate) const LIMITS: &str = "\
 Limits
 
-A query has at most 262,144 bytes, 65,536 words and signs, 256 operators, and
-brackets 64 deep. A table has 1 to 256 columns, range at most 1,000,000 rows, a
-command at most 64 tables, and their files at most 67,108,864 bytes together, or
-what --limit says, as 2GiB. A file larger than memory is cut into parts first, each
-with the header; no cell may hold a line feed then.
+A query has at most 262,144 bytes, 65,536 words and signs, 256 operators, 256 calls
+of patterns, and brackets 64 deep. A table has 1 to 256 columns, range at most
+1,000,000 rows, a command at most 64 tables, and their files at most 67,108,864
+bytes together, or what --limit says, as 2GiB. A file larger than memory is cut
+into parts first, each with the header; no cell may hold a line feed then.
 
     tail -n +2 Big.csv |
         split -C 60m --filter='(head -n 1 Big.csv; cat) >$FILE.csv' - part.
@@ -129,8 +129,8 @@ Cookbook: recipes by question, each with its query, in docs/COOKBOOK.md
     sessions by gap, before and after a deploy, rate between neighbours,
     failures then a success, gaps of a series, latest per key, allow lists,
     percentiles, percentiles of groups, sliding windows, pivots, share of a total,
-    sums of decimal texts, silent hosts, several files, a gz file,
-    chunks of a large file
+    fields of messages, sums of decimal texts, silent hosts, several files,
+    a gz file, chunks of a large file
 ";
 
 /// The topics of these texts.

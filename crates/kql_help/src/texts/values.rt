@@ -66,6 +66,30 @@ A term is bordered: the characters on the two sides of each border are not both
 ASCII letters or digits, so \"Error42\" has \"error\" is false.
 ";
 
+pub(crate) const PATTERNS: &str = "\
+Patterns are regular expressions, looked for in a string column of a file's table
+
+    s matches regex \"p\"        whether the pattern stands anywhere in s, by case
+    extract(\"p\", n, s)         the text of group n of the first match; 0 is the whole
+                               match. It is the empty text where there is no match,
+                               no such group, or the group took no part.
+
+    T | where s matches regex \"^id=[0-9]+\"
+    T | extend user = extract(\"user=([a-z]+)\", 1, s), n = extract(@\"\\d+\", 0, s)
+
+They stand in the where and extend that directly follow the name of the table, also
+in a let or in brackets: T | where .. | extend .. | summarize ... Behind another
+operator a call is 420; put its answer into a column before it:
+
+    T | extend hit = s matches regex \"ab?c\" | summarize n = countif(hit)
+
+A pattern is a text in quotes, n a number, s a string column of the table itself,
+which no extend before sets. 256 calls stand in a query. The syntax is that of the
+crate regex: . [a-z] \\d \\w \\s \\b ^ $ * + ? {2,5} | ( ) (?: ) (?i) and classes of
+Unicode; no look-around and no \\1. A backslash is written twice in \"..\", and once
+in @\"..\". A pattern that does not read, or is too large, is 501.
+";
+
 pub(crate) const DATETIMES: &str = "\
 Datetimes and timespans, in UTC
 
@@ -186,6 +210,10 @@ pub(crate) const TOPICS: &[Topic] = &[
             "!has_cs",
         ],
         text: SEARCHES,
+    },
+    Topic {
+        names: &["patterns", "matches", "regex", "extract"],
+        text: PATTERNS,
     },
     Topic {
         names: &[

@@ -4,6 +4,7 @@ ghost use Rattle.std.specs.Prelude.{◌<◌};
 use crate::answers::seat::{NamedText, Seat, words_in};
 use kql_outside::{CleanShelf, CleanSink, OpenGate};
 use kql_program::{Sizes, kql_in_pieces, status};
+use pattern_ops::RegexMaker;
 use std::alloc::{AllocError, Global};
 use std::str;
 use std::thread::Threads;
@@ -80,8 +81,17 @@ fn answer_to(
 {
     let mut out = CleanSink::new(alloc, 4096, ROOM)?;
     let mut err = CleanSink::new(alloc, 4096, ROOM)?;
+    let mut patterns = RegexMaker::new(alloc);
     let ended = kql_in_pieces(
-        rt, alloc, words, shelf, &mut out, &mut err, &OpenGate, sizes,
+        rt,
+        alloc,
+        words,
+        shelf,
+        &mut out,
+        &mut err,
+        &OpenGate,
+        &mut patterns,
+        sizes,
     );
     if status(&ended) == 0 {
         shown(alloc, "", out.bytes())

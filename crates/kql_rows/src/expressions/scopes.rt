@@ -182,6 +182,7 @@ pub(crate) fn scope(alloc: Global, at: At) -> Result<Scope, AllocError> {
         steps,
         consts,
         keys,
+        own: Items::new(alloc),
         moment: if matches!(at, At::Timeless) {
             None
         } else {

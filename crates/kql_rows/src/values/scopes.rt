@@ -93,6 +93,7 @@ pub(crate) fn scope(alloc: Global, at: At, schema: &Schema) -> Result<Scope, All
         steps,
         consts: Items::new(alloc),
         keys: Items::new(alloc),
+        own: Items::new(alloc),
         moment: Some(NOW),
     })
 }

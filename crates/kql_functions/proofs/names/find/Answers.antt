@@ -1,4 +1,4 @@
-use Rattle.kql_functions.proofs.NameFacts.{find_aggregate, find_operator, find_refused, find_scalar, find_unknown, find_window}
+use Rattle.kql_functions.proofs.NameFacts.{find_aggregate, find_operator, find_pattern, find_refused, find_scalar, find_unknown, find_window}
 use Rattle.kql_functions.proofs.names.find.Goals as goal
 
 pub returns-clause-scalar : goal.returns-clause-scalar
@@ -12,6 +12,9 @@ returns-clause-aggregate c = find_aggregate _ _ c.find_in_tables.ensures.value
 
 pub returns-clause-refused : goal.returns-clause-refused
 returns-clause-refused c = find_refused _ _ c.find_in_tables.ensures.value
+
+pub returns-clause-pattern : goal.returns-clause-pattern
+returns-clause-pattern c = find_pattern _ _ c.find_in_tables.ensures.value
 
 pub returns-clause-operator : goal.returns-clause-operator
 returns-clause-operator c = find_operator _ _ c.find_in_tables.ensures.value

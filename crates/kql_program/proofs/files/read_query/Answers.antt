@@ -4,6 +4,8 @@ use Rattle.kql_program.proofs.AnswerFacts.{gives-along}
 use Rattle.kql_program.proofs.FileFacts.{query-lexed, query-unread}
 use Rattle.kql_program.proofs.WordFacts.{tokens-words}
 use Rattle.kql_program.proofs.CallFacts.{given-stops, raised-stops}
+use Rattle.kql_program.proofs.LexFacts.{tokens-no_pattern}
+use Rattle.kql_program.proofs.PatternFacts.{gives-pattern}
 use Rattle.kql_program.proofs.files.read_query.Goals as goal
 
 pub returns-in_err-bytes-clause-tokens : goal.returns-in_err-bytes-clause-tokens
@@ -20,3 +22,6 @@ returns-in_err-bytes-clause-stops g c = raised-stops _ _ _ _ c.from_residual.ens
 
 pub returns-clause-stops : goal.returns-clause-stops
 returns-clause-stops g c = given-stops _ _ _ _ c.read_tokens.ensures.tokens c.in_ok-bytes.ensures.stops
+
+pub returns-clause-patterns : goal.returns-clause-patterns
+returns-clause-patterns g c = gives-pattern _ _ (tokens-no_pattern _) c.read_tokens.ensures.tokens

@@ -128,7 +128,7 @@ pub cmp-returns-in_err-left-clause-read : goal.cmp-returns-in_err-left-clause-re
 cmp-returns-in_err-left-clause-read t c = raises _ c.from_residual.ensures.1 c.in_err-left.ensures.read (λ e r. level_refused Level.Cmp (makes_refused (pair_refused r refl)))
 
 pub cmp-returns-clause-read : goal.cmp-returns-clause-read
-cmp-returns-clause-read t c = level_found Level.Cmp (makes_found (pair_found c.in_ok-left.ensures.read (option_none (missing_both c.in_default.ensures.none (missing_both c.in_default-membership.ensures.none c.in_default-betweenness.ensures.none)) refl) refl))
+cmp-returns-clause-read t c = level_found Level.Cmp (makes_found (pair_found c.in_ok-left.ensures.read (option_none (missing_both c.in_default.ensures.none (missing_both c.in_default-take.ensures.none (missing_both c.in_default-membership.ensures.none c.in_default-betweenness.ensures.none))) refl) refl))
 
 pub arguments-returns-in_err-_open-clause-read : goal.arguments-returns-in_err-_open-clause-read
 arguments-returns-in_err-_open-clause-read t c = raises _ c.from_residual.ensures.1 c.in_err-_open.ensures.read (λ e r. makes_refused (after_none r))
@@ -256,17 +256,32 @@ cmp-returns-in-Ok-clause-read t c = level_found Level.Cmp (makes_found (pair_fou
 pub cmp-returns-in-Err-clause-read : goal.cmp-returns-in-Err-clause-read
 cmp-returns-in-Err-clause-read t c = passes (λ e r. level_refused Level.Cmp (makes_refused (pair_refused_late c.in_ok-left.ensures.read (option_refused (refused_after r) (either_refused_left (makes_refused (pair_refused_late c.in-Some.ensures.some r refl)) (found_other c.in-Some.ensures.some refl refl) refl)) refl))) c.in-Err.ensures.read
 
+pub regex_sum-returns-in_err-_regex-clause-read : goal.regex_sum-returns-in_err-_regex-clause-read
+regex_sum-returns-in_err-_regex-clause-read t c = raises _ c.from_residual.ensures.1 c.in_err-_regex.ensures.read (λ e r. after_none r)
+
+pub regex_sum-returns-in_err-pattern-clause-read : goal.regex_sum-returns-in_err-pattern-clause-read
+regex_sum-returns-in_err-pattern-clause-read t c = raises _ c.from_residual-in_err-pattern.ensures.1 c.in_err-pattern.ensures.read (λ e r. after_refused c.in_ok-_regex.ensures.read r)
+
+pub regex_sum-returns-clause-read : goal.regex_sum-returns-clause-read
+regex_sum-returns-clause-read t c = after_found c.in_ok-_regex.ensures.read c.in_ok-pattern.ensures.read
+
+pub cmp-returns-in-Ok-regex_sum-clause-read : goal.cmp-returns-in-Ok-regex_sum-clause-read
+cmp-returns-in-Ok-regex_sum-clause-read t c = level_found Level.Cmp (makes_found (pair_found c.in_ok-left.ensures.read (option_some (either_right (either_left (makes_found (pair_found c.in-Some-take.ensures.some c.in-Ok-regex_sum.ensures.read refl)) (found_other c.in-Some-take.ensures.some refl refl) refl) (found_other c.in-Some-take.ensures.some refl refl) refl) refl) refl))
+
+pub cmp-returns-in-Err-regex_sum-clause-read : goal.cmp-returns-in-Err-regex_sum-clause-read
+cmp-returns-in-Err-regex_sum-clause-read t c = passes (λ e r. level_refused Level.Cmp (makes_refused (pair_refused_late c.in_ok-left.ensures.read (option_refused (refused_after r) (either_refused_right (either_refused_left (makes_refused (pair_refused_late c.in-Some-take.ensures.some r refl)) (found_other c.in-Some-take.ensures.some refl refl) refl) (found_other c.in-Some-take.ensures.some refl refl) refl)) refl))) c.in-Err-regex_sum.ensures.read
+
 pub cmp-returns-in-Ok-round_exprs-clause-read : goal.cmp-returns-in-Ok-round_exprs-clause-read
-cmp-returns-in-Ok-round_exprs-clause-read t c = level_found Level.Cmp (makes_found (pair_found c.in_ok-left.ensures.read (option_some (either_right (either_left (makes_found (pair_found c.in-Some-membership.ensures.some c.in-Ok-round_exprs.ensures.read refl)) (found_other c.in-Some-membership.ensures.some refl refl) refl) (found_other c.in-Some-membership.ensures.some refl refl) refl) refl) refl))
+cmp-returns-in-Ok-round_exprs-clause-read t c = level_found Level.Cmp (makes_found (pair_found c.in_ok-left.ensures.read (option_some (either_right (either_right (either_left (makes_found (pair_found c.in-Some-membership.ensures.some c.in-Ok-round_exprs.ensures.read refl)) (found_other c.in-Some-membership.ensures.some refl refl) refl) (found_other c.in-Some-membership.ensures.some refl refl) refl) (found_other c.in-Some-membership.ensures.some refl refl) refl) refl) refl))
 
 pub cmp-returns-in-Err-round_exprs-clause-read : goal.cmp-returns-in-Err-round_exprs-clause-read
-cmp-returns-in-Err-round_exprs-clause-read t c = passes (λ e r. level_refused Level.Cmp (makes_refused (pair_refused_late c.in_ok-left.ensures.read (option_refused (refused_after r) (either_refused_right (either_refused_left (makes_refused (pair_refused_late c.in-Some-membership.ensures.some r refl)) (found_other c.in-Some-membership.ensures.some refl refl) refl) (found_other c.in-Some-membership.ensures.some refl refl) refl)) refl))) c.in-Err-round_exprs.ensures.read
+cmp-returns-in-Err-round_exprs-clause-read t c = passes (λ e r. level_refused Level.Cmp (makes_refused (pair_refused_late c.in_ok-left.ensures.read (option_refused (refused_after r) (either_refused_right (either_refused_right (either_refused_left (makes_refused (pair_refused_late c.in-Some-membership.ensures.some r refl)) (found_other c.in-Some-membership.ensures.some refl refl) refl) (found_other c.in-Some-membership.ensures.some refl refl) refl) (found_other c.in-Some-membership.ensures.some refl refl) refl)) refl))) c.in-Err-round_exprs.ensures.read
 
 pub cmp-returns-in-Ok-bounds-clause-read : goal.cmp-returns-in-Ok-bounds-clause-read
-cmp-returns-in-Ok-bounds-clause-read t c = level_found Level.Cmp (makes_found (pair_found c.in_ok-left.ensures.read (option_some (either_right (either_right (makes_found (pair_found c.in-Some-betweenness.ensures.some c.in-Ok-bounds.ensures.read refl)) (found_other c.in-Some-betweenness.ensures.some refl refl) refl) (found_other c.in-Some-betweenness.ensures.some refl refl) refl) refl) refl))
+cmp-returns-in-Ok-bounds-clause-read t c = level_found Level.Cmp (makes_found (pair_found c.in_ok-left.ensures.read (option_some (either_right (either_right (either_right (makes_found (pair_found c.in-Some-betweenness.ensures.some c.in-Ok-bounds.ensures.read refl)) (found_other c.in-Some-betweenness.ensures.some refl refl) refl) (found_other c.in-Some-betweenness.ensures.some refl refl) refl) (found_other c.in-Some-betweenness.ensures.some refl refl) refl) refl) refl))
 
 pub cmp-returns-in-Err-bounds-clause-read : goal.cmp-returns-in-Err-bounds-clause-read
-cmp-returns-in-Err-bounds-clause-read t c = passes (λ e r. level_refused Level.Cmp (makes_refused (pair_refused_late c.in_ok-left.ensures.read (option_refused (refused_after r) (either_refused_right (either_refused_right (makes_refused (pair_refused_late c.in-Some-betweenness.ensures.some r refl)) (found_other c.in-Some-betweenness.ensures.some refl refl) refl) (found_other c.in-Some-betweenness.ensures.some refl refl) refl)) refl))) c.in-Err-bounds.ensures.read
+cmp-returns-in-Err-bounds-clause-read t c = passes (λ e r. level_refused Level.Cmp (makes_refused (pair_refused_late c.in_ok-left.ensures.read (option_refused (refused_after r) (either_refused_right (either_refused_right (either_refused_right (makes_refused (pair_refused_late c.in-Some-betweenness.ensures.some r refl)) (found_other c.in-Some-betweenness.ensures.some refl refl) refl) (found_other c.in-Some-betweenness.ensures.some refl refl) refl) (found_other c.in-Some-betweenness.ensures.some refl refl) refl)) refl))) c.in-Err-bounds.ensures.read
 
 pub access-returns-clause-read : goal.access-returns-clause-read
 access-returns-clause-read t c = level_found Level.Access (either_right (makes_found (pair_found c.in_ok-open.ensures.read (before_found c.in_ok-index.ensures.read c.in_ok-_close.ensures.read refl) refl)) c.in_default.ensures.none refl)

@@ -66,6 +66,9 @@ decreases-round_exprs l = 16 * (length l.ts.now - l.at) + 1
 abbrev pub decreases-exprs : goal.decreases-exprs
 decreases-exprs l = 16 * (length l.ts.now - l.at) + 12
 
+abbrev pub decreases-regex_sum : goal.decreases-regex_sum
+decreases-regex_sum l = 16 * (length l.ts.now - l.at) + 1
+
 abbrev pub decreases-bounds : goal.decreases-bounds
 decreases-bounds l = 16 * (length l.ts.now - l.at) + 1
 

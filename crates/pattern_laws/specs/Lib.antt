@@ -1,0 +1,9 @@
+pub mod AddedColumns
+pub mod LawsOfExpressions
+pub mod LawsOfFitting
+pub mod LawsOfMarks
+pub mod LawsOfPrograms
+pub mod Liftable
+pub mod Meaning
+pub mod Tables
+pub mod Tested

@@ -1,0 +1,6 @@
+pub mod Calls
+pub mod Derived
+pub mod Lifted
+pub mod Marks
+pub mod Prefixes
+pub mod Steps

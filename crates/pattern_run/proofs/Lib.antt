@@ -1,0 +1,14 @@
+pub mod AnsweredColumns
+pub mod Distinct
+pub mod FrontPatterns
+pub mod GridFacts
+pub mod LentCalls
+pub mod Lifting
+pub mod MadePatterns
+pub mod MeaningLaws
+pub mod PlacedMeaning
+pub mod PlacedSteps
+pub mod RunSteps
+pub mod SameCalls
+pub mod Standing
+pub mod TakenTables

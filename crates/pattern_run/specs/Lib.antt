@@ -1,0 +1,4 @@
+pub mod LawOfPatterns
+pub mod Patterned
+pub mod Placed
+pub mod Ready
